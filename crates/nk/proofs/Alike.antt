@@ -5,20 +5,20 @@ use Rattle.nk_field.specs.Packet.{FieldTable}
 use Rattle.nk_policy.specs.Policy.{Policy}
 use Rattle.nk_names.specs.declared.Program.{Program}
 use Rattle.nk_names.specs.Named.{policy_named}
-use Rattle.nk_names.specs.ProgramOf.{said_by}
+use Rattle.nk_names.specs.ProgramOf.{program_by}
 use Rattle.nk_query.specs.Asked.{Asked, Question}
 use Rattle.nk_query.specs.Answers.{IsNamedQuestion, IsHindranceByName}
 use Rattle.nk_query.specs.declared.error.QueryError.{QueryError}
 use Rattle.nk_query.specs.declared.error.QueryError.TheVariants as query
 use Rattle.nk_names.proofs.Alike.{fields_alike, named_alike, one_policy}
 use Rattle.nk_query.proofs.OneQuestion.{no_cause, one_question}
-use Rattle.nk_comparing.specs.Comparing.{AreNamed}
-use Rattle.nk_comparing.specs.Messages.{TellsQuery}
+use Rattle.nk_verify_commands.specs.Comparing.{AreNamed}
+use Rattle.nk_verify_commands.specs.Messages.{TellsQuery}
 
 some_none : {X : Type 0} (x : X) → ◌≡◌ {A = Option X} None (Some x) → ⊥
 some_none x e = cc
 
-module _ (program other : Program) (same : said_by program ≡ said_by other) where
+module _ (program other : Program) (same : program_by program ≡ program_by other) where
   -- two names have their policies in each
   pub of_named : (P : FieldTable → Policy → Policy → Type 0) (left right : List ℕ) (p q r s : Policy)
       → AreNamed program left right p q → AreNamed other left right r s → P program.fields p q → P other.fields r s

@@ -11,7 +11,7 @@ use Rattle.nk_topo.specs.Topology.{is_port}
 use Rattle.nk_policy.specs.After.{drop_policy}
 use Rattle.nk_policy.specs.Policy.{Policy, marked_from, dups_of}
 use Rattle.nk_names.specs.declared.Program.{Program}
-use Rattle.nk_names.specs.ProgramOf.{said_by}
+use Rattle.nk_names.specs.ProgramOf.{program_by}
 use Rattle.nk_table.specs.declared.Tables.{Tables}
 use Rattle.nk_tabtext.specs.Values.{tables_of}
 use Rattle.nk_tabgrammar.specs.declared.written.ReadError.{ReadError}
@@ -24,18 +24,18 @@ use Rattle.nk_query.specs.Asked.{Asked, NoneBreaks}
 use Rattle.nk_query.specs.Answers.{asked_policy}
 use Rattle.nk_compile.proofs.ReasonByName.{never_refused}
 use Rattle.nk_cert.proofs.OneAlone.{no_difference}
-use Rattle.nk_comparing.specs.Asking.{IsAskAnswer}
-use Rattle.nk_comparing.specs.CertifiedText.{HoldsCertificate}
-use Rattle.nk_comparing.specs.Checking.{IsCheckAnswer}
-use Rattle.nk_comparing.specs.Comparing.{IsEqualAnswer}
-use Rattle.nk_compiling.specs.Compiling.{IsCompileAnswer}
-use Rattle.nk_following.specs.Following.{TableOutcome, ToPacket, ToTables}
-use Rattle.nk_comparing.specs.Judging.{IsJudgeAnswer}
+use Rattle.nk_verify_commands.specs.Asking.{IsAskAnswer}
+use Rattle.nk_verify_commands.specs.CertifiedText.{HoldsCertificate}
+use Rattle.nk_verify_commands.specs.Checking.{IsCheckAnswer}
+use Rattle.nk_verify_commands.specs.Comparing.{IsEqualAnswer}
+use Rattle.nk_compile_commands.specs.Compiling.{IsCompileAnswer}
+use Rattle.nk_trace_commands.specs.Following.{TableOutcome, ToPacket, ToTables}
+use Rattle.nk_verify_commands.specs.Judging.{IsJudgeAnswer}
 use Rattle.nk_reply.specs.Outcome.{Outcome, done, differs, text_refused, policy_refused}
 use Rattle.nk_input.specs.ProgramText.{Declares}
 use Rattle.nk.specs.Succeeding.{AcceptsNamed, HavePolicies, HaveCertified, HasQuestion, HasCertifiedQuestion, HasLocated, GiveSame, AreCertified, IsUnbroken, IsCertified}
-use Rattle.nk_following.specs.Tracing.{ToLocated}
-use Rattle.nk_following.specs.Flying.{ToFlown}
+use Rattle.nk_trace_commands.specs.Tracing.{ToLocated}
+use Rattle.nk_trace_commands.specs.Flying.{ToFlown}
 use Rattle.nk.proofs.Alike.{of_named, never_lacking, of_question, never_caused}
 use Rattle.nk.proofs.OneText.{declares_once, holds_once, certificate_once, no_fault, no_certified_fault}
 
@@ -48,7 +48,7 @@ Kind o D X = (¬ D) × (¬ X)
 -- ---- compile
 
 pub compile_kind : (name bytes : List ℕ) (o : Outcome) → IsCompileAnswer name bytes o → Kind o (AcceptsNamed name bytes) ⊥
-compile_kind name bytes (text_refused t) h = (λ d. no_fault bytes (said_by d.program) t d.declared h, λ x. x)
+compile_kind name bytes (text_refused t) h = (λ d. no_fault bytes (program_by d.program) t d.declared h, λ x. x)
 compile_kind name bytes (done t) h =
     let made = h.2 in (
       record {
@@ -61,7 +61,7 @@ compile_kind name bytes (done t) h =
 compile_kind name bytes (differs t) h = absurd h.2
 compile_kind name bytes (policy_refused t) h =
     let r = h.2 in (
-      λ d. never_refused d.program r.program (declares_once bytes (said_by d.program) h.0 d.declared h.1 ∙ sym r.says) name r.reason d.accepted r.refused,
+      λ d. never_refused d.program r.program (declares_once bytes (program_by d.program) h.0 d.declared h.1 ∙ sym r.says) name r.reason d.accepted r.refused,
       λ x. x,
     )
 
@@ -73,7 +73,7 @@ module _ (left right bytes : List ℕ) where
       → (d : HavePolicies left right bytes H) → (x : HavePolicies left right bytes K)
       → P d.program.fields d.left_policy d.right_policy → P x.program.fields x.left_policy x.right_policy
   both_policies P H K d x h =
-      of_named d.program x.program (declares_once bytes (said_by d.program) (said_by x.program) d.declared x.declared) P left right
+      of_named d.program x.program (declares_once bytes (program_by d.program) (program_by x.program) d.declared x.declared) P left right
       d.left_policy d.right_policy x.left_policy x.right_policy d.named x.named h
 
   abbrev pub Same : Type 0
@@ -86,7 +86,7 @@ module _ (left right bytes : List ℕ) where
   not_both d x = x.holds (both_policies AreSame GiveSame (λ program p q. ¬ GiveSame program p q) d x d.holds)
 
   pub equal_kind : (o : Outcome) → IsEqualAnswer left right bytes o → Kind o Same Other
-  equal_kind (text_refused t) h = (λ d. no_fault bytes (said_by d.program) t d.declared h, λ x. no_fault bytes (said_by x.program) t x.declared h)
+  equal_kind (text_refused t) h = (λ d. no_fault bytes (program_by d.program) t d.declared h, λ x. no_fault bytes (program_by x.program) t x.declared h)
   equal_kind (done t) h =
       let s = h.2 in
       let d : Same = record {
@@ -111,8 +111,8 @@ module _ (left right bytes : List ℕ) where
       (x, λ d. not_both d x)
   equal_kind (policy_refused t) h =
       let l = h.2 in (
-        λ d. never_lacking d.program l.program (declares_once bytes (said_by d.program) h.0 d.declared h.1 ∙ sym l.says) left right d.left_policy d.right_policy d.named l.lacks,
-        λ x. never_lacking x.program l.program (declares_once bytes (said_by x.program) h.0 x.declared h.1 ∙ sym l.says) left right x.left_policy x.right_policy x.named l.lacks,
+        λ d. never_lacking d.program l.program (declares_once bytes (program_by d.program) h.0 d.declared h.1 ∙ sym l.says) left right d.left_policy d.right_policy d.named l.lacks,
+        λ x. never_lacking x.program l.program (declares_once bytes (program_by x.program) h.0 x.declared h.1 ∙ sym l.says) left right x.left_policy x.right_policy x.named l.lacks,
       )
 
 -- ---- check
@@ -136,15 +136,15 @@ module _ (left right bytes : List ℕ) where
   not_both_certified d x =
       x.holds
       (subst (λ c. IsCertificate x.program.fields x.left_policy (marked_from x.right_policy (1 + dups_of x.left_policy)) c)
-      (certificate_once bytes (said_by d.program) (said_by x.program) d.certificate x.certificate d.held x.held)
-      (of_named d.program x.program (holds_once bytes (said_by d.program) (said_by x.program) d.certificate x.certificate d.held x.held)
+      (certificate_once bytes (program_by d.program) (program_by x.program) d.certificate x.certificate d.held x.held)
+      (of_named d.program x.program (holds_once bytes (program_by d.program) (program_by x.program) d.certificate x.certificate d.held x.held)
       (λ fields p q. IsCertificate fields p (marked_from q (1 + dups_of p)) d.certificate) left right
       d.left_policy d.right_policy x.left_policy x.right_policy d.named x.named d.holds))
 
   pub check_kind : (o : Outcome) → IsCheckAnswer left right bytes o → Kind o Shown Failing
   check_kind (text_refused t) h = (
-    λ d. no_certified_fault bytes (said_by d.program) d.certificate t d.held h,
-    λ x. no_certified_fault bytes (said_by x.program) x.certificate t x.held h,
+    λ d. no_certified_fault bytes (program_by d.program) d.certificate t d.held h,
+    λ x. no_certified_fault bytes (program_by x.program) x.certificate t x.held h,
   )
   check_kind (done t) h =
       let f = h.3.found in
@@ -173,8 +173,8 @@ module _ (left right bytes : List ℕ) where
       (x, λ d. not_both_certified d x)
   check_kind (policy_refused t) h =
       let l = h.3 in (
-        λ d. never_lacking d.program l.program (holds_once bytes (said_by d.program) h.0 d.certificate h.1 d.held h.2 ∙ sym l.says) left right d.left_policy d.right_policy d.named l.lacks,
-        λ x. never_lacking x.program l.program (holds_once bytes (said_by x.program) h.0 x.certificate h.1 x.held h.2 ∙ sym l.says) left right x.left_policy x.right_policy x.named l.lacks,
+        λ d. never_lacking d.program l.program (holds_once bytes (program_by d.program) h.0 d.certificate h.1 d.held h.2 ∙ sym l.says) left right d.left_policy d.right_policy d.named l.lacks,
+        λ x. never_lacking x.program l.program (holds_once bytes (program_by x.program) h.0 x.certificate h.1 x.held h.2 ∙ sym l.says) left right x.left_policy x.right_policy x.named l.lacks,
       )
 
 -- ---- apart and waypoint
@@ -189,11 +189,11 @@ module _ (asked : Asked) (bytes : List ℕ) where
   not_both_asked : Held → Broken → ⊥
   not_both_asked d x =
       x.holds
-      (of_question d.program x.program (declares_once bytes (said_by d.program) (said_by x.program) d.declared x.declared)
+      (of_question d.program x.program (declares_once bytes (program_by d.program) (program_by x.program) d.declared x.declared)
       NoneBreaks asked d.question x.question d.named x.named d.holds)
 
   pub ask_kind : (o : Outcome) → IsAskAnswer asked bytes o → Kind o Held Broken
-  ask_kind (text_refused t) h = (λ d. no_fault bytes (said_by d.program) t d.declared h, λ x. no_fault bytes (said_by x.program) t x.declared h)
+  ask_kind (text_refused t) h = (λ d. no_fault bytes (program_by d.program) t d.declared h, λ x. no_fault bytes (program_by x.program) t x.declared h)
   ask_kind (done t) h =
       let s = h.2 in
       let d : Held = record {
@@ -216,8 +216,8 @@ module _ (asked : Asked) (bytes : List ℕ) where
       (x, λ d. not_both_asked d x)
   ask_kind (policy_refused t) h =
       let l = h.2 in (
-        λ d. never_caused d.program l.program (declares_once bytes (said_by d.program) h.0 d.declared h.1 ∙ sym l.says) asked d.question l.cause t d.named l.is l.told,
-        λ x. never_caused x.program l.program (declares_once bytes (said_by x.program) h.0 x.declared h.1 ∙ sym l.says) asked x.question l.cause t x.named l.is l.told,
+        λ d. never_caused d.program l.program (declares_once bytes (program_by d.program) h.0 d.declared h.1 ∙ sym l.says) asked d.question l.cause t d.named l.is l.told,
+        λ x. never_caused x.program l.program (declares_once bytes (program_by x.program) h.0 x.declared h.1 ∙ sym l.says) asked x.question l.cause t x.named l.is l.told,
       )
 
 -- ---- check_apart and check_waypoint
@@ -233,14 +233,14 @@ module _ (asked : Asked) (bytes : List ℕ) where
   not_both_judged d x =
       x.holds
       (subst (λ c. IsCertificate x.program.fields (asked_policy x.question) drop_policy c)
-      (certificate_once bytes (said_by d.program) (said_by x.program) d.certificate x.certificate d.held x.held)
-      (of_question d.program x.program (holds_once bytes (said_by d.program) (said_by x.program) d.certificate x.certificate d.held x.held)
+      (certificate_once bytes (program_by d.program) (program_by x.program) d.certificate x.certificate d.held x.held)
+      (of_question d.program x.program (holds_once bytes (program_by d.program) (program_by x.program) d.certificate x.certificate d.held x.held)
       (λ fields q. IsCertificate fields (asked_policy q) drop_policy d.certificate) asked d.question x.question d.named x.named d.holds))
 
   pub judge_kind : (o : Outcome) → IsJudgeAnswer asked bytes o → Kind o Proved Unproved
   judge_kind (text_refused t) h = (
-    λ d. no_certified_fault bytes (said_by d.program) d.certificate t d.held h,
-    λ x. no_certified_fault bytes (said_by x.program) x.certificate t x.held h,
+    λ d. no_certified_fault bytes (program_by d.program) d.certificate t d.held h,
+    λ x. no_certified_fault bytes (program_by x.program) x.certificate t x.held h,
   )
   judge_kind (done t) h =
       let f = h.3.found in
@@ -267,8 +267,8 @@ module _ (asked : Asked) (bytes : List ℕ) where
       (x, λ d. not_both_judged d x)
   judge_kind (policy_refused t) h =
       let l = h.3 in (
-        λ d. never_caused d.program l.program (holds_once bytes (said_by d.program) h.0 d.certificate h.1 d.held h.2 ∙ sym l.says) asked d.question l.cause t d.named l.is l.told,
-        λ x. never_caused x.program l.program (holds_once bytes (said_by x.program) h.0 x.certificate h.1 x.held h.2 ∙ sym l.says) asked x.question l.cause t x.named l.is l.told,
+        λ d. never_caused d.program l.program (holds_once bytes (program_by d.program) h.0 d.certificate h.1 d.held h.2 ∙ sym l.says) asked d.question l.cause t d.named l.is l.told,
+        λ x. never_caused x.program l.program (holds_once bytes (program_by x.program) h.0 x.certificate h.1 x.held h.2 ∙ sym l.says) asked x.question l.cause t x.named l.is l.told,
       )
 
 -- ---- trace and fly

@@ -1,8 +1,8 @@
 -- Which outcome of a job is the answer to its text.
 use Rattle.std.proofs.Common.{◌≡◌, ℕ, List, inl, inr, sym, subst}
 use Rattle.std.specs.Prelude.{codes}
-use Rattle.nk_comparing.specs.Comparing.{IsEqualAnswer}
-use Rattle.nk_compiling.specs.Compiling.{IsCompileAnswer}
+use Rattle.nk_verify_commands.specs.Comparing.{IsEqualAnswer}
+use Rattle.nk_compile_commands.specs.Compiling.{IsCompileAnswer}
 use Rattle.nk.specs.Generating.{IsCounted, IsJobOver, IsNotDone, OrThen}
 use Rattle.nk_reply.specs.Outcome.{Outcome, done, differs, text_refused, policy_refused}
 use Rattle.nk.specs.Succeeding.{AcceptsNamed, HasJob, GiveSame}

@@ -12,7 +12,7 @@ use Rattle.nk_reply.specs.Meant.{IsCauseBy, IsMeantBy, IsUnread}
 use Rattle.nk_reply.specs.Outcome.{Outcome, done, differs, text_refused, policy_refused}
 use Rattle.nk_reply.specs.declared.reply.Reply.{Reply}
 use Rattle.nk_reply.specs.declared.reply.Reply.TheVariants as reply
-use Rattle.nk_reply.specs.Reply.{answer_in, said}
+use Rattle.nk_reply.specs.Reply.{answer_in, outcome_of}
 use Rattle.nk_reply.specs.Use.{HadLeft, IsQuiet, Use}
 use Rattle.nk_reply.proofs.Delivery.{Keeps-same}
 use Rattle.nk_reply.proofs.Meant as by_input
@@ -35,7 +35,7 @@ usage_meant c source none same quiet =
 -- what a command answers without reading is meant
 pub unasked_meant : (source : Use) (c : Command) (r : Reply) → reads c ≡ false → source.new ≡ source.old → IsQuiet source
     → IsReplyTo c [] r → IsMeantTo (Some c) source (answer_in r)
-unasked_meant source c (reply.Said s) is same quiet h = outcome_meant (said s) h
+unasked_meant source c (reply.CommandAnswer s) is same quiet h = outcome_meant (outcome_of s) h
   where
     fixed : (outcome : Outcome) → IsOutcome c [] outcome → IsFixedBy (Some c) source (answer_of outcome)
     fixed outcome o =

@@ -14,54 +14,54 @@ use Rattle.nk_grammar.specs.File.{Declaration}
 use Rattle.nk_grammar.specs.FileMachine.{file_of}
 use Rattle.nk_names.specs.declared.fault.NamesError.{NamesError}
 use Rattle.nk_names.specs.declared.fault.NamesError.TheVariants as naming
-use Rattle.nk_names.specs.ProgramOf.{Said, program_of}
+use Rattle.nk_names.specs.ProgramOf.{DeclaredProgram, program_of}
 use Rattle.nk_cert.specs.Certificates.{CertificateValue}
 use Rattle.nk_certtext.specs.declared.error.CertError.{CertError}
 use Rattle.nk_certtext.specs.declared.error.CertError.TheVariants as rows
 use Rattle.nk_certtext.specs.Rows.{certificate_of}
 use Rattle.nk_input.specs.ProgramText.{Declares, HasFault, TellsGrammar, TellsLexical, TellsNames, IsFaultOfNames, IsFaultOfTokens, IsFaultOfBytes}
-use Rattle.nk_comparing.specs.CertifiedText.{HoldsCertificate, HasCertifiedFault, TellsRows, IsFaultOfRows, IsFaultOfSaid, IsFaultOfCertifiedTokens, IsFaultOfCertifiedBytes}
+use Rattle.nk_verify_commands.specs.CertifiedText.{HoldsCertificate, HasCertifiedFault, TellsRows, IsFaultOfRows, IsFaultOfProgram, IsFaultOfCertifiedTokens, IsFaultOfCertifiedBytes}
 
 pub ok_is : {X E : Type 0} (x y : X) → ◌≡◌ {A = Result X E} (Ok x) (Ok y) → x ≡ y
 ok_is x y e = cc
 
 -- ---- what is said is one
 
-pub declares_once : (bytes : List ℕ) (s t : Said) → Declares bytes s → Declares bytes t → s ≡ t
+pub declares_once : (bytes : List ℕ) (s t : DeclaredProgram) → Declares bytes s → Declares bytes t → s ≡ t
 declares_once bytes s t d k =
     let tokens = ok_is d.tokens k.tokens (sym d.cut ∙ k.cut) in
     let declarations = ok_is d.declarations k.declarations (sym d.read ∙ ap file_of tokens ∙ k.read) in
     ok_is s t (sym d.means ∙ ap program_of declarations ∙ k.means)
 
 -- so is the text with a certificate
-written_once : (bytes : List ℕ) (s t : Said) (c e : CertificateValue) → (d : HoldsCertificate bytes s c) → (k : HoldsCertificate bytes t e) → d.written ≡ k.written
+written_once : (bytes : List ℕ) (s t : DeclaredProgram) (c e : CertificateValue) → (d : HoldsCertificate bytes s c) → (k : HoldsCertificate bytes t e) → d.written ≡ k.written
 written_once bytes s t c e d k =
     let tokens = ok_is d.tokens k.tokens (sym d.cut ∙ k.cut) in
     ok_is d.written k.written (sym d.read ∙ ap certified_of tokens ∙ k.read)
 
-pub holds_once : (bytes : List ℕ) (s t : Said) (c e : CertificateValue) → HoldsCertificate bytes s c → HoldsCertificate bytes t e → s ≡ t
+pub holds_once : (bytes : List ℕ) (s t : DeclaredProgram) (c e : CertificateValue) → HoldsCertificate bytes s c → HoldsCertificate bytes t e → s ≡ t
 holds_once bytes s t c e d k =
     ok_is s t (sym d.means ∙ ap (λ (w : Certified). program_of w.declarations) (written_once bytes s t c e d k) ∙ k.means)
 
-pub certificate_once : (bytes : List ℕ) (s t : Said) (c e : CertificateValue) → HoldsCertificate bytes s c → HoldsCertificate bytes t e → c ≡ e
+pub certificate_once : (bytes : List ℕ) (s t : DeclaredProgram) (c e : CertificateValue) → HoldsCertificate bytes s c → HoldsCertificate bytes t e → c ≡ e
 certificate_once bytes s t c e d k =
     ok_is c e
     (sym d.makes
-    ∙ ap (λ (w : Said). certificate_of w.fields d.written.rows) (holds_once bytes s t c e d k)
+    ∙ ap (λ (w : DeclaredProgram). certificate_of w.fields d.written.rows) (holds_once bytes s t c e d k)
     ∙ ap (λ (w : Certified). certificate_of t.fields w.rows) (written_once bytes s t c e d k)
     ∙ k.makes)
 
 -- ---- what says something has no fault
 
-pub no_fault : (bytes : List ℕ) (s : Said) (text : List ℕ) → Declares bytes s → HasFault bytes text → ⊥
+pub no_fault : (bytes : List ℕ) (s : DeclaredProgram) (text : List ℕ) → Declares bytes s → HasFault bytes text → ⊥
 no_fault bytes s text d h =
     subst (λ r. IsFaultOfNames r text) d.means
     (subst (λ r. IsFaultOfTokens r text) d.read (subst (λ r. IsFaultOfBytes r text) d.cut h))
 
-pub no_certified_fault : (bytes : List ℕ) (s : Said) (c : CertificateValue) (text : List ℕ) → HoldsCertificate bytes s c → HasCertifiedFault bytes text → ⊥
+pub no_certified_fault : (bytes : List ℕ) (s : DeclaredProgram) (c : CertificateValue) (text : List ℕ) → HoldsCertificate bytes s c → HasCertifiedFault bytes text → ⊥
 no_certified_fault bytes s c text d h =
     subst (λ r. IsFaultOfRows r text) d.makes
-    (subst (λ r. IsFaultOfSaid r d.written.rows text) d.means
+    (subst (λ r. IsFaultOfProgram r d.written.rows text) d.means
     (subst (λ r. IsFaultOfCertifiedTokens r text) d.read (subst (λ r. IsFaultOfCertifiedBytes r text) d.cut h)))
 
 -- ---- a fault is told by one line
@@ -80,7 +80,7 @@ naming_once : (e : NamesError) (x y : List ℕ) → TellsNames e x → TellsName
 naming_once (naming.Fault kind line) x y h k = h ∙ sym k
 naming_once naming.NoMemory x y h k = absurd h
 
-names_once : (r : Result Said NamesError) (x y : List ℕ) → IsFaultOfNames r x → IsFaultOfNames r y → x ≡ y
+names_once : (r : Result DeclaredProgram NamesError) (x y : List ℕ) → IsFaultOfNames r x → IsFaultOfNames r y → x ≡ y
 names_once (Ok s) x y h k = absurd h
 names_once (Err e) x y h k = naming_once e x y h k
 
@@ -105,7 +105,7 @@ rows_once : (r : Result CertificateValue CertError) (x y : List ℕ) → IsFault
 rows_once (Ok c) x y h k = absurd h
 rows_once (Err e) x y h k = row_once e x y h k
 
-said_once : (r : Result Said NamesError) (rs : List Row) (x y : List ℕ) → IsFaultOfSaid r rs x → IsFaultOfSaid r rs y → x ≡ y
+said_once : (r : Result DeclaredProgram NamesError) (rs : List Row) (x y : List ℕ) → IsFaultOfProgram r rs x → IsFaultOfProgram r rs y → x ≡ y
 said_once (Ok s) rs x y h k = rows_once (certificate_of s.fields rs) x y h k
 said_once (Err e) rs x y h k = naming_once e x y h k
 

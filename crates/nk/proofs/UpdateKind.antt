@@ -8,16 +8,16 @@ use Rattle.nk_field.specs.declared.packet.Packet.{Packet}
 use Rattle.nk_field.specs.declared.reading.PacketError.{PacketError}
 use Rattle.nk_field.specs.declared.reading.PacketError.TheVariants as reading
 use Rattle.nk_topo.specs.Topology.{Topology, is_port}
-use Rattle.nk_names.specs.ProgramOf.{Said, said_by}
+use Rattle.nk_names.specs.ProgramOf.{DeclaredProgram, program_by}
 use Rattle.nk_names.proofs.Alike.{fields_alike, topo_alike}
 use Rattle.nk_table.specs.declared.Tables.{Tables}
 use Rattle.nk_compile.proofs.PairReasonByName.{fitting_never_refused}
 use Rattle.nk_update.specs.declared.plans.Plan.{Plan}
-use Rattle.nk_following.specs.Following.{ToPacket}
+use Rattle.nk_trace_commands.specs.Following.{ToPacket}
 use Rattle.nk_reply.specs.Outcome.{Outcome, done, differs, text_refused, policy_refused}
 use Rattle.nk_input.specs.ProgramText.{Declares}
 use Rattle.nk.specs.Succeeding.{AcceptsUpdate}
-use Rattle.nk_compiling.specs.Updating.{ToTurned, IsPlannedAnswer, IsPairRefusal, IsUpdateAnswer, plan_for}
+use Rattle.nk_compile_commands.specs.Updating.{ToTurned, IsPlannedAnswer, IsPairRefusal, IsUpdateAnswer, plan_for}
 use Rattle.nk.proofs.ByKind.{Kind}
 use Rattle.nk.proofs.OneText.{declares_once, no_fault}
 
@@ -65,7 +65,7 @@ module _ (plan : Plan) (seed steps : ℕ) (t : Tables) (word : List ℕ) where
   never_differs y (Err reading.NoMemory) h = absurd h
 
 module _ (old new : List ℕ) (seed steps : ℕ) (word bytes : List ℕ) where
-  module _ (said : Said) (o : Outcome) (a : IsPlannedAnswer said old new seed steps word o) where
+  module _ (said : DeclaredProgram) (o : Outcome) (a : IsPlannedAnswer said old new seed steps word o) where
     abbrev the_plan : Plan
     the_plan = plan_for a.pair
 
@@ -106,7 +106,7 @@ module _ (old new : List ℕ) (seed steps : ℕ) (word bytes : List ℕ) where
     -- where they are, and it is, something is done
     does_there : Declares bytes said → AcceptsUpdate old new word bytes → IsDoing o
     does_there declared d =
-        let same : said_by d.program ≡ said_by a.program = declares_once bytes (said_by d.program) said d.declared declared ∙ sym a.says in
+        let same : program_by d.program ≡ program_by a.program = declares_once bytes (program_by d.program) said d.declared declared ∙ sym a.says in
         let here : IsAtPort d.program.fields d.program.topo word = (d.packet, d.given, d.at_port) in
         let there : IsAtPort a.program.fields a.program.topo word =
         subst (λ t. IsAtPort a.program.fields t word) (topo_alike d.program a.program same)
@@ -114,13 +114,13 @@ module _ (old new : List ℕ) (seed steps : ℕ) (word bytes : List ℕ) where
         done_there the_plan seed steps a.pair.old word o (at_tables_port there) told_by_tables
 
   -- a refusal of the policies is no refusal of such as are accepted
-  refused_none : (said : Said) (o : Outcome) → Declares bytes said → AcceptsUpdate old new word bytes → IsPairRefusal said old new o → ⊥
+  refused_none : (said : DeclaredProgram) (o : Outcome) → Declares bytes said → AcceptsUpdate old new word bytes → IsPairRefusal said old new o → ⊥
   refused_none said o declared d r =
-      let same : said_by d.program ≡ said_by r.program = declares_once bytes (said_by d.program) said d.declared declared ∙ sym r.says in
+      let same : program_by d.program ≡ program_by r.program = declares_once bytes (program_by d.program) said d.declared declared ∙ sym r.says in
       fitting_never_refused d.program r.program same old new d.old_policy d.new_policy r.reason d.named.left_is d.named.right_is d.accepted_old d.accepted_new d.fit r.refused
 
   pub update_kind : (o : Outcome) → IsUpdateAnswer old new seed steps word bytes o → Kind o (AcceptsUpdate old new word bytes) ⊥
-  update_kind (text_refused t) h = (λ d. no_fault bytes (said_by d.program) t d.declared h, λ x. x)
+  update_kind (text_refused t) h = (λ d. no_fault bytes (program_by d.program) t d.declared h, λ x. x)
   update_kind (done t) h =
       (⊎_elim (λ r. absurd (subst IsRefusing (sym r.told) tt)) (λ a. accepts h.0 (done t) a h.1 tt) h.2, λ x. x)
   update_kind (differs t) h =

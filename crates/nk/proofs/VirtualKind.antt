@@ -7,7 +7,7 @@ use Rattle.nk_policy.specs.Policy.{Policy, marked_from}
 use Rattle.nk_names.specs.declared.Program.{Program}
 use Rattle.nk_names.specs.Accepted.{IsAccepted}
 use Rattle.nk_names.specs.Named.{policy_named}
-use Rattle.nk_names.specs.ProgramOf.{Said, said_by}
+use Rattle.nk_names.specs.ProgramOf.{DeclaredProgram, program_by}
 use Rattle.nk_names.specs.ProgramValue.{VirtualLink}
 use Rattle.nk_names.proofs.Alike.{fields_alike, topo_alike, named_alike, one_policy}
 use Rattle.nk_compile.specs.Refusals.{IsReason}
@@ -16,12 +16,12 @@ use Rattle.nk_compile.proofs.ReasonByName.{alike}
 use Rattle.nk_virtual.specs.Physical.{physical}
 use Rattle.nk_virtual.specs.Reasons.{IsLaterFlaw, IsReasonAgainst, IsVirtualReason}
 use Rattle.nk_virtual.specs.declared.refusal.VirtualRefusal.{VirtualRefusal}
-use Rattle.nk_virtual.specs.declared.refusal.VirtualRefusal.TheVariants.{NoPolicy, NoTag, Seen, OffTarget, NotCarried, TooLarge}
+use Rattle.nk_virtual.specs.declared.refusal.VirtualRefusal.TheVariants.{NoPolicy, NoTag, Static, OffTarget, NotCarried, TooLarge}
 use Rattle.nk_virtual.proofs.OneReason.{none_some, number_is, no_first, none_over}
 use Rattle.nk_reply.specs.Outcome.{Outcome, done, differs, text_refused, policy_refused}
 use Rattle.nk_input.specs.ProgramText.{Declares}
 use Rattle.nk.specs.Succeeding.{AcceptsVirtual}
-use Rattle.nk_compiling.specs.Virtualizing.{LacksPhysical, IsPhysicalRefusal, IsVirtualizeAnswer}
+use Rattle.nk_compile_commands.specs.Virtualizing.{LacksPhysical, IsPhysicalRefusal, IsVirtualizeAnswer}
 use Rattle.nk.proofs.ByKind.{Kind}
 use Rattle.nk.proofs.OneText.{declares_once, no_fault}
 
@@ -45,14 +45,14 @@ module _ (name bytes : List ℕ) (d : AcceptsVirtual name bytes) where
   none_against : (r : VirtualRefusal) → IsReasonAgainst d.program.fields d.program.topo d.program.virtuals d.policy r → ⊥
   none_against NoPolicy h = h
   none_against NoTag h = none_some d.tag (sym h ∙ d.tag_declared)
-  none_against (Seen sight) h = never_later (Seen sight) h.0 h.1 h.2
+  none_against (Static static_kind) h = never_later (Static static_kind) h.0 h.1 h.2
   none_against (OffTarget switch port start history) h = never_later (OffTarget switch port start history) h.0 h.1 h.2
   none_against (NotCarried switch port start) h = never_later (NotCarried switch port start) h.0 h.1 h.2
   none_against TooLarge h = never_later TooLarge h.0 h.1 h.2
 
-  module _ (other : Program) (same : said_by d.program ≡ said_by other) where
+  module _ (other : Program) (same : program_by d.program ≡ program_by other) where
     virtuals_alike : d.program.virtuals ≡ other.virtuals
-    virtuals_alike = ap (λ (s : Said). s.virtuals) same
+    virtuals_alike = ap (λ (s : DeclaredProgram). s.virtuals) same
 
     -- nor in a program that says the same
     none_in : (r : VirtualRefusal) (q : Policy) → policy_named other name ≡ Some q
@@ -66,19 +66,19 @@ module _ (name bytes : List ℕ) (d : AcceptsVirtual name bytes) where
     never_unphysical : (r : VirtualRefusal) → IsVirtualReason other name r → ⊥
     never_unphysical NoPolicy h = none_some d.policy (sym h ∙ sym (named_alike d.program other same name) ∙ d.named)
     never_unphysical NoTag h = none_in NoTag h.0 h.1 h.2
-    never_unphysical (Seen sight) h = none_in (Seen sight) h.0 h.1 h.2
+    never_unphysical (Static static_kind) h = none_in (Static static_kind) h.0 h.1 h.2
     never_unphysical (OffTarget switch port start history) h = none_in (OffTarget switch port start history) h.0 h.1 h.2
     never_unphysical (NotCarried switch port start) h = none_in (NotCarried switch port start) h.0 h.1 h.2
     never_unphysical TooLarge h = none_in TooLarge h.0 h.1 h.2
 
   -- the text is refused for no reason of either kind
-  never_lacking : (s : Said) (t : List ℕ) → Declares bytes s → LacksPhysical s name t → ⊥
+  never_lacking : (s : DeclaredProgram) (t : List ℕ) → Declares bytes s → LacksPhysical s name t → ⊥
   never_lacking s t declared l =
-      never_unphysical l.program (declares_once bytes (said_by d.program) s d.declared declared ∙ sym l.says) l.reason l.refused
+      never_unphysical l.program (declares_once bytes (program_by d.program) s d.declared declared ∙ sym l.says) l.reason l.refused
 
-  never_refused : (s : Said) (t : List ℕ) → Declares bytes s → IsPhysicalRefusal s name t → ⊥
+  never_refused : (s : DeclaredProgram) (t : List ℕ) → Declares bytes s → IsPhysicalRefusal s name t → ⊥
   never_refused s t declared r =
-      let same : said_by d.program ≡ said_by r.program = declares_once bytes (said_by d.program) s d.declared declared ∙ sym r.says in
+      let same : program_by d.program ≡ program_by r.program = declares_once bytes (program_by d.program) s d.declared declared ∙ sym r.says in
       let q = marked_from (physical d.program.virtuals d.policy) 1 in
       let policy : r.policy ≡ q =
       r.physical.is.built.numbered
@@ -89,7 +89,7 @@ module _ (name bytes : List ℕ) (d : AcceptsVirtual name bytes) where
       (sym (fields_alike d.program r.program same)) (sym (topo_alike d.program r.program same)) policy r.refused)
 
 pub virtual_kind : (name bytes : List ℕ) (o : Outcome) → IsVirtualizeAnswer name bytes o → Kind o (AcceptsVirtual name bytes) ⊥
-virtual_kind name bytes (text_refused t) h = (λ d. no_fault bytes (said_by d.program) t d.declared h, λ x. x)
+virtual_kind name bytes (text_refused t) h = (λ d. no_fault bytes (program_by d.program) t d.declared h, λ x. x)
 virtual_kind name bytes (done t) h =
     let made = h.2 in
     let is = made.physical.is in (

@@ -8,17 +8,17 @@ use Rattle.nk_reply.specs.declared.reply.Reply.{Reply}
 use Rattle.nk_reply.specs.Answer.{Answer, answer_of, limit, too_long, usage}
 use Rattle.nk_reply.specs.Outcome.{Outcome}
 use Rattle.nk_reply.specs.Reply.{IsReplyOf}
-use Rattle.nk_comparing.specs.Asking.{IsAskAnswer}
-use Rattle.nk_comparing.specs.Checking.{IsCheckAnswer}
-use Rattle.nk_compiling.specs.Compacting.{IsCompactAnswer}
-use Rattle.nk_compiling.specs.Compiling.{IsCompileAnswer}
-use Rattle.nk_comparing.specs.Comparing.{IsEqualAnswer}
-use Rattle.nk_following.specs.Flying.{IsFlyAnswer}
+use Rattle.nk_verify_commands.specs.Asking.{IsAskAnswer}
+use Rattle.nk_verify_commands.specs.Checking.{IsCheckAnswer}
+use Rattle.nk_compile_commands.specs.Compacting.{IsCompactAnswer}
+use Rattle.nk_compile_commands.specs.Compiling.{IsCompileAnswer}
+use Rattle.nk_verify_commands.specs.Comparing.{IsEqualAnswer}
+use Rattle.nk_trace_commands.specs.Flying.{IsFlyAnswer}
 use Rattle.nk.specs.Generating.{IsGenAnswer, IsJobAnswer}
-use Rattle.nk_comparing.specs.Judging.{IsJudgeAnswer}
-use Rattle.nk_following.specs.Tracing.{IsTraceAnswer}
-use Rattle.nk_compiling.specs.Updating.{IsUpdateAnswer}
-use Rattle.nk_compiling.specs.Virtualizing.{IsVirtualizeAnswer}
+use Rattle.nk_verify_commands.specs.Judging.{IsJudgeAnswer}
+use Rattle.nk_trace_commands.specs.Tracing.{IsTraceAnswer}
+use Rattle.nk_compile_commands.specs.Updating.{IsUpdateAnswer}
+use Rattle.nk_compile_commands.specs.Virtualizing.{IsVirtualizeAnswer}
 
 -- whether a command reads the input
 abbrev pub reads : Command → Bool

@@ -5,7 +5,7 @@ use Rattle.std.specs.List.{sum_by}
 use Rattle.nk_gen.specs.Text.{generated}
 use Rattle.nk_policy.specs.Policy.{Policy}
 use Rattle.nk_names.specs.declared.Program.{Program}
-use Rattle.nk_names.specs.ProgramOf.{said_by}
+use Rattle.nk_names.specs.ProgramOf.{program_by}
 use Rattle.nk_table.specs.declared.Table.{Table}
 use Rattle.nk_table.specs.declared.Tables.{Tables}
 use Rattle.nk_tabtext.specs.Text.{table_bytes}
@@ -14,8 +14,8 @@ use Rattle.nk_certtext.specs.Text.{cert_bytes}
 use Rattle.nk_bisim.specs.Answers.{IsRelated}
 use Rattle.nk_compile.specs.Counted.{HasTagCount}
 use Rattle.nk_compile.specs.Headline.{IsCompiled}
-use Rattle.nk_comparing.specs.Comparing.{AreNamed, IsEqualAnswer}
-use Rattle.nk_compiling.specs.Compiling.{IsCompileAnswer}
+use Rattle.nk_verify_commands.specs.Comparing.{AreNamed, IsEqualAnswer}
+use Rattle.nk_compile_commands.specs.Compiling.{IsCompileAnswer}
 use Rattle.nk_reply.specs.Outcome.{Outcome, done}
 use Rattle.nk_input.specs.ProgramText.{Declares}
 
@@ -35,7 +35,7 @@ tables_line name tags tables =
     ++ decimal (sum_by (λ t. length t.groups) tables)
     ++ codes "\n"
 
--- the line of a certificate with so many rows behind the start row, which counts too
+-- the line of a certificate with so many rows after the start row, which counts too
 abbrev pub rows_line : ℕ → List ℕ
 rows_line rows = codes "equal rows " ++ decimal (1 + rows) ++ codes "\n"
 
@@ -62,7 +62,7 @@ pub record CountsRows (program : Program) (left right text line : List ℕ) : Ty
 -- the answer has the line of `go`, that of `cast`, and that of `go` and `same`, where these are the texts of their answers
 pub record IsCounted (bytes go_text cast_text equal_text : List ℕ) (outcome : Outcome) : Type 0 where
   pub program : Program
-  pub declares : Declares bytes (said_by program)
+  pub declares : Declares bytes (program_by program)
   pub go_line : List ℕ
   pub cast_line : List ℕ
   pub equal_line : List ℕ

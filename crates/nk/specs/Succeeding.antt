@@ -6,7 +6,7 @@ use Rattle.nk_topo.specs.Topology.{is_port}
 use Rattle.nk_policy.specs.After.{drop_policy}
 use Rattle.nk_policy.specs.Policy.{Policy, marked_from, dups_of, size_of}
 use Rattle.nk_names.specs.declared.Program.{Program}
-use Rattle.nk_names.specs.ProgramOf.{said_by}
+use Rattle.nk_names.specs.ProgramOf.{program_by}
 use Rattle.nk_names.specs.Accepted.{IsAccepted}
 use Rattle.nk_names.specs.Named.{policy_named}
 use Rattle.nk_gen.specs.Text.{generated}
@@ -19,7 +19,7 @@ use Rattle.nk_cert.specs.Certificates.{CertificateValue, IsCertificate}
 use Rattle.nk_cert.specs.Equality.{AreSame}
 use Rattle.nk_query.specs.Asked.{Asked, apart, waypoint, Question, NoneBreaks}
 use Rattle.nk_query.specs.Answers.{IsNamedQuestion, asked_policy}
-use Rattle.nk_sight.specs.Seen.{seen_of}
+use Rattle.nk_static.specs.StaticFaults.{static_fault_of}
 use Rattle.nk_virtual.specs.Physical.{physical}
 use Rattle.nk_virtual.specs.Reasons.{IsUsable}
 use Rattle.nk_words.specs.Words.{command_of}
@@ -30,21 +30,21 @@ use Rattle.nk_reply.specs.declared.status.Status.{Status}
 use Rattle.nk_reply.specs.declared.status.Status.TheVariants.{Done, Differs, NoMemory}
 use Rattle.nk_reply.specs.Answer.{limit}
 use Rattle.nk.specs.Answer.{reads}
-use Rattle.nk_comparing.specs.CertifiedText.{HoldsCertificate}
-use Rattle.nk_comparing.specs.Comparing.{AreNamed}
+use Rattle.nk_verify_commands.specs.CertifiedText.{HoldsCertificate}
+use Rattle.nk_verify_commands.specs.Comparing.{AreNamed}
 use Rattle.nk_input.specs.ProgramText.{Declares}
 use Rattle.nk_reply.specs.Use.{HasRisen, Use}
 
 -- the bytes are a program's text, and the program accepts its policy of this name
 pub record AcceptsNamed (name bytes : List ℕ) : Type 0 where
   pub program : Program
-  pub declared : Declares bytes (said_by program)
+  pub declared : Declares bytes (program_by program)
   pub accepted : IsAcceptedByName program name
 
 -- the same, where tag sets whose states give the same histories share a tag
 pub record AcceptsMerged (name bytes : List ℕ) : Type 0 where
   pub program : Program
-  pub declared : Declares bytes (said_by program)
+  pub declared : Declares bytes (program_by program)
   pub accepted : AcceptsCompact program name
 
 -- The bytes are a program's text with a tag and with a policy of this name. Nothing is seen of the fabrics over the declared links,
@@ -52,13 +52,13 @@ pub record AcceptsMerged (name bytes : List ℕ) : Type 0 where
 -- elements, and the program accepts it.
 pub record AcceptsVirtual (name bytes : List ℕ) : Type 0 where
   pub program : Program
-  pub declared : Declares bytes (said_by program)
+  pub declared : Declares bytes (program_by program)
   pub policy : Policy
   pub named : policy_named program name ≡ Some policy
   pub tag : ℕ
   pub tag_declared : program.fields.tag ≡ Some tag
   pub usable : All (IsUsable program.fields program.topo tag) program.virtuals
-  pub plain : seen_of tag (map (λ k. k.ends) program.virtuals) policy ≡ None
+  pub plain : static_fault_of tag (map (λ k. k.ends) program.virtuals) policy ≡ None
   pub small : size_of (physical program.virtuals policy) ≤ 1048576
   pub accepted : IsAccepted program (marked_from (physical program.virtuals policy) 1)
 
@@ -66,7 +66,7 @@ pub record AcceptsVirtual (name bytes : List ℕ) : Type 0 where
 -- more than the tag has values above 0, and the word gives a packet at one of the program's ports.
 pub record AcceptsUpdate (old new word bytes : List ℕ) : Type 0 where
   pub program : Program
-  pub declared : Declares bytes (said_by program)
+  pub declared : Declares bytes (program_by program)
   pub old_policy : Policy
   pub new_policy : Policy
   pub named : AreNamed program old new old_policy new_policy
@@ -80,7 +80,7 @@ pub record AcceptsUpdate (old new word bytes : List ℕ) : Type 0 where
 -- the bytes are a program's text, and it has policies of both names, of which this holds
 pub record HavePolicies (left right bytes : List ℕ) (Property : Program → Policy → Policy → Type 0) : Type 0 where
   pub program : Program
-  pub declared : Declares bytes (said_by program)
+  pub declared : Declares bytes (program_by program)
   pub left_policy : Policy
   pub right_policy : Policy
   pub named : AreNamed program left right left_policy right_policy
@@ -90,7 +90,7 @@ pub record HavePolicies (left right bytes : List ℕ) (Property : Program → Po
 pub record HaveCertified (left right bytes : List ℕ) (Property : Program → Policy → Policy → CertificateValue → Type 0) : Type 0 where
   pub program : Program
   pub certificate : CertificateValue
-  pub held : HoldsCertificate bytes (said_by program) certificate
+  pub held : HoldsCertificate bytes (program_by program) certificate
   pub left_policy : Policy
   pub right_policy : Policy
   pub named : AreNamed program left right left_policy right_policy
@@ -99,7 +99,7 @@ pub record HaveCertified (left right bytes : List ℕ) (Property : Program → P
 -- the bytes are a program's text, and of the question of these names, which can be made, this holds
 pub record HasQuestion (asked : Asked) (bytes : List ℕ) (Property : Program → Question → Type 0) : Type 0 where
   pub program : Program
-  pub declared : Declares bytes (said_by program)
+  pub declared : Declares bytes (program_by program)
   pub question : Question
   pub named : IsNamedQuestion program asked question
   pub holds : Property program question
@@ -108,7 +108,7 @@ pub record HasQuestion (asked : Asked) (bytes : List ℕ) (Property : Program �
 pub record HasCertifiedQuestion (asked : Asked) (bytes : List ℕ) (Property : Program → Question → CertificateValue → Type 0) : Type 0 where
   pub program : Program
   pub certificate : CertificateValue
-  pub held : HoldsCertificate bytes (said_by program) certificate
+  pub held : HoldsCertificate bytes (program_by program) certificate
   pub question : Question
   pub named : IsNamedQuestion program asked question
   pub holds : Property program question certificate

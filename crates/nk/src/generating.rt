@@ -1,30 +1,30 @@
 //! The answers of `gen SIZE SEED` and `job SIZE SEED`.
 ghost use Rattle.std.specs.Prelude.{◌≡◌, ◌≤◌, IfOk, List, ℕ, length};
 ghost use Rattle.std.specs.List.{sum_by};
-ghost use Rattle.nk_names.specs.ProgramOf.{said_by};
+ghost use Rattle.nk_names.specs.ProgramOf.{program_by};
 ghost use Rattle.nk_names.specs.ProgramValue.{IsProgram};
-ghost use Rattle.nk_comparing.specs.Comparing.{ToCompared};
-ghost use Rattle.nk_compiling.specs.Compiling.{ToProgram};
+ghost use Rattle.nk_verify_commands.specs.Comparing.{ToCompared};
+ghost use Rattle.nk_compile_commands.specs.Compiling.{ToProgram};
 ghost use Rattle.nk_input.specs.Declarable.{CanBeDeclared};
 ghost use Rattle.nk.specs.Generating.{CountsRows, CountsTables, IsGenAnswer, IsJobAnswer, IsJobOver, rows_line, tables_line};
 ghost use Rattle.nk.specs.JobSteps.{IsJobStep};
 ghost use Rattle.nk_input.specs.ProgramText.{Declares};
-ghost use Rattle.nk_reply.specs.Reply.{said};
+ghost use Rattle.nk_reply.specs.Reply.{outcome_of};
 
 use itoa::Buffer;
 use nk_bisim::{CompareError, Compared, compare};
 use nk_certtext::laws::certificates_of_policies_are_read;
-use nk_comparing::difference_message;
 use nk_compile::{CompileError, Counted, compile_counted};
-use nk_compiling::laws::compiled_tables_are_printable;
-use nk_compiling::refusal_message;
+use nk_compile_commands::laws::compiled_tables_are_printable;
+use nk_compile_commands::refusal_message;
 use nk_gen::generate;
 use nk_input::{ReadText, read_program};
 use nk_names::Program;
-use nk_reply::Said;
+use nk_reply::CommandAnswer;
 use nk_reply::messages::no_policy_message;
 use nk_table::Table;
 use nk_tabtext::printed_tables_are_read;
+use nk_verify_commands::difference_message;
 use std::alloc::{AllocError, Global};
 
 /// A step of the job.
@@ -33,43 +33,43 @@ pub enum Step {
     /// The step is done: the line of what is counted.
     Line(Vec<u8>),
     /// The step isn't done, and the job ends with this answer of its command.
-    Ends(Said),
+    Ends(CommandAnswer),
 }
 
 /// The text of a generated program.
-pub(crate) fn gen_answer(alloc: Global, size: u64, seed: u64) -> Result<Said, AllocError>
+pub(crate) fn gen_answer(alloc: Global, size: u64, seed: u64) -> Result<CommandAnswer, AllocError>
     requires sizes { (2 ≤ size) × (size ≤ 1000) }
     requires seeds { (1 ≤ seed) × (seed ≤ 2147483646) }
-    ensures { IfOk result (λ s. IsGenAnswer size seed (said s)) }
+    ensures { IfOk result (λ s. IsGenAnswer size seed (outcome_of s)) }
 {
-    Ok(Said::Done(generate(alloc, size, seed)?))
+    Ok(CommandAnswer::Done(generate(alloc, size, seed)?))
 }
 
 /// What is counted of a generated program's policies. The text is made once and read once, and no table or certificate is printed.
-pub(crate) fn job_answer(alloc: Global, size: u64, seed: u64) -> Result<Said, AllocError>
+pub(crate) fn job_answer(alloc: Global, size: u64, seed: u64) -> Result<CommandAnswer, AllocError>
     requires sizes { (2 ≤ size) × (size ≤ 1000) }
     requires seeds { (1 ≤ seed) × (seed ≤ 2147483646) }
-    ensures { IfOk result (λ s. IsJobAnswer size seed (said s)) }
+    ensures { IfOk result (λ s. IsJobAnswer size seed (outcome_of s)) }
 {
     let text = generate(alloc, size, seed)?;
     job_over(alloc, text)
 }
 
 /// The same over the bytes of a text.
-fn job_over(alloc: Global, bytes: Vec<u8>) -> Result<Said, AllocError>
-    ensures { IfOk result (λ s. IsJobOver bytes.items (said s)) }
+fn job_over(alloc: Global, bytes: Vec<u8>) -> Result<CommandAnswer, AllocError>
+    ensures { IfOk result (λ s. IsJobOver bytes.items (outcome_of s)) }
 {
     match read_program(alloc, bytes)? {
         ReadText::Program(program) => job_of_program(alloc, &program),
-        ReadText::Fault(line) => Ok(Said::Text(line)),
+        ReadText::Fault(line) => Ok(CommandAnswer::Text(line)),
     }
 }
 
 /// The same over a program: the first answer that isn't that its command is done, or else the lines of all three.
-fn job_of_program(alloc: Global, program: &Program) -> Result<Said, AllocError>
+fn job_of_program(alloc: Global, program: &Program) -> Result<CommandAnswer, AllocError>
     requires is { IsProgram program.now.fields program.now.topo program.now.lets }
-    requires declared { CanBeDeclared (said_by program.now) }
-    ensures { IfOk result (λ s. (bytes : List ℕ) → Declares bytes (said_by program.now) → IsJobOver bytes (said s)) }
+    requires declared { CanBeDeclared (program_by program.now) }
+    ensures { IfOk result (λ s. (bytes : List ℕ) → Declares bytes (program_by program.now) → IsJobOver bytes (outcome_of s)) }
 {
     let mut out = match count_tables(alloc, program, "go")? {
         Step::Line(line) => line,
@@ -85,14 +85,14 @@ fn job_of_program(alloc: Global, program: &Program) -> Result<Said, AllocError>
     };
     out.extend_from_slice(&cast)?;
     out.extend_from_slice(&equal)?;
-    Ok(Said::Done(out))
+    Ok(CommandAnswer::Done(out))
 }
 
 /// The line of a policy's tables, or the answer of `compile` where it isn't done.
 fn count_tables(alloc: Global, program: &Program, name: &str) -> Result<Step, AllocError>
     requires is { IsProgram program.now.fields program.now.topo program.now.lets }
-    requires declared { CanBeDeclared (said_by program.now) }
-    ensures { IfOk result (IsJobStep (ToProgram (said_by program.now) name.now) (CountsTables program.now name.now)) }
+    requires declared { CanBeDeclared (program_by program.now) }
+    ensures { IfOk result (IsJobStep (ToProgram (program_by program.now) name.now) (CountsTables program.now name.now)) }
 {
     // These two are laws: what is compiled is such as is read back, and that is read back.
     compiled_tables_are_printable();
@@ -101,7 +101,7 @@ fn count_tables(alloc: Global, program: &Program, name: &str) -> Result<Step, Al
         Ok(counted) => Ok(Step::Line(tables_message(alloc, name, &counted)?)),
         Err(CompileError::Refused(reason)) => {
             let message = refusal_message(alloc, &program.fields, &reason)?;
-            Ok(Step::Ends(Said::Refused(message)))
+            Ok(Step::Ends(CommandAnswer::Refused(message)))
         }
         Err(CompileError::NoMemory) => Err(AllocError),
     }
@@ -110,7 +110,7 @@ fn count_tables(alloc: Global, program: &Program, name: &str) -> Result<Step, Al
 /// The line of the rows of two policies' certificate, or the answer of `equal` where it isn't done.
 fn count_rows(alloc: Global, program: &Program, left: &str, right: &str) -> Result<Step, AllocError>
     requires is { IsProgram program.now.fields program.now.topo program.now.lets }
-    ensures { IfOk result (IsJobStep (ToCompared (said_by program.now) left.now right.now)
+    ensures { IfOk result (IsJobStep (ToCompared (program_by program.now) left.now right.now)
         (CountsRows program.now left.now right.now)) }
 {
     // This is a law: what is printed for two policies is read back.
@@ -121,9 +121,11 @@ fn count_rows(alloc: Global, program: &Program, left: &str, right: &str) -> Resu
         }
         Ok(Compared::Broken(found)) => {
             let message = difference_message(alloc, &program.fields, &found)?;
-            Ok(Step::Ends(Said::Differs(message)))
+            Ok(Step::Ends(CommandAnswer::Differs(message)))
         }
-        Err(CompareError::NoPolicy) => Ok(Step::Ends(Said::Refused(no_policy_message(alloc)?))),
+        Err(CompareError::NoPolicy) => Ok(Step::Ends(CommandAnswer::Refused(no_policy_message(
+            alloc,
+        )?))),
         Err(CompareError::NoMemory) => Err(AllocError),
     }
 }
@@ -146,7 +148,7 @@ fn tables_message(alloc: Global, name: &str, counted: &Counted) -> Result<Vec<u8
     Ok(line)
 }
 
-/// The line of a certificate with so many rows behind the start row.
+/// The line of a certificate with so many rows after the start row.
 fn rows_message(alloc: Global, rows: usize) -> Result<Vec<u8>, AllocError>
     ensures { IfOk result (λ v. v.items ≡ rows_line rows) }
 {

@@ -4,5 +4,5 @@
 mod generating;
 mod top;
 
-pub use nk_reply::{Reply, Said, Status};
+pub use nk_reply::{CommandAnswer, Reply, Status};
 pub use top::run;

@@ -5,22 +5,22 @@ ghost use Rattle.nk.specs.Answer.{IsOutcome, reads, reads_in_pieces, IsReplyTo};
 ghost use Rattle.nk_reply.specs.Use.{use_of};
 ghost use Rattle.nk.specs.Ends.{Ends, IsCaused, IsComplete, IsMeant, IsMeantTo, asks_for_input, TellsFaults};
 ghost use Rattle.nk_reply.specs.Sent.{LeavesAlone};
-ghost use Rattle.nk_reply.specs.Reply.{answer_in, said};
+ghost use Rattle.nk_reply.specs.Reply.{answer_in, outcome_of};
 ghost use Rattle.nk.specs.Succeeding.{Succeeds};
 
 use crate::generating::{gen_answer, job_answer};
-use nk_comparing::{
+use nk_compile_commands::{compact_answer, compile_answer, update_answer, virtual_answer};
+use nk_io::{LONGEST, Sink, Source, read_all};
+use nk_reply::{CommandAnswer, Reply, Status, deliver};
+use nk_trace_commands::{fly_reply, trace_reply};
+use nk_verify_commands::{
     apart_query, ask_answer, check_apart_reply, check_reply, check_waypoint_reply, equal_answer,
     waypoint_query,
 };
-use nk_compiling::{compact_answer, compile_answer, update_answer, virtual_answer};
-use nk_following::{fly_reply, trace_reply};
-use nk_io::{LONGEST, Sink, Source, read_all};
-use nk_reply::{Reply, Said, Status, deliver};
 use nk_words::{Command, WordsError, read_words};
 use std::alloc::{AllocError, Global};
 
-/// Does what the words behind the program's name ask for. Words that are no command are refused before anything is read,
+/// Does what the words after the program's name ask for. Words that are no command are refused before anything is read,
 /// and `gen` and `job` read nothing; for every other command the source is read to its end, which fails where a call of
 /// the source fails or it has more than 16,777,216 bytes. The whole answer is built before its first byte is written: on
 /// `out` for the statuses `Done` and `Differs`, on `err` for the others. After a write that fails nothing more is
@@ -139,16 +139,16 @@ fn reply_to(alloc: Global, command: &Command, bytes: Vec<u8>) -> Reply
     ensures { IsReplyTo command.now bytes.items result }
 {
     match perform(alloc, command, bytes) {
-        Ok(said) => Reply::Said(said),
+        Ok(said) => Reply::CommandAnswer(said),
         Err(_) => Reply::NoMemory,
     }
 }
 
 /// What the command answers to the input.
-fn perform(alloc: Global, command: &Command, bytes: Vec<u8>) -> Result<Said, AllocError>
+fn perform(alloc: Global, command: &Command, bytes: Vec<u8>) -> Result<CommandAnswer, AllocError>
     requires within { IsWithinLimits command.now }
     requires whole { reads_in_pieces command.now ≡ false }
-    ensures { IfOk result (λ s. IsOutcome command.now bytes.items (said s)) }
+    ensures { IfOk result (λ s. IsOutcome command.now bytes.items (outcome_of s)) }
 {
     match command {
         Command::Compile(name) => compile_answer(alloc, name.as_str(), bytes),

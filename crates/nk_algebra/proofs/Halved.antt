@@ -3,7 +3,7 @@ use Rattle.std.proofs.Common.{◌≡◌, ℕ, zero, suc, ◌+◌, ◌<◌, ◌�
 use Rattle.std.proofs.lemmas.Bool.Decides.{nat_tests, leb_tells}
 use Rattle.nk_store.specs.declared.node.Out.{Out}
 use Rattle.nk_store.specs.Nodes.{child_at, Rises}
-use Rattle.nk_store.specs.Held.{Held, IsId, look, Grows, HasLeaves}
+use Rattle.nk_store.specs.StoreState.{StoreState, IsId, look, Grows, HasLeaves}
 use Rattle.nk_store.proofs.Looks.{each_child}
 use Rattle.nk_store.proofs.Same.{child-first, child-rest}
 use Rattle.nk_apply.specs.Leaves.{merged, guarded}
@@ -28,7 +28,7 @@ start_later high low [] (suc k) (suc n) r l = omega arith
 start_later high low (p ∷ ps) (suc k) zero r l = absurd (omega arith)
 start_later high low (p ∷ ps) (suc k) (suc n) r l = start_later high (p.0 + 1) ps k n r.2 (omega arith)
 
--- the next part begins behind a part's end
+-- the next part begins after a part's end
 pub start_next : (low : ℕ) (ps : List (ℕ × ℕ)) (k : ℕ) (e : ℕ × ℕ) → k < length ps →
     start low ps (suc k) ≡ (get_or ps k e).0 + 1
 start_next low [] k e l = absurd (omega arith)
@@ -42,7 +42,7 @@ end_within high low [] k e r l = absurd (omega arith)
 end_within high low (p ∷ ps) zero e r l = (r.0, r.1)
 end_within high low (p ∷ ps) (suc k) e r l = end_within high (p.0 + 1) ps k e r.2 (omega arith)
 
--- behind all parts comes the value past the highest one
+-- after all parts comes the value past the highest one
 pub start_last : (high low : ℕ) (ps : List (ℕ × ℕ)) → Rises high low ps → start low ps (length ps) ≡ high + 1
 start_last high low [] r = r
 start_last high low (p ∷ ps) r = start_last high (p.0 + 1) ps r.2
@@ -87,7 +87,7 @@ spans_join s m t v S a b =
     ]
 
 -- the choice between some parts stays in a store that grew
-chosen_grown : (old new : Held) (f : ℕ) (ps : List (ℕ × ℕ)) (from to : ℕ) (pk : List ℕ) → Grows old new →
+chosen_grown : (old new : StoreState) (f : ℕ) (ps : List (ℕ × ℕ)) (from to : ℕ) (pk : List ℕ) → Grows old new →
     AreChoices old f ps → chosen new f ps from to pk ≡ chosen old f ps from to pk
 chosen_grown old new f ps from to pk g c =
     let v = get_or pk f 0 in
@@ -96,7 +96,7 @@ chosen_grown old new f ps from to pk g c =
     ∙ ap (λ S. cond (leb (start 0 ps from) (min v (get_or old.maxes f 0)) && ltb (min v (get_or old.maxes f 0)) (start 0 ps to)) S []) (g.leaves (child_at 0 ps v) pk child)
 
 -- the choices between two halves of some parts, together
-pub chosen_halves : (old s1 s2 s3 : Held) (f : ℕ) (ps : List (ℕ × ℕ)) (from middle to left right new : ℕ) →
+pub chosen_halves : (old s1 s2 s3 : StoreState) (f : ℕ) (ps : List (ℕ × ℕ)) (from middle to left right new : ℕ) →
     AreChoices old f ps → from ≤ middle → middle ≤ to → Grows old s1 → Grows s1 s2 →
     HasLeaves s1 left (λ pk. chosen old f ps from middle pk) →
     HasLeaves s2 right (λ pk. chosen s1 f ps middle to pk) →
@@ -119,7 +119,7 @@ guarded_span true x L S e = e refl
 guarded_span false x L S e = refl
 
 -- one part's diagram, for its values
-pub chosen_one : (old s1 s2 : Held) (f : ℕ) (ps : List (ℕ × ℕ)) (k from end d guard new : ℕ) (e : ℕ × ℕ) →
+pub chosen_one : (old s1 s2 : StoreState) (f : ℕ) (ps : List (ℕ × ℕ)) (k from end d guard new : ℕ) (e : ℕ × ℕ) →
     AreChoices old f ps → k < length ps → from ≡ start 0 ps k → end ≡ (get_or ps k e).0 → d ≡ (get_or ps k e).1 →
     Grows old s1 → HasLeaves s1 guard (λ pk. in_span (get_or old.maxes f 0) from end (get_or pk f 0)) →
     HasLeaves s2 new (λ pk. guarded (look s1 guard pk) (look s1 d pk)) →
@@ -144,7 +144,7 @@ chosen_one old s1 s2 f ps k from end d guard new e c l is_from is_end is_d g gg 
 }
 
 -- the choice between all parts is the choice
-pub chosen_all : (old st : Held) (f : ℕ) (ps : List (ℕ × ℕ)) (n d : ℕ) → AreChoices old f ps → n ≡ length ps →
+pub chosen_all : (old st : StoreState) (f : ℕ) (ps : List (ℕ × ℕ)) (n d : ℕ) → AreChoices old f ps → n ≡ length ps →
     HasLeaves st d (λ pk. chosen old f ps 0 n pk) →
     HasLeaves st d (λ pk. look old (child_at 0 ps (get_or pk f 0)) pk)
 chosen_all old st f ps n d c is h = record {

@@ -4,7 +4,7 @@ use Rattle.std.proofs.lemmas.List.{append_assoc}
 use Rattle.nk_field.specs.Act.{applied}
 use Rattle.nk_store.specs.declared.node.Out.{Out}
 use Rattle.nk_store.specs.Leaves.{Every, Suits, AreOrdered, IsActFrom}
-use Rattle.nk_store.specs.Held.{Held, IsId, node_of, look, top, Grows, HasLeaves, AreTidy}
+use Rattle.nk_store.specs.StoreState.{StoreState, IsId, node_of, look, root_field, Grows, HasLeaves, AreTidy}
 use Rattle.nk_apply.specs.Leaves.{merged}
 use Rattle.nk_apply.specs.Seqs.{prefixed, out_after, outs_of, no_out, out_made, outs_made}
 use Rattle.nk_apply.specs.Unions.{in_turn, over_places}
@@ -16,8 +16,8 @@ use Rattle.nk_apply.proofs.PartSums.{AreNodes}
 use Rattle.nk_apply.proofs.Sorted.{merged_strict}
 
 -- a diagram that tests no field tests none in a store that grew
-pub leaf_still : (old new : Held) (d : ℕ) → Grows old new → IsId old d → top old d ≡ 18 → top new d ≡ 18
-leaf_still old new d g i e = g.tops d i ∙ e
+pub leaf_still : (old new : StoreState) (d : ℕ) → Grows old new → IsId old d → root_field old d ≡ 18 → root_field new d ≡ 18
+leaf_still old new d g i e = g.root_fields d i ∙ e
 
 -- outs in front of others come in order to both leaves together
 ordered_both : (xs ys r s : List Out) → AreOrdered xs r → AreOrdered ys s → AreOrdered (xs ++ ys) (merged r s)
@@ -37,14 +37,14 @@ ordered_both xs ys r s a b = record {
     back o (inl h) = merged_left o r s (contains_has r o ((a.members o).1 (has_contains xs o h)))
     back o (inr h) = merged_right o r s (contains_has s o ((b.members o).1 (has_contains ys o h)))
 
--- what is made of places, one's behind the other's, comes in order to what is made of them as one list
+-- what is made of places, one's after the other's, comes in order to what is made of them as one list
 turn_ordered : (F G : ℕ → List Out) (from n : ℕ) → ((k : ℕ) → AreOrdered (F k) (G k)) →
     AreOrdered (in_turn F from n) (over_places G from n)
 turn_ordered F G from zero h = record { sorted = tt; members = λ o. (λ c. c, λ c. c) }
 turn_ordered F G from (suc n) h =
     ordered_both (F from) (in_turn F (from + 1) n) (G from) (over_places G (from + 1) n) (h from) (turn_ordered F G (from + 1) n h)
 
--- what holds of each out of two lists holds of each of one behind the other
+-- what holds of each out of two lists holds of each of one after the other
 every_both : (P : Out → Type 0) (xs ys : List Out) → Every P xs → Every P ys → Every P (xs ++ ys)
 every_both P [] ys a b = b
 every_both P (x ∷ xs) ys a b = (a.0, every_both P xs ys a.1 b)
@@ -75,20 +75,20 @@ made_suits maxes firsts seconds k u v =
     every_unordered (Suits maxes) (map (out_after g) seconds) (prefixed g seconds) (prefixed_ordered g seconds (map (out_after g) seconds) refl) (prefixed_suits maxes g seconds (act_suits maxes firsts k u) v)
 
 -- the outs of a leaf suit the highest values
-leaf_suits : (st : Held) (d : ℕ) → AreNodes st → AreTidy st → IsId st d → top st d ≡ 18 → Every (Suits st.maxes) (outs_of st d)
+leaf_suits : (st : StoreState) (d : ℕ) → AreNodes st → AreTidy st → IsId st d → root_field st d ≡ 18 → Every (Suits st.maxes) (outs_of st d)
 leaf_suits st d nodes tidy i e =
     subst (Every (Suits st.maxes)) (leaf_outs st d (node_of st d) refl (nodes d i) (omega (arith, e)) []) ((tidy d).suits [])
 
 -- all outs of two leaves suit the highest values
-pub both_suit : (st : Held) (a b from n : ℕ) (outs : List Out) → AreNodes st → AreTidy st → IsId st a → IsId st b →
-    top st a ≡ 18 → top st b ≡ 18 → outs ≡ in_turn (outs_made (outs_of st a) (outs_of st b)) from n → Every (Suits st.maxes) outs
+pub both_suit : (st : StoreState) (a b from n : ℕ) (outs : List Out) → AreNodes st → AreTidy st → IsId st a → IsId st b →
+    root_field st a ≡ 18 → root_field st b ≡ 18 → outs ≡ in_turn (outs_made (outs_of st a) (outs_of st b)) from n → Every (Suits st.maxes) outs
 both_suit st a b from n outs nodes tidy ia ib la lb is =
     subst (Every (Suits st.maxes)) (sym is)
     (turn_every (Suits st.maxes) (outs_made (outs_of st a) (outs_of st b)) from n
     (λ k. made_suits st.maxes (outs_of st a) (outs_of st b) k (leaf_suits st a nodes tidy ia la) (leaf_suits st b nodes tidy ib lb)))
 
 -- the leaf with all of them in order is what the second leaf makes of the first one's outs
-pub both_leaf : (st new : Held) (a b from n : ℕ) (outs r : List Out) (d : ℕ) → AreNodes st → IsId st b → top st b ≡ 18 →
+pub both_leaf : (st new : StoreState) (a b from n : ℕ) (outs r : List Out) (d : ℕ) → AreNodes st → IsId st b → root_field st b ≡ 18 →
     outs ≡ in_turn (outs_made (outs_of st a) (outs_of st b)) from n → AreOrdered outs r → HasLeaves new d (λ pk. r) →
     HasLeaves new d (λ pk. over_places (out_made (outs_of st a) (look st b) pk) from n)
 both_leaf st new a b from n outs r d nodes ib lb is o h = record {

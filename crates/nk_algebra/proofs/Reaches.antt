@@ -4,14 +4,14 @@ use Rattle.std.proofs.lemmas.Bool.Decides.{eqb_tells, leb_tells}
 use Rattle.nk_field.specs.Act.{applied}
 use Rattle.nk_store.specs.declared.node.Out.{Out}
 use Rattle.nk_store.specs.Leaves.{Every}
-use Rattle.nk_store.specs.Held.{Held, IsId, look, top, Grows, HasLeaves, AreTidy}
-use Rattle.nk_algebra.specs.Apart.{assigns, last_value, ends_between, parted}
+use Rattle.nk_store.specs.StoreState.{StoreState, IsId, look, root_field, Grows, HasLeaves, AreTidy}
+use Rattle.nk_algebra.specs.Partition.{assigns, last_value, ends_between, partition}
 use Rattle.nk_apply.specs.Leaves.{merged}
 use Rattle.nk_apply.specs.Seqs.{prefixed, seq_leaf}
-use Rattle.nk_apply.specs.Subs.{sub, IsPart, IsSplit}
+use Rattle.nk_apply.specs.Cofactors.{cofactor, IsPart, IsSplit}
 use Rattle.nk_apply.proofs.Members.{Has, every_from}
 use Rattle.nk_apply.proofs.Sequences.{same_looks}
-use Rattle.nk_algebra.proofs.Splits.{kept_value, has_parted, parted_whole}
+use Rattle.nk_algebra.proofs.Splits.{kept_value, has_partition, partition_whole}
 
 -- the last assignment to a field is found from the end
 pub found_last : (f i : ℕ) (xs : List (ℕ × ℕ)) (x : ℕ × ℕ) → i < length xs → x ≡ get_or xs i x → x.0 ≡ f →
@@ -34,7 +34,7 @@ found_last f (suc i) (y ∷ ys) x h is e none =
     by true k = refl
     by false k = k
 
--- behind an act that assigns f the packet has its last value there
+-- after an act that assigns f the packet has its last value there
 pub value_after : (f : ℕ) (g : List (ℕ × ℕ)) (pk : List ℕ) → assigns f g ≡ true → f < length pk →
     get_or (applied g pk) f 0 ≡ last_value f g
 value_after f [] pk e h = absurd (clash e)
@@ -90,28 +90,28 @@ between_is f lo hi g e = by (assigns f g) (leb lo (last_value f g)) (leb (last_v
     by false y z a b c k = absurd (clash k)
 
 -- at a packet whose value of f a part is for, the diagram is that part
-part_looks : (st : Held) (f b from : ℕ) (p : ℕ × ℕ) (q : List ℕ) → IsSplit st f b → IsPart st f b from p →
+part_looks : (st : StoreState) (f b from : ℕ) (p : ℕ × ℕ) (q : List ℕ) → IsSplit st f b → IsPart st f b from p →
     from ≤ get_or q f 0 → get_or q f 0 ≤ p.0 → look st p.1 q ≡ look st b q
 part_looks st f b from p q sb part l m =
     ap (λ x. look st x q) (sym (part.same (get_or q f 0) l m)) ∙ sym (sb.leaf q)
 
 -- the outs that end where a part is for go on with that part
-pub ends_there : (st : Held) (f b from : ℕ) (p : ℕ × ℕ) (os : List Out) (pk : List ℕ) → IsSplit st f b → IsPart st f b from p →
-    f < length pk → seq_leaf (parted (ends_between f from p.0) true os) (look st p.1) pk
-    ≡ seq_leaf (parted (ends_between f from p.0) true os) (look st b) pk
+pub ends_there : (st : StoreState) (f b from : ℕ) (p : ℕ × ℕ) (os : List Out) (pk : List ℕ) → IsSplit st f b → IsPart st f b from p →
+    f < length pk → seq_leaf (partition (ends_between f from p.0) true os) (look st p.1) pk
+    ≡ seq_leaf (partition (ends_between f from p.0) true os) (look st b) pk
 ends_there st f b from p os pk sb part h =
-    seq_alike (parted (ends_between f from p.0) true os) (look st p.1) (look st b) pk
+    seq_alike (partition (ends_between f from p.0) true os) (look st p.1) (look st b) pk
     (λ o has.
-    let r = between_is f from p.0 o.act (has_parted (ends_between f from p.0) true os o has).1 in
+    let r = between_is f from p.0 o.act (has_partition (ends_between f from p.0) true os o has).1 in
     let v = value_after f o.act pk r.0 h in
     part_looks st f b from p (applied o.act pk) sb part (subst (λ n. from ≤ n) (sym v) r.1) (subst (λ n. n ≤ p.0) (sym v) r.2))
 
 -- what ends there, put through, and the others
-pub ending_made : (s0 s1 s2 s3 s4 s5 : Held) (f a b from : ℕ) (p : ℕ × ℕ) (here one rest others d : ℕ) → f < 18 → IsId s0 a → IsId s0 b →
+pub ending_made : (s0 s1 s2 s3 s4 s5 : StoreState) (f a b from : ℕ) (p : ℕ × ℕ) (here one rest others d : ℕ) → f < 18 → IsId s0 a → IsId s0 b →
     IsSplit s0 f b → IsPart s0 f b from p → Grows s0 s1 → Grows s1 s2 → Grows s2 s3 → Grows s3 s4 →
-    HasLeaves s1 here (λ pk. parted (ends_between f from p.0) true (look s0 a pk)) →
+    HasLeaves s1 here (λ pk. partition (ends_between f from p.0) true (look s0 a pk)) →
     HasLeaves s2 one (λ pk. seq_leaf (look s1 here pk) (look s1 p.1) pk) →
-    HasLeaves s3 rest (λ pk. parted (ends_between f from p.0) false (look s2 a pk)) →
+    HasLeaves s3 rest (λ pk. partition (ends_between f from p.0) false (look s2 a pk)) →
     HasLeaves s4 others (λ pk. seq_leaf (look s3 rest pk) (look s3 b) pk) →
     HasLeaves s5 d (λ pk. merged (look s4 one pk) (look s4 others pk)) →
     HasLeaves s5 d (λ pk. seq_leaf (look s0 a pk) (look s0 b) pk)
@@ -125,13 +125,13 @@ ending_made s0 s1 s2 s3 s4 s5 f a b from p here one rest others d lt ia ib sb pa
       let b2 : look s2 b ≡ B = same_looks s1 s2 b g2 (g1.ids b ib) ∙ same_looks s0 s1 b g1 ib in
       let b3 : look s3 b ≡ B = same_looks s2 s3 b g3 (g2.ids b (g1.ids b ib)) ∙ b2 in
       let a2 : look s2 a pk ≡ os = g2.leaves a pk (g1.ids a ia) ∙ g1.leaves a pk ia in
-      let is_one : look s4 one pk ≡ seq_leaf (parted K true os) B pk =
+      let is_one : look s4 one pk ≡ seq_leaf (partition K true os) B pk =
       g4.leaves one pk (g3.ids one h2.id) ∙ g3.leaves one pk h2.id ∙ h2.leaf pk w
       ∙ ap (λ C. seq_leaf (look s1 here pk) C pk) c1 ∙ ap (λ x. seq_leaf x (look s0 p.1) pk) (h1.leaf pk w)
       ∙ ends_there s0 f b from p os pk sb part (subst (λ n. f < n) (sym w) lt) in
-      let is_others : look s4 others pk ≡ seq_leaf (parted K false os) B pk =
+      let is_others : look s4 others pk ≡ seq_leaf (partition K false os) B pk =
       h4.leaf pk w ∙ ap (λ C. seq_leaf (look s3 rest pk) C pk) b3 ∙ ap (λ x. seq_leaf x B pk) (h3.leaf pk w)
-      ∙ ap (λ x. seq_leaf (parted K false x) B pk) a2 in
+      ∙ ap (λ x. seq_leaf (partition K false x) B pk) a2 in
       h5.leaf pk w ∙ ap (λ x. merged x (look s4 others pk)) is_one
-      ∙ ap (λ y. merged (seq_leaf (parted K true os) B pk) y) is_others ∙ parted_whole K os B pk;
+      ∙ ap (λ y. merged (seq_leaf (partition K true os) B pk) y) is_others ∙ partition_whole K os B pk;
 }

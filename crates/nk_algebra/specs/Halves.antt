@@ -2,9 +2,9 @@
 use Rattle.std.specs.Prelude.{ℕ, zero, suc, ◌+◌, min, cond, leb, ltb, ◌&&◌, List, [], ◌∷◌, slice_index}
 use Rattle.nk_store.specs.declared.node.Out.{Out}
 use Rattle.nk_store.specs.Nodes.{child_at}
-use Rattle.nk_store.specs.Held.{Held, look}
+use Rattle.nk_store.specs.StoreState.{StoreState, look}
 
--- the first value of part number k, of parts from the value low on; behind the last part the value after them all
+-- the first value of part number k, of parts from the value low on; after the last part the value after them all
 abbrev pub start : ℕ → List (ℕ × ℕ) → ℕ → ℕ
 start low ps zero = low
 start low [] (suc k) = low
@@ -12,7 +12,7 @@ start low (p ∷ ps) (suc k) = start (p.0 + 1) ps k
 
 -- the leaf of the part that holds the field's value, where it is one of the parts from one number up to before another,
 -- else nothing; a value past the highest counts as the highest
-abbrev pub chosen : Held → ℕ → List (ℕ × ℕ) → ℕ → ℕ → List ℕ → List Out
+abbrev pub chosen : StoreState → ℕ → List (ℕ × ℕ) → ℕ → ℕ → List ℕ → List Out
 chosen st f parts from to pk =
     cond (leb (start 0 parts from) (min (slice_index pk f) (slice_index st.maxes f)) && ltb (min (slice_index pk f) (slice_index st.maxes f)) (start 0 parts to))
     (look st (child_at 0 parts (slice_index pk f)) pk) []

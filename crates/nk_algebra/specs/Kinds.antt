@@ -1,8 +1,8 @@
 -- Kinds of outs, by their acts.
 use Rattle.std.specs.Prelude.{ℕ, Bool, List}
-use Rattle.nk_algebra.specs.declared.apart.Kind.{Kind}
-use Rattle.nk_algebra.specs.declared.apart.Kind.TheVariants.{Assigning, Ending}
-use Rattle.nk_algebra.specs.Apart.{assigns, ends_between}
+use Rattle.nk_algebra.specs.declared.partition.Kind.{Kind}
+use Rattle.nk_algebra.specs.declared.partition.Kind.TheVariants.{Assigning, Ending}
+use Rattle.nk_algebra.specs.Partition.{assigns, ends_between}
 
 -- whether an act is of the kind
 abbrev pub is_of : Kind → List (ℕ × ℕ) → Bool

@@ -1,5 +1,5 @@
 pub mod Choices
 pub mod Halves
-pub mod Apart
+pub mod Partition
 pub mod Kinds
 pub mod Again

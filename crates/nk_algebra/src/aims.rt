@@ -1,8 +1,8 @@
 //! Targets, and assignments.
 ghost use Rattle.std.specs.Prelude.{◌≡◌, ◌<◌, ◌≤◌, [], ◌∷◌, map, IfOk, slice_index};
-ghost use Rattle.nk_store.specs.Held.{IsId, look, top, Grows, HasLeaves};
+ghost use Rattle.nk_store.specs.StoreState.{IsId, look, root_field, Grows, HasLeaves};
 ghost use Rattle.nk_apply.specs.Leaves.{out_to, aimed};
-ghost use Rattle.nk_apply.specs.Predicates.{Ends};
+ghost use Rattle.nk_apply.specs.Predicates.{HasOnlyFinals};
 
 use nk_apply::{LeafMap, map_leaves};
 use nk_field::{Act, Fid, List};
@@ -44,8 +44,8 @@ pub fn aim(st: &mut Store, d: Id, target: u64) -> Result<Id, AllocError>
     requires { IsId st.old d }
     ensures grows { Grows st.old st.new }
     ensures ok { IfOk result (λ r. HasLeaves st.new r (λ pk. aimed target (look st.old d pk))) }
-    ensures later { IfOk result (λ r. top st.old d ≤ top st.new r) }
-    ensures ends { IfOk result (λ r. target ≡ 0 → Ends (look st.new r)) }
+    ensures later { IfOk result (λ r. root_field st.old d ≤ root_field st.new r) }
+    ensures ends { IfOk result (λ r. target ≡ 0 → HasOnlyFinals (look st.new r)) }
 {
     map_leaves(st, &ToTarget { target }, d)
 }
@@ -56,7 +56,7 @@ pub fn assign(st: &mut Store, f: Fid, n: u64) -> Result<Id, AllocError>
     requires within { n ≤ slice_index st.old.maxes f }
     ensures grows { Grows st.old st.new }
     ensures ok { IfOk result (λ d. HasLeaves st.new d (λ pk. record { act = (f, n) ∷ []; target = 0 } ∷ [])) }
-    ensures later { IfOk result (λ d. top st.new d ≡ 18) }
+    ensures later { IfOk result (λ d. root_field st.new d ≡ 18) }
 {
     let alloc = st.alloc();
     let mut outs = List::with_capacity(alloc, 1)?;

@@ -2,8 +2,8 @@
 ghost use Rattle.std.specs.Prelude.{◌≡◌, ℕ, ◌<◌, ◌≤◌, min, true, IfOk, OnOk, List as Items, slice_index};
 ghost use Rattle.std.specs.Map.{lookup};
 ghost use Rattle.nk_store.specs.Nodes.{child_at, Each};
-ghost use Rattle.nk_store.specs.Held.{IsId, IsChild, IsWhole, look, top, Grows, HasLeaves, AreParts};
-ghost use Rattle.nk_apply.specs.Subs.{sub};
+ghost use Rattle.nk_store.specs.StoreState.{IsId, IsChild, IsWhole, look, root_field, Grows, HasLeaves, AreParts};
+ghost use Rattle.nk_apply.specs.Cofactors.{cofactor};
 ghost use Rattle.nk_algebra.specs.Choices.{AreChoices, first_of, IsCut, parts_eq, AreChosen};
 
 use crate::halves::choose_all;
@@ -62,7 +62,7 @@ fn unchanged_to(st: &Store, g: Fid, v: u64, parts: &List<(u64, Id)>) -> u64
     requires field { g < 18 }
     requires within { v ≤ slice_index st.now.maxes g }
     requires ids { Each (IsId st.now) parts.now }
-    requires first { Each (λ c. g ≤ top st.now c) parts.now }
+    requires first { Each (λ c. g ≤ root_field st.now c) parts.now }
     ensures { result ≤ slice_index st.now.maxes g }
 {
     let mut least = st.max(g);
@@ -112,7 +112,7 @@ fn choose_by(
     requires seen { AreChosen st.old f seen.old.entries }
     ensures grows { Grows st.old st.new }
     ensures ok { IfOk result (λ d. HasLeaves st.new d (λ pk. look st.old (child_at 0 parts (slice_index pk f)) pk)) }
-    ensures later { IfOk result (λ d. first_of st.old f parts ≤ top st.new d) }
+    ensures later { IfOk result (λ d. first_of st.old f parts ≤ root_field st.new d) }
     ensures seen { OnOk result (AreChosen st.new f seen.new.entries) }
 {
     if parts.len() == 1 {
@@ -141,7 +141,7 @@ fn choose_once(
     requires seen { AreChosen st.old f seen.old.entries }
     ensures grows { Grows st.old st.new }
     ensures ok { IfOk result (λ d. HasLeaves st.new d (λ pk. look st.old (child_at 0 parts (slice_index pk f)) pk)) }
-    ensures later { IfOk result (λ d. g ≤ top st.new d) }
+    ensures later { IfOk result (λ d. g ≤ root_field st.new d) }
     ensures seen { OnOk result (AreChosen st.new f seen.new.entries) }
 {
     if let Some(d) = known_choice(seen, &parts) {
@@ -176,7 +176,7 @@ fn earliest(st: &Store, f: Fid, parts: &List<(u64, Id)>) -> Fid
 fn earlier(st: &Store, f: Fid, d: Id) -> Fid
     requires field { f < 18 }
     requires id { IsId st.now d }
-    ensures { result ≡ min f (top st.now d) }
+    ensures { result ≡ min f (root_field st.now d) }
 {
     match tested(st, d) {
         None => f,
@@ -187,10 +187,10 @@ fn earlier(st: &Store, f: Fid, d: Id) -> Fid
 /// The choice where no part tests a field before the choice's own: each part is cut into those of its diagram.
 fn choose_here(st: &mut Store, f: Fid, parts: &List<(u64, Id)>) -> Result<Id, AllocError>
     requires choices { AreChoices st.old f parts.now }
-    requires first { Each (λ c. f ≤ top st.old c) parts.now }
+    requires first { Each (λ c. f ≤ root_field st.old c) parts.now }
     ensures grows { Grows st.old st.new }
     ensures ok { IfOk result (λ d. HasLeaves st.new d (λ pk. look st.old (child_at 0 parts.now (slice_index pk f)) pk)) }
-    ensures later { IfOk result (λ d. f ≤ top st.new d) }
+    ensures later { IfOk result (λ d. f ≤ root_field st.new d) }
 {
     st.laws();
     let pieces = finer(st, f, parts)?;
@@ -201,9 +201,9 @@ fn choose_here(st: &mut Store, f: Fid, parts: &List<(u64, Id)>) -> Result<Id, Al
 /// of its part.
 fn finer(st: &Store, f: Fid, parts: &List<(u64, Id)>) -> Result<List<(u64, Id)>, AllocError>
     requires choices { AreChoices st.now f parts.now }
-    requires first { Each (λ c. f ≤ top st.now c) parts.now }
+    requires first { Each (λ c. f ≤ root_field st.now c) parts.now }
     ensures parts { IfOk result (λ ps. AreParts st.now f ps) }
-    ensures ok { IfOk result (λ ps. (v : ℕ) (pk : Items ℕ) → IsWhole pk → look st.now (child_at 0 ps v) pk ≡ look st.now (sub st.now f v (child_at 0 parts.now v)) pk) }
+    ensures ok { IfOk result (λ ps. (v : ℕ) (pk : Items ℕ) → IsWhole pk → look st.now (child_at 0 ps v) pk ≡ look st.now (cofactor st.now f v (child_at 0 parts.now v)) pk) }
 {
     st.laws();
     let max = st.max(f);
@@ -238,7 +238,7 @@ fn choose_before(
     requires seen { AreChosen st.old f seen.old.entries }
     ensures grows { Grows st.old st.new }
     ensures ok { IfOk result (λ d. HasLeaves st.new d (λ pk. look st.old (child_at 0 parts.now (slice_index pk f)) pk)) }
-    ensures later { IfOk result (λ d. g ≤ top st.new d) }
+    ensures later { IfOk result (λ d. g ≤ root_field st.new d) }
     ensures seen { OnOk result (AreChosen st.new f seen.new.entries) }
 {
     st.laws();
@@ -261,7 +261,7 @@ fn choose_parts(
     requires seen { AreChosen st.old f seen.old.entries }
     ensures grows { Grows st.old st.new }
     ensures parts { IfOk result (λ ps. AreParts st.new g ps) }
-    ensures ok { IfOk result (λ ps. (v : ℕ) (pk : Items ℕ) → IsWhole pk → look st.new (child_at 0 ps v) pk ≡ look st.old (sub st.old g v (child_at 0 parts.now (slice_index pk f))) pk) }
+    ensures ok { IfOk result (λ ps. (v : ℕ) (pk : Items ℕ) → IsWhole pk → look st.new (child_at 0 ps v) pk ≡ look st.old (cofactor st.old g v (child_at 0 parts.now (slice_index pk f))) pk) }
     ensures seen { OnOk result (AreChosen st.new f seen.new.entries) }
 {
     st.laws();
@@ -290,7 +290,7 @@ fn cut_at(
     requires field { g < 18 }
     requires within { v ≤ slice_index st.now.maxes g }
     requires ids { Each (IsId st.now) parts.now }
-    requires first { Each (λ c. g ≤ top st.now c) parts.now }
+    requires first { Each (λ c. g ≤ root_field st.now c) parts.now }
     ensures { IfOk result (λ p. IsCut st.now g v parts.now p) }
 {
     let mut end = st.max(g);

@@ -1,7 +1,7 @@
 //! A choice by a field between diagrams that test any fields, by halves.
 ghost use Rattle.std.specs.Prelude.{◌≡◌, ◌+◌, ◌<◌, ◌≤◌, IfOk, length, slice_index};
 ghost use Rattle.nk_store.specs.Nodes.{child_at};
-ghost use Rattle.nk_store.specs.Held.{look, Grows, HasLeaves};
+ghost use Rattle.nk_store.specs.StoreState.{look, Grows, HasLeaves};
 ghost use Rattle.nk_algebra.specs.Choices.{AreChoices};
 ghost use Rattle.nk_algebra.specs.Halves.{start, chosen};
 

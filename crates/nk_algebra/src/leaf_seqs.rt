@@ -1,6 +1,6 @@
 //! One leaf, then another one.
 ghost use Rattle.std.specs.Prelude.{◌≡◌, ◌<◌, ◌≤◌, ◌-◌, true, IfOk, length};
-ghost use Rattle.nk_store.specs.Held.{IsId, look, top, Grows, HasLeaves};
+ghost use Rattle.nk_store.specs.StoreState.{IsId, look, root_field, Grows, HasLeaves};
 ghost use Rattle.nk_apply.specs.Seqs.{seq_leaf, outs_of, out_made, outs_made};
 ghost use Rattle.nk_apply.specs.Unions.{in_turn, over_places};
 
@@ -16,7 +16,7 @@ const AT_ONCE: usize = 4096;
 /// Whether a diagram tests no field.
 pub(crate) fn is_leaf(st: &Store, d: Id) -> bool
     requires { IsId st.now d }
-    ensures { result ≡ true → top st.now d ≡ 18 }
+    ensures { result ≡ true → root_field st.now d ≡ 18 }
 {
     match st.view(d) {
         Node::Leaf(_) => true,
@@ -28,8 +28,8 @@ pub(crate) fn is_leaf(st: &Store, d: Id) -> bool
 pub(crate) fn seq_two_leaves(st: &mut Store, a: Id, b: Id) -> Result<Id, AllocError>
     requires left { IsId st.old a }
     requires right { IsId st.old b }
-    requires left_leaf { top st.old a ≡ 18 }
-    requires right_leaf { top st.old b ≡ 18 }
+    requires left_leaf { root_field st.old a ≡ 18 }
+    requires right_leaf { root_field st.old b ≡ 18 }
     ensures grows { Grows st.old st.new }
     ensures ok { IfOk result (λ d. HasLeaves st.new d (λ pk. seq_leaf (look st.old a pk) (look st.old b) pk)) }
 {
@@ -50,8 +50,8 @@ fn seq_blocks(
 ) -> Result<Id, AllocError>
     requires left { IsId st.old a }
     requires right { IsId st.old b }
-    requires left_leaf { top st.old a ≡ 18 }
-    requires right_leaf { top st.old b ≡ 18 }
+    requires left_leaf { root_field st.old a ≡ 18 }
+    requires right_leaf { root_field st.old b ≡ 18 }
     requires order { from ≤ to }
     requires within { to ≤ length (outs_of st.old a) }
     requires some { 0 < block }
@@ -71,8 +71,8 @@ fn seq_blocks(
 fn seq_block(st: &mut Store, a: Id, b: Id, from: usize, to: usize) -> Result<Id, AllocError>
     requires left { IsId st.old a }
     requires right { IsId st.old b }
-    requires left_leaf { top st.old a ≡ 18 }
-    requires right_leaf { top st.old b ≡ 18 }
+    requires left_leaf { root_field st.old a ≡ 18 }
+    requires right_leaf { root_field st.old b ≡ 18 }
     requires order { from ≤ to }
     requires within { to ≤ length (outs_of st.old a) }
     ensures grows { Grows st.old st.new }
@@ -94,7 +94,7 @@ fn outs_at(st: &Store, d: Id) -> &[Out]
     }
 }
 
-/// The second outs after each of the first from one place to another, one's behind the other's.
+/// The second outs after each of the first from one place to another, one's after the other's.
 fn outs_after_all(
     alloc: Global,
     firsts: &[Out],

@@ -5,19 +5,19 @@
 
 mod again;
 mod aims;
-mod apart;
 mod choices;
 mod halves;
 mod leaf_seqs;
+mod partition;
 mod seqs;
 
 pub use again::second_calls;
 pub use aims::{aim, assign};
-pub use apart::is_wide;
 pub use choices::choose;
 pub use nk_apply::{
     Join, LeafMap, NodeMap, both, empty, first_field, identity, known, map_leaves, map_nodes,
     merge, negate, part_at, part_near, range, restrict, shift, span, test, tested, union,
     union_all,
 };
+pub use partition::is_wide;
 pub use seqs::{after, out_count, put_after, seq};

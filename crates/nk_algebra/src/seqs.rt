@@ -3,18 +3,18 @@ ghost use Rattle.std.specs.Prelude.{◌≡◌, ℕ, ◌≤◌, ◌<◌, List as 
 ghost use Rattle.nk_field.specs.Act.{applied};
 ghost use Rattle.nk_store.specs.Leaves.{IsActFrom};
 ghost use Rattle.nk_store.specs.Nodes.{child_at};
-ghost use Rattle.nk_store.specs.Held.{IsId, IsWhole, look, top, recalled, Grows, HasLeaves};
+ghost use Rattle.nk_store.specs.StoreState.{IsId, IsWhole, look, root_field, recalled, Grows, HasLeaves};
 ghost use Rattle.nk_store.specs.KeptAnswers.{GivesKept};
 ghost use Rattle.nk_store.specs.declared.operation.Operation.TheVariants as operations;
-ghost use Rattle.nk_apply.specs.Subs.{sub, IsSplit};
+ghost use Rattle.nk_apply.specs.Cofactors.{cofactor, IsSplit};
 ghost use Rattle.nk_apply.specs.Seqs.{out_after, prefixed, seq_leaf, outs_of, no_out, out_made};
 ghost use Rattle.nk_apply.specs.Unions.{over_places};
 ghost use Rattle.nk_algebra.specs.Choices.{AreChoices};
-ghost use Rattle.nk_apply.specs.Predicates.{IsPredicate, Ends};
+ghost use Rattle.nk_apply.specs.Predicates.{IsPredicate, HasOnlyFinals};
 
-use crate::apart::seq_anew;
 use crate::choices::choose;
 use crate::leaf_seqs::{is_leaf, seq_two_leaves};
+use crate::partition::seq_anew;
 use nk_apply::{LeafMap, empty, map_leaves, part_near, shift, tested, union_later};
 use nk_field::{Act, Fid, List};
 use nk_store::{Id, Node, Operation, Out, Store};
@@ -79,7 +79,7 @@ pub fn put_after(st: &mut Store, d: Id, act: &Act) -> Result<Id, AllocError>
     requires suits { IsActFrom st.old.maxes 0 act.now }
     ensures grows { Grows st.old st.new }
     ensures ok { IfOk result (λ r. HasLeaves st.new r (λ pk. prefixed act.now (look st.old d pk))) }
-    ensures later { IfOk result (λ r. top st.old d ≤ top st.new r) }
+    ensures later { IfOk result (λ r. root_field st.old d ≤ root_field st.new r) }
 {
     map_leaves(st, &Prefix { act }, d)
 }
@@ -92,7 +92,7 @@ pub fn seq(st: &mut Store, a: Id, b: Id) -> Result<Id, AllocError>
     ensures grows { Grows st.old st.new }
     ensures ok { IfOk result (λ d. HasLeaves st.new d (λ pk. seq_leaf (look st.old a pk) (look st.old b) pk)) }
     ensures predicate { IfOk result (λ d. IsPredicate st.old a → IsPredicate st.old b → IsPredicate st.new d) }
-    ensures ends { IfOk result (λ d. Ends (look st.old b) → Ends (look st.new d)) }
+    ensures ends { IfOk result (λ d. HasOnlyFinals (look st.old b) → HasOnlyFinals (look st.new d)) }
     ensures kept { IfOk result (λ d. recalled st.new operations.Seq a b ≡ Some d) }
     ensures again { GivesKept st.old st.new operations.Seq a b result }
 {
@@ -155,7 +155,7 @@ fn seq_case(st: &mut Store, f: Fid, a: Id, b: Id) -> Result<Id, AllocError>
     requires left { IsId st.old a }
     requires right { IsId st.old b }
     requires field { f < 18 }
-    requires first { top st.old a ≡ f }
+    requires first { root_field st.old a ≡ f }
     requires split { IsSplit st.old f a }
     ensures grows { Grows st.old st.new }
     ensures ok { IfOk result (λ d. HasLeaves st.new d (λ pk. seq_leaf (look st.old a pk) (look st.old b) pk)) }
@@ -167,7 +167,7 @@ fn seq_case(st: &mut Store, f: Fid, a: Id, b: Id) -> Result<Id, AllocError>
 /// How many outs a leaf has.
 pub fn out_count(st: &Store, a: Id) -> usize
     requires id { IsId st.now a }
-    requires leaf { top st.now a ≡ 18 }
+    requires leaf { root_field st.now a ≡ 18 }
     ensures count { result ≡ length (outs_of st.now a) }
     ensures outs { (pk : Items ℕ) → look st.now a pk ≡ outs_of st.now a }
 {
@@ -206,7 +206,7 @@ fn after_at(st: &mut Store, a: Id, i: usize, b: Id) -> Result<Id, AllocError>
 fn seq_outs(st: &mut Store, a: Id, b: Id) -> Result<Id, AllocError>
     requires left { IsId st.old a }
     requires right { IsId st.old b }
-    requires leaf { top st.old a ≡ 18 }
+    requires leaf { root_field st.old a ≡ 18 }
     ensures grows { Grows st.old st.new }
     ensures ok { IfOk result (λ d. HasLeaves st.new d (λ pk. seq_leaf (look st.old a pk) (look st.old b) pk)) }
 {
@@ -245,11 +245,11 @@ fn seq_parts(st: &mut Store, f: Fid, a: Id, b: Id) -> Result<List<(u64, Id)>, Al
     requires left { IsId st.old a }
     requires right { IsId st.old b }
     requires field { f < 18 }
-    requires first { top st.old a ≡ f }
+    requires first { root_field st.old a ≡ f }
     requires split { IsSplit st.old f a }
     ensures grows { Grows st.old st.new }
     ensures parts { IfOk result (λ ps. AreChoices st.new f ps) }
-    ensures ok { IfOk result (λ ps. (v : ℕ) (pk : Items ℕ) → IsWhole pk → look st.new (child_at 0 ps v) pk ≡ seq_leaf (look st.old (sub st.old f v a) pk) (look st.old b) pk) }
+    ensures ok { IfOk result (λ ps. (v : ℕ) (pk : Items ℕ) → IsWhole pk → look st.new (child_at 0 ps v) pk ≡ seq_leaf (look st.old (cofactor st.old f v a) pk) (look st.old b) pk) }
 {
     let max = st.max(f);
     let mut parts = List::new(st.alloc());

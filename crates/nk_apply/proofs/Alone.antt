@@ -1,13 +1,13 @@
 -- Many diagrams together of which all but one drop each packet.
 use Rattle.std.proofs.Common.{◌≡◌, ℕ, ◌+◌, ◌<◌, List, length, sym, ◌∙◌, ap, subst, arith, get_or}
-use Rattle.nk_store.specs.Held.{Held, IsId, look, HasLeaves, AreTidy}
+use Rattle.nk_store.specs.StoreState.{StoreState, IsId, look, HasLeaves, AreTidy}
 use Rattle.nk_apply.specs.Leaves.{merged}
 use Rattle.nk_apply.specs.Unions.{AreIds, unions}
 use Rattle.nk_apply.proofs.Unite.{unions_halves}
 use Rattle.nk_apply.proofs.Weaves.{merged-nil}
 
 -- the leaves of one diagram more
-one_more : (st : Held) (ds : List ℕ) (i : ℕ) (pk : List ℕ) → AreTidy st →
+one_more : (st : StoreState) (ds : List ℕ) (i : ℕ) (pk : List ℕ) → AreTidy st →
     unions st ds 0 (i + 1) pk ≡ merged (unions st ds 0 i pk) (look st (get_or ds i 0) pk)
 one_more st ds i pk t =
     let at : 0 + i ≡ i = omega arith in
@@ -15,7 +15,7 @@ one_more st ds i pk t =
     ∙ ap (λ l. merged (unions st ds 0 i pk) l) (merged-nil (look st (get_or ds (0 + i) 0) pk) ∙ ap (λ k. look st (get_or ds k 0) pk) at)
 
 -- the first diagram is all of the first one
-pub first_alone : (st : Held) (ds : List ℕ) (a : ℕ) → AreIds st ds → 0 < length ds → a ≡ get_or ds 0 0 →
+pub first_alone : (st : StoreState) (ds : List ℕ) (a : ℕ) → AreIds st ds → 0 < length ds → a ≡ get_or ds 0 0 →
     HasLeaves st a (λ pk. unions st ds 0 1 pk)
 first_alone st ds a ids some e = record {
   id = subst (IsId st) (sym e) (ids 0 some);
@@ -23,7 +23,7 @@ first_alone st ds a ids some e = record {
 }
 
 -- the first ones together with one diagram more are one more of the first ones
-pub next_alone : (st : Held) (ds : List ℕ) (i a b r : ℕ) → AreTidy st → HasLeaves st a (λ pk. unions st ds 0 i pk) →
+pub next_alone : (st : StoreState) (ds : List ℕ) (i a b r : ℕ) → AreTidy st → HasLeaves st a (λ pk. unions st ds 0 i pk) →
     b ≡ get_or ds i 0 → HasLeaves st r (λ pk. merged (look st a pk) (look st b pk)) →
     HasLeaves st r (λ pk. unions st ds 0 (i + 1) pk)
 next_alone st ds i a b r t g e h = record {

@@ -3,10 +3,10 @@ use Rattle.std.proofs.Common.{◌≡◌, ℕ, ◌+◌, ◌<◌, ◌≤◌, min, 
 use Rattle.std.proofs.lemmas.Bool.Decides.{leb_tells}
 use Rattle.nk_store.specs.declared.node.Out.{Out}
 use Rattle.nk_store.specs.Nodes.{child_at, Rises, Each}
-use Rattle.nk_store.specs.Held.{Held, IsId, look, Grows, IsWhole, IsChild, AreParts}
+use Rattle.nk_store.specs.StoreState.{StoreState, IsId, look, Grows, IsWhole, IsChild, AreParts}
 use Rattle.nk_store.proofs.Looks.{each_child, each_weaker}
 use Rattle.nk_store.proofs.Same.{child-first, child-rest}
-use Rattle.nk_apply.specs.Subs.{sub_node, sub, IsPart, IsSplit}
+use Rattle.nk_apply.specs.Cofactors.{cofactor_of_node, cofactor, IsPart, IsSplit}
 use Rattle.nk_apply.proofs.Parts.{child_past}
 
 -- ends rise strictly from low, and the next value is to
@@ -52,26 +52,26 @@ some_ends to v [] h l = omega (arith, h)
 some_ends to v (p ∷ ps) h l = omega arith
 
 -- a child stays one in a store that grew
-pub child_grows : (old new : Held) (f c : ℕ) → Grows old new → IsChild old f c → IsChild new f c
-child_grows old new f c g k = record { id = g.ids c k.id; later = subst (λ t. f < t) (sym (g.tops c k.id)) k.later }
+pub child_grows : (old new : StoreState) (f c : ℕ) → Grows old new → IsChild old f c → IsChild new f c
+child_grows old new f c g k = record { id = g.ids c k.id; later = subst (λ t. f < t) (sym (g.root_fields c k.id)) k.later }
 
 -- what a diagram is at a value stays in a store that grew
-pub sub_grows : (old new : Held) (f v d : ℕ) → Grows old new → IsId old d → sub new f v d ≡ sub old f v d
-unfolding sub
-sub_grows old new f v d g i = ap (λ n. sub_node n f v d) (g.nodes d i)
+pub cofactor_grows : (old new : StoreState) (f v d : ℕ) → Grows old new → IsId old d → cofactor new f v d ≡ cofactor old f v d
+unfolding cofactor
+cofactor_grows old new f v d g i = ap (λ n. cofactor_of_node n f v d) (g.nodes d i)
 
 -- parts that serve the values below to: at the value v of f, what R v gives
-pub record Built (R : ℕ → List ℕ → List Out) (st : Held) (f to : ℕ) (ps : List (ℕ × ℕ)) : Type 0 where
+pub record Built (R : ℕ → List ℕ → List Out) (st : StoreState) (f to : ℕ) (ps : List (ℕ × ℕ)) : Type 0 where
   pub ends : Ends to 0 ps
   pub children : Each (IsChild st f) ps
   pub leaf : (v : ℕ) (pk : List ℕ) → IsWhole pk → v < to → look st (child_at 0 ps v) pk ≡ R v pk
 
 -- no part serves no value
-pub built_none : (R : ℕ → List ℕ → List Out) (st : Held) (f : ℕ) → Built R st f 0 []
+pub built_none : (R : ℕ → List ℕ → List Out) (st : StoreState) (f : ℕ) → Built R st f 0 []
 built_none R st f = record { ends = refl; children = tt; leaf = λ v pk w l. absurd (omega arith) }
 
 -- one part more, which serves the values up to e
-pub built_push : (R : ℕ → List ℕ → List Out) (st new : Held) (f from : ℕ) (ps : List (ℕ × ℕ)) (d e : ℕ) →
+pub built_push : (R : ℕ → List ℕ → List Out) (st new : StoreState) (f from : ℕ) (ps : List (ℕ × ℕ)) (d e : ℕ) →
     Built R st f from ps → Grows st new → from ≤ e → IsChild new f d →
     ((v : ℕ) (pk : List ℕ) → IsWhole pk → from ≤ v → v ≤ e → look new d pk ≡ R v pk) →
     Built R new f (e + 1) (ps ++ (e, d) ∷ [])
@@ -90,13 +90,13 @@ built_push R st new f from ps d e built h low child serves =
     }
 
 -- parts that serve all values of the field
-pub built_parts : (R : ℕ → List ℕ → List Out) (st : Held) (f e : ℕ) (ps : List (ℕ × ℕ)) →
+pub built_parts : (R : ℕ → List ℕ → List Out) (st : StoreState) (f e : ℕ) (ps : List (ℕ × ℕ)) →
     Built R st f (e + 1) ps → f < 18 → e ≡ get_or st.maxes f 0 → AreParts st f ps
 built_parts R st f e ps built h is =
     record { field = h; rise = subst (λ m. Rises m 0 ps) is (ends_rise e 0 ps built.ends); children = built.children }
 
 -- parts that serve the values up to e serve each value, if those past e count as e
-pub built_leaf : (R : ℕ → List ℕ → List Out) (st : Held) (f e : ℕ) (ps : List (ℕ × ℕ)) →
+pub built_leaf : (R : ℕ → List ℕ → List Out) (st : StoreState) (f e : ℕ) (ps : List (ℕ × ℕ)) →
     Built R st f (e + 1) ps → ((v : ℕ) (pk : List ℕ) → e ≤ v → R v pk ≡ R e pk) → (v : ℕ) (pk : List ℕ) →
     IsWhole pk → look st (child_at 0 ps v) pk ≡ R v pk
 built_leaf R st f e ps built past v pk w =
@@ -108,13 +108,13 @@ built_leaf R st f e ps built past v pk w =
     ]
 
 -- a part's diagram, in the store of the beginning
-pub part_old : (old st : Held) (f d from v : ℕ) (p : ℕ × ℕ) (pk : List ℕ) → Grows old st → IsId old d →
-    IsSplit old f d → IsPart st f d from p → from ≤ v → v ≤ p.0 → look st p.1 pk ≡ look old (sub old f v d) pk
+pub part_old : (old st : StoreState) (f d from v : ℕ) (p : ℕ × ℕ) (pk : List ℕ) → Grows old st → IsId old d →
+    IsSplit old f d → IsPart st f d from p → from ≤ v → v ≤ p.0 → look st p.1 pk ≡ look old (cofactor old f v d) pk
 part_old old st f d from v p pk g i s part l m =
-    ap (λ k. look st k pk) (sym (part.same v l m) ∙ sub_grows old st f v d g i) ∙ g.leaves (sub old f v d) pk (s.child v).id
+    ap (λ k. look st k pk) (sym (part.same v l m) ∙ cofactor_grows old st f v d g i) ∙ g.leaves (cofactor old f v d) pk (s.child v).id
 
 -- where the end is not the highest value there is a next one
-pub end_within : (old st : Held) (f d v e high : ℕ) (p q : ℕ × ℕ) → IsPart st f d v p → e ≡ min p.0 q.0 →
+pub end_within : (old st : StoreState) (f d v e high : ℕ) (p q : ℕ × ℕ) → IsPart st f d v p → e ≡ min p.0 q.0 →
     Grows old st → high ≡ get_or old.maxes f 0 → (e ≡ high → ⊥) → e + 1 ≤ high
 end_within old st f d v e high p q part is g h n =
     let m : get_or st.maxes f 0 ≡ high = ap (λ ms. get_or ms f 0) g.maxes ∙ sym h in

@@ -26,7 +26,7 @@ has_front [] ys o h = absurd h
 has_front (x ∷ xs) ys o (inl e) = inl e
 has_front (x ∷ xs) ys o (inr h) = inr (has_front xs ys o h)
 
--- and behind them
+-- and after them
 pub has_back : (xs ys : List Out) (o : Out) → Has ys o → Has (xs ++ ys) o
 has_back [] ys o h = h
 has_back (x ∷ xs) ys o h = inr (has_back xs ys o h)

@@ -4,7 +4,7 @@ use Rattle.std.proofs.lemmas.List.{drop_more, drop_all}
 use Rattle.nk_field.specs.Act.{applied}
 use Rattle.nk_store.specs.declared.node.Out.{Out}
 use Rattle.nk_store.specs.Leaves.{Strict}
-use Rattle.nk_store.specs.Held.{Held, IsId, look, Grows, HasLeaves}
+use Rattle.nk_store.specs.StoreState.{StoreState, IsId, look, Grows, HasLeaves}
 use Rattle.nk_apply.specs.Leaves.{merged, gathered}
 use Rattle.nk_apply.specs.Seqs.{prefixed, seq_leaf, outs_of, no_out, out_made}
 use Rattle.nk_apply.specs.Unions.{over_places}
@@ -44,7 +44,7 @@ places_gathered G os e from (suc n) l =
     ∙ ap (λ xs. gathered G xs) (sym (drop_more os from e (omega (arith, l))))
 
 -- both halves together
-pub halves_made : (F : List ℕ → ℕ → List Out) (s1 s2 s3 : Held) (from middle to left right new : ℕ) →
+pub halves_made : (F : List ℕ → ℕ → List Out) (s1 s2 s3 : StoreState) (from middle to left right new : ℕ) →
     ((pk : List ℕ) (k : ℕ) → Strict (F pk k)) → from ≤ middle → middle ≤ to → Grows s1 s2 →
     HasLeaves s1 left (λ pk. over_places (F pk) from (middle - from)) →
     HasLeaves s2 right (λ pk. over_places (F pk) middle (to - middle)) →
@@ -61,7 +61,7 @@ halves_made F s1 s2 s3 from middle to left right new s a b h gl gr gn = record {
 }
 
 -- a single place
-pub one_made : (F : List ℕ → ℕ → List Out) (st : Held) (from n d : ℕ) → n ≡ 1 → HasLeaves st d (λ pk. F pk from) →
+pub one_made : (F : List ℕ → ℕ → List Out) (st : StoreState) (from n d : ℕ) → n ≡ 1 → HasLeaves st d (λ pk. F pk from) →
     HasLeaves st d (λ pk. over_places (F pk) from n)
 one_made F st from n d e h = record { id = h.id; leaf = λ pk w. h.leaf pk w ∙ sym (merged-nil (F pk from)) ∙ ap (λ m. over_places (F pk) from m) (sym e) }
 
@@ -70,12 +70,12 @@ pub out_strict : (outs : List Out) (B : List ℕ → List Out) (pk : List ℕ) (
 out_strict outs B pk k = prefixed_strict (get_or outs k no_out).act (B (applied (get_or outs k no_out).act pk))
 
 -- a place among the outs is one in a store that grew
-pub outs_within : (old new : Held) (a n : ℕ) → Grows old new → IsId old a → n ≤ length (outs_of old a) →
+pub outs_within : (old new : StoreState) (a n : ℕ) → Grows old new → IsId old a → n ≤ length (outs_of old a) →
     n ≤ length (outs_of new a)
 outs_within old new a n g i l = subst (λ os. n ≤ length os) (sym (outs_grow old new a g i)) l
 
 -- what it makes of some outs is the same in a store that grew
-pub outs_made_grown : (old st new : Held) (a b from n d : ℕ) → Grows old st → IsId old a → IsId old b →
+pub outs_made_grown : (old st new : StoreState) (a b from n d : ℕ) → Grows old st → IsId old a → IsId old b →
     HasLeaves new d (λ pk. over_places (out_made (outs_of st a) (look st b) pk) from n) →
     HasLeaves new d (λ pk. over_places (out_made (outs_of old a) (look old b) pk) from n)
 outs_made_grown old st new a b from n d g ia ib h =
@@ -83,7 +83,7 @@ outs_made_grown old st new a b from n d g ia ib h =
     (subst (λ B. HasLeaves new d (λ pk. over_places (out_made (outs_of st a) B pk) from n)) (same_looks old st b g ib) h)
 
 -- what it makes of all outs is the sequence
-pub outs_made_all : (old st : Held) (a b n d : ℕ) → n ≡ length (outs_of old a) →
+pub outs_made_all : (old st : StoreState) (a b n d : ℕ) → n ≡ length (outs_of old a) →
     ((pk : List ℕ) → look old a pk ≡ outs_of old a) →
     HasLeaves st d (λ pk. over_places (out_made (outs_of old a) (look old b) pk) 0 n) →
     HasLeaves st d (λ pk. seq_leaf (look old a pk) (look old b) pk)
@@ -95,7 +95,7 @@ outs_made_all old st a b n d is leaf h = record {
 }
 
 -- of no out it makes nothing
-pub no_outs_made : (old st : Held) (a b d : ℕ) → length (outs_of old a) ≡ 0 →
+pub no_outs_made : (old st : StoreState) (a b d : ℕ) → length (outs_of old a) ≡ 0 →
     ((pk : List ℕ) → look old a pk ≡ outs_of old a) → HasLeaves st d (λ pk. []) →
     HasLeaves st d (λ pk. seq_leaf (look old a pk) (look old b) pk)
 no_outs_made old st a b d none leaf h = record { id = h.id; leaf = λ pk w. h.leaf pk w ∙ ap (λ os. seq_leaf os (look old b) pk) (sym (leaf pk ∙ no_items (outs_of old a) none)) }

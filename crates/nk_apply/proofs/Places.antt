@@ -4,7 +4,7 @@ use Rattle.std.proofs.lemmas.Bool.Decides.{nat_tests}
 use Rattle.std.proofs.lemmas.List.{get_or_default}
 use Rattle.std.specs.List.Sorted.{IsNonDecreasingBy}
 use Rattle.nk_store.specs.Nodes.{Rises}
-use Rattle.nk_apply.specs.Subs.{found_in}
+use Rattle.nk_apply.specs.Cofactors.{found_in}
 use Rattle.nk_apply.proofs.Parts.{found-first, found-rest}
 
 -- each end is at or past the value that the parts begin with
@@ -47,10 +47,10 @@ next_found high v i ps e d r l b m =
     place_found v (suc i) ps e d l (λ k n. omega (arith, b, ends_ordered high 0 ps r k i d (omega (arith, n)) (omega (arith, l)))) m
 
 -- the same, by a test of the end before it
-pub found_behind : (high v i : ℕ) (ps : List (ℕ × ℕ)) (x y e : ℕ × ℕ) → Rises high 0 ps → i ≢ 0 → i < length ps →
+pub found_after : (high v i : ℕ) (ps : List (ℕ × ℕ)) (x y e : ℕ × ℕ) → Rises high 0 ps → i ≢ 0 → i < length ps →
     nat_lt (get_or ps (i - 1) x).0 v ≡ true → v ≤ (get_or ps i y).0 → get_or ps i e ≡ found_in (0, 0) ps v
-found_behind high v zero ps x y e r n l t u = absurd (n refl)
-found_behind high v (suc i) ps x y e r n l t u =
+found_after high v zero ps x y e r n l t u = absurd (n refl)
+found_after high v (suc i) ps x y e r n l t u =
     let before : (get_or ps i x).0 < v = grind (arith, nat_tests, t) in
     next_found high v i ps (0, 0) e r l
     (subst (λ (p : ℕ × ℕ). p.0 < v) (get_or_default ps i x e (omega (arith, l))) before)

@@ -4,11 +4,11 @@ use Rattle.std.proofs.lemmas.List.{length-set}
 use Rattle.nk_field.specs.Act.{applied}
 use Rattle.nk_store.specs.declared.node.Out.{Out}
 use Rattle.nk_store.specs.Leaves.{Every}
-use Rattle.nk_store.specs.Held.{Held, IsWhole, look, HasLeaves}
+use Rattle.nk_store.specs.StoreState.{StoreState, IsWhole, look, HasLeaves}
 use Rattle.nk_apply.specs.Leaves.{merged, guarded, absent, out_to, aimed}
 use Rattle.nk_apply.specs.Seqs.{out_after, prefixed, seq_leaf, no_out}
 use Rattle.nk_apply.specs.Unions.{unions}
-use Rattle.nk_apply.specs.Predicates.{IsPass, IsPredicate, Ends}
+use Rattle.nk_apply.specs.Predicates.{IsPass, IsPredicate, HasOnlyFinals}
 use Rattle.nk_apply.proofs.Sorted.{merged_every}
 
 -- a leaf with a first out that passes is the packet itself alone
@@ -44,14 +44,14 @@ pub pass_seq : (a : List Out) (B : List ℕ → List Out) (pk : List ℕ) → Is
     ((pk : List ℕ) → IsWhole pk → IsPass (B pk)) → IsPass (seq_leaf a B pk)
 pass_seq [] B pk w p q = tt
 pass_seq (x ∷ xs) B pk w p q =
-    subst (λ y. IsPass (seq_leaf y B pk)) (sym (only x xs p)) (behind (B pk) (q pk w))
+    subst (λ y. IsPass (seq_leaf y B pk)) (sym (only x xs p)) (following (B pk) (q pk w))
   where
-    behind : (os : List Out) → IsPass os → IsPass (merged (prefixed [] os) [])
-    behind [] q = tt
-    behind (o ∷ os) q = subst (λ y. IsPass (merged (prefixed [] y) [])) (sym (only o os q)) (refl, refl)
+    following : (os : List Out) → IsPass os → IsPass (merged (prefixed [] os) [])
+    following [] q = tt
+    following (o ∷ os) q = subst (λ y. IsPass (merged (prefixed [] y) [])) (sym (only o os q)) (refl, refl)
 
 -- many that pass, together
-pub pass_unions : (st : Held) (ds : List ℕ) (from n : ℕ) (pk : List ℕ) →
+pub pass_unions : (st : StoreState) (ds : List ℕ) (from n : ℕ) (pk : List ℕ) →
     ((k : ℕ) → from ≤ k → k < from + n → IsPass (look st (get_or ds k 0) pk)) → IsPass (unions st ds from n pk)
 pass_unions st ds from zero pk p = tt
 pass_unions st ds from (suc n) pk p =
@@ -59,13 +59,13 @@ pass_unions st ds from (suc n) pk p =
     (pass_unions st ds (from + 1) n pk (λ k l m. p k (omega (arith, l)) (omega (arith, m))))
 
 -- all that pass, together
-pub pass_all : (st : Held) (ds : List ℕ) (pk : List ℕ) →
+pub pass_all : (st : StoreState) (ds : List ℕ) (pk : List ℕ) →
     ((k : ℕ) → k < length ds → IsPass (look st (get_or ds k 0) pk)) →
     IsPass (unions st ds 0 (length ds) pk)
 pass_all st ds pk p = pass_unions st ds 0 (length ds) pk (λ k l m. p k (omega (arith, m)))
 
 -- a predicate by its leaves
-pub predicate_by : (st : Held) (d : ℕ) (F : List ℕ → List Out) → HasLeaves st d F →
+pub predicate_by : (st : StoreState) (d : ℕ) (F : List ℕ → List Out) → HasLeaves st d F →
     ((pk : List ℕ) → IsWhole pk → IsPass (F pk)) → IsPredicate st d
 predicate_by st d F h p = λ pk w. subst IsPass (sym (h.leaf pk w)) (p pk w)
 
@@ -79,7 +79,7 @@ whole_applied [] pk w = w
 whole_applied (s ∷ ss) pk w = whole_applied ss (set pk s.0 s.1) (whole_set pk s.0 s.1 w)
 
 -- outs that end, by their leaves
-pub ends_by : (st : Held) (d : ℕ) (F : List ℕ → List Out) → HasLeaves st d F → Ends F → Ends (look st d)
+pub ends_by : (st : StoreState) (d : ℕ) (F : List ℕ → List Out) → HasLeaves st d F → HasOnlyFinals F → HasOnlyFinals (look st d)
 ends_by st d F h e = λ pk w. subst (Every (λ o. o.target ≡ 0)) (sym (h.leaf pk w)) (e pk w)
 
 -- both together end
@@ -99,7 +99,7 @@ ends_prefixed g [] e = tt
 ends_prefixed g (o ∷ os) e = ends_merged (out_after g o ∷ []) (prefixed g os) (e.0, tt) (ends_prefixed g os e.1)
 
 -- a sequence ends as its second diagram does
-pub ends_seq : (a : List Out) (B : List ℕ → List Out) (pk : List ℕ) → IsWhole pk → Ends B →
+pub ends_seq : (a : List Out) (B : List ℕ → List Out) (pk : List ℕ) → IsWhole pk → HasOnlyFinals B →
     Every (λ o. o.target ≡ 0) (seq_leaf a B pk)
 ends_seq [] B pk w e = tt
 ends_seq (o ∷ os) B pk w e =

@@ -6,7 +6,7 @@ use Rattle.nk_store.specs.declared.node.Node.{Node}
 use Rattle.nk_store.specs.declared.node.Node.TheVariants.{Leaf}
 use Rattle.std.specs.declared.cmp.Ordering.TheVariants.{Less}
 use Rattle.nk_store.specs.Leaves.{Every, Strict, out_cmp}
-use Rattle.nk_store.specs.Held.{Held, IsId, look, HasLeaves, IsNodeOf, AreTidy, Grows}
+use Rattle.nk_store.specs.StoreState.{StoreState, IsId, look, HasLeaves, IsNodeOf, AreTidy, Grows}
 use Rattle.nk_apply.specs.Leaves.{merged, guarded}
 use Rattle.nk_apply.specs.Seqs.{prefixed}
 use Rattle.nk_apply.proofs.Sorted.{weave-at, merged_strict}
@@ -27,17 +27,17 @@ prefixed_none (o ∷ os) s = ap (λ zs. merged (o ∷ []) zs) (prefixed_none os 
     before o (y ∷ ys) e = weave-at Less o y [] ys (merged []) e.0
 
 -- a diagram together with itself
-pub united_same : (st : Held) (a b : ℕ) → IsId st a → AreTidy st → a ≡ b →
+pub united_same : (st : StoreState) (a b : ℕ) → IsId st a → AreTidy st → a ≡ b →
     HasLeaves st a (λ pk. merged (look st a pk) (look st b pk))
 united_same st a b ia t e = record { id = ia; leaf = λ pk w. sym (merged_same (look st a pk) ((t a).sorted pk)) ∙ ap (λ k. merged (look st a pk) (look st k pk)) e }
 
 -- a diagram together with one that drops each packet
-pub united_left : (st : Held) (a b : ℕ) → IsId st a → ((pk : List ℕ) → look st b pk ≡ []) →
+pub united_left : (st : StoreState) (a b : ℕ) → IsId st a → ((pk : List ℕ) → look st b pk ≡ []) →
     HasLeaves st a (λ pk. merged (look st a pk) (look st b pk))
 united_left st a b ia e = record { id = ia; leaf = λ pk w. sym (ap (λ y. merged (look st a pk) y) (e pk) ∙ merged-nil (look st a pk)) }
 
 -- a diagram together with the one that drops each packet
-pub beside_none : (st : Held) (none x y : ℕ) → IsId st x → HasLeaves st none (λ pk. []) → y ≡ none →
+pub beside_none : (st : StoreState) (none x y : ℕ) → IsId st x → HasLeaves st none (λ pk. []) → y ≡ none →
     HasLeaves st x (λ pk. merged (look st x pk) (look st y pk))
 beside_none st none x y ix h is = record {
   id = ix;
@@ -45,7 +45,7 @@ beside_none st none x y ix h is = record {
 }
 
 -- the one that drops each packet together with a diagram
-pub none_beside : (st : Held) (none x y : ℕ) → IsId st y → HasLeaves st none (λ pk. []) → x ≡ none →
+pub none_beside : (st : StoreState) (none x y : ℕ) → IsId st y → HasLeaves st none (λ pk. []) → x ≡ none →
     HasLeaves st y (λ pk. merged (look st x pk) (look st y pk))
 none_beside st none x y iy h is = record {
   id = iy;
@@ -53,11 +53,11 @@ none_beside st none x y iy h is = record {
 }
 
 -- a diagram keeps its leaves in a store that grew
-pub leaves_grown : (old new : Held) (d : ℕ) (F : List ℕ → List Out) → Grows old new → HasLeaves old d F → HasLeaves new d F
+pub leaves_grown : (old new : StoreState) (d : ℕ) (F : List ℕ → List Out) → Grows old new → HasLeaves old d F → HasLeaves new d F
 leaves_grown old new d F g h = record { id = g.ids d h.id; leaf = λ pk w. g.leaves d pk h.id ∙ h.leaf pk w }
 
 -- nothing where a leaf without an out is not empty
-pub guarded_nothing : (st : Held) (a b : ℕ) (n : Node) (outs : List Out) → IsId st a → IsNodeOf st a n →
+pub guarded_nothing : (st : StoreState) (a b : ℕ) (n : Node) (outs : List Out) → IsId st a → IsNodeOf st a n →
     n ≡ Leaf outs → outs ≡ [] → HasLeaves st a (λ pk. guarded (look st a pk) (look st b pk))
 guarded_nothing st a b n outs ia k is e = record {
   id = ia;
@@ -72,6 +72,6 @@ no_items [] e = refl
 no_items (x ∷ xs) e = absurd (omega (arith, e))
 
 -- a diagram after an act that assigns nothing
-pub after_nothing : (st : Held) (d : ℕ) (g : List (ℕ × ℕ)) → IsId st d → AreTidy st → g ≡ [] →
+pub after_nothing : (st : StoreState) (d : ℕ) (g : List (ℕ × ℕ)) → IsId st d → AreTidy st → g ≡ [] →
     HasLeaves st d (λ pk. prefixed g (look st d (applied g pk)))
 after_nothing st d g i t e = record { id = i; leaf = λ pk w. sym (ap (λ h. prefixed h (look st d (applied h pk))) e ∙ prefixed_none (look st d pk) ((t d).sorted pk)) }

@@ -2,7 +2,7 @@
 use Rattle.std.proofs.Common.{◌≡◌, ℕ, zero, suc, ◌+◌, ◌-◌, ◌<◌, ◌≤◌, min, List, length, refl, sym, ◌∙◌, ap, subst, arith, get_or, inl, inr}
 use Rattle.nk_store.specs.declared.node.Out.{Out}
 use Rattle.nk_store.specs.Leaves.{Strict}
-use Rattle.nk_store.specs.Held.{Held, IsId, look, top, Grows, HasLeaves, AreTidy}
+use Rattle.nk_store.specs.StoreState.{StoreState, IsId, look, root_field, Grows, HasLeaves, AreTidy}
 use Rattle.nk_apply.specs.Leaves.{merged}
 use Rattle.nk_apply.specs.Unions.{AreIds, AreFrom, unions}
 use Rattle.nk_apply.proofs.Sorted.{merged_strict}
@@ -27,13 +27,13 @@ merged_assoc a b c sa sb sc = strict_same (merged (merged a b) c) (merged a (mer
     ]
 
 -- many leaves together ascend strictly
-unions_strict : (st : Held) (ds : List ℕ) (from n : ℕ) (pk : List ℕ) → AreTidy st →
+unions_strict : (st : StoreState) (ds : List ℕ) (from n : ℕ) (pk : List ℕ) → AreTidy st →
     Strict (unions st ds from n pk)
 unions_strict st ds from zero pk t = tt
 unions_strict st ds from (suc n) pk t = merged_strict (look st (get_or ds from 0) pk) (unions st ds (from + 1) n pk) ((t (get_or ds from 0)).sorted pk) (unions_strict st ds (from + 1) n pk t)
 
 -- two halves together are the whole
-pub unions_halves : (st : Held) (ds : List ℕ) (from m n : ℕ) (pk : List ℕ) → AreTidy st →
+pub unions_halves : (st : StoreState) (ds : List ℕ) (from m n : ℕ) (pk : List ℕ) → AreTidy st →
     merged (unions st ds from m pk) (unions st ds (from + m) n pk) ≡ unions st ds from (m + n) pk
 unions_halves st ds from zero n pk t =
     let e : from + 0 ≡ from = omega arith in
@@ -49,7 +49,7 @@ unions_halves st ds from (suc m) n pk t =
     ∙ ap (λ k. unions st ds from k pk) (sym count)
 
 -- many leaves together stay in a store that grew
-unions_grow : (old new : Held) (ds : List ℕ) (from n : ℕ) (pk : List ℕ) → Grows old new → AreIds old ds →
+unions_grow : (old new : StoreState) (ds : List ℕ) (from n : ℕ) (pk : List ℕ) → Grows old new → AreIds old ds →
     from + n ≤ length ds → unions new ds from n pk ≡ unions old ds from n pk
 unions_grow old new ds from zero pk g ids l = refl
 unions_grow old new ds from (suc n) pk g ids l =
@@ -57,7 +57,7 @@ unions_grow old new ds from (suc n) pk g ids l =
     ∙ ap (λ y. merged (look old (get_or ds from 0) pk) y) (unions_grow old new ds (from + 1) n pk g ids (omega arith))
 
 -- both halves together
-pub halves_have_leaves : (old s1 s2 s3 : Held) (ds : List ℕ) (from middle to left right new : ℕ) →
+pub halves_have_leaves : (old s1 s2 s3 : StoreState) (ds : List ℕ) (from middle to left right new : ℕ) →
     Grows old s1 → Grows s1 s2 → AreIds old ds → AreTidy old → from ≤ middle → middle ≤ to → to ≤ length ds →
     HasLeaves s1 left (λ pk. unions old ds from (middle - from) pk) →
     HasLeaves s2 right (λ pk. unions s1 ds middle (to - middle) pk) →
@@ -75,7 +75,7 @@ halves_have_leaves old s1 s2 s3 ds from middle to left right new g h ids t a b e
 }
 
 -- a single diagram
-pub one_has_leaves : (st : Held) (ds : List ℕ) (from n d : ℕ) → n ≡ 1 → d ≡ get_or ds from 0 →
+pub one_has_leaves : (st : StoreState) (ds : List ℕ) (from n d : ℕ) → n ≡ 1 → d ≡ get_or ds from 0 →
     from < length ds → AreIds st ds → HasLeaves st d (λ pk. unions st ds from n pk)
 one_has_leaves st ds from n d is e l ids = record {
   id = subst (IsId st) (sym e) (ids from l);
@@ -83,16 +83,16 @@ one_has_leaves st ds from n d is e l ids = record {
 }
 
 -- a single diagram tests no field before those of all
-pub one_later : (st : Held) (ds : List ℕ) (from d p : ℕ) → d ≡ get_or ds from 0 → from < length ds → AreFrom st p ds →
-    p ≤ top st d
-one_later st ds from d p e l first = subst (λ k. p ≤ top st k) (sym e) (first from l)
+pub one_later : (st : StoreState) (ds : List ℕ) (from d p : ℕ) → d ≡ get_or ds from 0 → from < length ds → AreFrom st p ds →
+    p ≤ root_field st d
+one_later st ds from d p e l first = subst (λ k. p ≤ root_field st k) (sym e) (first from l)
 
 -- both halves together test no field before those of all
-pub halves_later : (old s1 s2 s3 : Held) (ds : List ℕ) (left right new p : ℕ) → Grows old s1 → Grows s1 s2 →
-    AreIds old ds → AreFrom old p ds → IsId s1 left → p ≤ top s1 left →
-    (AreFrom s1 p ds → p ≤ top s2 right) → min (top s2 left) (top s2 right) ≤ top s3 new → p ≤ top s3 new
+pub halves_later : (old s1 s2 s3 : StoreState) (ds : List ℕ) (left right new p : ℕ) → Grows old s1 → Grows s1 s2 →
+    AreIds old ds → AreFrom old p ds → IsId s1 left → p ≤ root_field s1 left →
+    (AreFrom s1 p ds → p ≤ root_field s2 right) → min (root_field s2 left) (root_field s2 right) ≤ root_field s3 new → p ≤ root_field s3 new
 halves_later old s1 s2 s3 ds left right new p g h ids first id a b u =
-    let grown : AreFrom s1 p ds = λ k l. subst (λ t. p ≤ t) (sym (g.tops (get_or ds k 0) (ids k l))) (first k l) in
+    let grown : AreFrom s1 p ds = λ k l. subst (λ t. p ≤ t) (sym (g.root_fields (get_or ds k 0) (ids k l))) (first k l) in
     let below = b grown in
-    let same : top s2 left ≡ top s1 left = h.tops left id in
+    let same : root_field s2 left ≡ root_field s1 left = h.root_fields left id in
     omega (arith, u, a, below, same)

@@ -1,4 +1,4 @@
-pub mod Subs
+pub mod Cofactors
 pub mod MadeOf
 pub mod Leaves
 pub mod Spans

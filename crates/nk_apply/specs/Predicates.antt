@@ -2,7 +2,7 @@
 use Rattle.std.specs.Prelude.{◌≡◌, ℕ, List, [], ◌∷◌}
 use Rattle.nk_store.specs.declared.node.Out.{Out}
 use Rattle.nk_store.specs.Leaves.{Every}
-use Rattle.nk_store.specs.Held.{Held, IsWhole, look}
+use Rattle.nk_store.specs.StoreState.{StoreState, IsWhole, look}
 use Rattle.nk_apply.specs.Seqs.{no_out}
 
 -- the leaf is empty, or it has the packet itself alone
@@ -11,9 +11,9 @@ IsPass [] = Unit {0}
 IsPass (o ∷ os) = (o ≡ no_out) × (os ≡ [])
 
 -- a predicate diagram: it lets a packet pass as it is, or drops it
-abbrev pub IsPredicate : Held → ℕ → Type 0
+abbrev pub IsPredicate : StoreState → ℕ → Type 0
 IsPredicate st d = (pk : List ℕ) → IsWhole pk → IsPass (look st d pk)
 
 -- each out of each leaf has target 0
-abbrev pub Ends : (List ℕ → List Out) → Type 0
-Ends D = (pk : List ℕ) → IsWhole pk → Every (λ o. o.target ≡ 0) (D pk)
+abbrev pub HasOnlyFinals : (List ℕ → List Out) → Type 0
+HasOnlyFinals D = (pk : List ℕ) → IsWhole pk → Every (λ o. o.target ≡ 0) (D pk)

@@ -5,7 +5,7 @@ use Rattle.nk_field.specs.Act.{applied}
 use Rattle.nk_store.specs.declared.node.Out.{Out}
 use Rattle.nk_store.specs.declared.node.Node.{Node}
 use Rattle.nk_store.specs.declared.node.Node.TheVariants.{Leaf, Case}
-use Rattle.nk_store.specs.Held.{Held, node_of}
+use Rattle.nk_store.specs.StoreState.{StoreState, node_of}
 
 -- the outs of a node that is a leaf
 abbrev pub node_outs : Node → List Out
@@ -13,7 +13,7 @@ node_outs (Leaf outs) = outs
 node_outs (Case f parts) = []
 
 -- the outs of a leaf
-unfoldable pub outs_of : Held → ℕ → List Out
+unfoldable pub outs_of : StoreState → ℕ → List Out
 outs_of st d = node_outs (node_of st d)
 
 -- the packet itself, to the target 0

@@ -3,22 +3,22 @@ use Rattle.std.specs.Prelude.{◌≡◌, ℕ, zero, suc, ◌+◌, ◌<◌, ◌�
 use Rattle.std.specs.List.{flat_map}
 use Rattle.nk_store.specs.declared.node.Out.{Out}
 use Rattle.nk_store.specs.Nodes.{child_at}
-use Rattle.nk_store.specs.Held.{Held, IsId, IsWhole, look, top, AreParts}
+use Rattle.nk_store.specs.StoreState.{StoreState, IsId, IsWhole, look, root_field, AreParts}
 use Rattle.nk_apply.specs.Leaves.{merged}
 use Rattle.nk_apply.specs.Seqs.{outs_of}
-use Rattle.nk_apply.specs.Subs.{sub}
+use Rattle.nk_apply.specs.Cofactors.{cofactor}
 
 -- each is a number of the store
-abbrev pub AreIds : Held → List ℕ → Type 0
+abbrev pub AreIds : StoreState → List ℕ → Type 0
 AreIds st ds = (k : ℕ) → k < length ds → IsId st (slice_index ds k)
 
 -- the leaves of n of the diagrams, from a place on, as one ascending list
-abbrev pub unions : Held → List ℕ → ℕ → ℕ → List ℕ → List Out
+abbrev pub unions : StoreState → List ℕ → ℕ → ℕ → List ℕ → List Out
 unions st ds from zero pk = []
 unions st ds from (suc n) pk = merged (look st (slice_index ds from) pk) (unions st ds (from + 1) n pk)
 
--- the outs of all these leaves, one leaf's behind the other's
-abbrev pub outs_in_turn : Held → List ℕ → List Out
+-- the outs of all these leaves, one leaf's after the other's
+abbrev pub outs_in_turn : StoreState → List ℕ → List Out
 outs_in_turn st ds = flat_map (outs_of st) ds
 
 -- what F makes of n places from one on, as one ascending list
@@ -26,29 +26,29 @@ abbrev pub over_places : (ℕ → List Out) → ℕ → ℕ → List Out
 over_places F from zero = []
 over_places F from (suc n) = merged (F from) (over_places F (from + 1) n)
 
--- what F makes of n places from one on, one's behind the other's
+-- what F makes of n places from one on, one's after the other's
 abbrev pub in_turn : (ℕ → List Out) → ℕ → ℕ → List Out
 in_turn F from zero = []
 in_turn F from (suc n) = F from ++ in_turn F (from + 1) n
 
 -- none of the diagrams tests a field before f
-abbrev pub AreFrom : Held → ℕ → List ℕ → Type 0
-AreFrom st f ds = (k : ℕ) → k < length ds → f ≤ top st (slice_index ds k)
+abbrev pub AreFrom : StoreState → ℕ → List ℕ → Type 0
+AreFrom st f ds = (k : ℕ) → k < length ds → f ≤ root_field st (slice_index ds k)
 
 -- the leaf of the diagram at place k, at the value v of f
-abbrev pub leaf_at : Held → ℕ → List ℕ → ℕ → List ℕ → ℕ → List Out
-leaf_at st f ds v pk k = look st (sub st f v (slice_index ds k)) pk
+abbrev pub cofactor_leaf : StoreState → ℕ → List ℕ → ℕ → List ℕ → ℕ → List Out
+cofactor_leaf st f ds v pk k = look st (cofactor st f v (slice_index ds k)) pk
 
 -- what each of the diagrams is at the value v of f
-abbrev pub subs : Held → ℕ → ℕ → List ℕ → List ℕ
-subs st f v ds = map (sub st f v) ds
+abbrev pub cofactors : StoreState → ℕ → ℕ → List ℕ → List ℕ
+cofactors st f v ds = map (cofactor st f v) ds
 
 -- each of the diagrams is at the values of f from v to e what it is at v
-abbrev pub AreSteady : Held → ℕ → List ℕ → ℕ → ℕ → Type 0
+abbrev pub AreSteady : StoreState → ℕ → List ℕ → ℕ → ℕ → Type 0
 AreSteady st f ds v e = (k w : ℕ) → k < length ds → v ≤ w → w ≤ e →
-    sub st f w (slice_index ds k) ≡ sub st f v (slice_index ds k)
+    cofactor st f w (slice_index ds k) ≡ cofactor st f v (slice_index ds k)
 
 -- parts by f that have at each value v the leaf R v
-pub record HaveParts (st : Held) (f : ℕ) (R : ℕ → List ℕ → List Out) (ps : List (ℕ × ℕ)) : Type 0 where
+pub record HaveParts (st : StoreState) (f : ℕ) (R : ℕ → List ℕ → List Out) (ps : List (ℕ × ℕ)) : Type 0 where
   pub parts : AreParts st f ps
   pub leaf : (v : ℕ) (pk : List ℕ) → IsWhole pk → look st (child_at 0 ps v) pk ≡ R v pk

@@ -1,6 +1,6 @@
 //! Diagrams with one leaf for all packets.
 ghost use Rattle.std.specs.Prelude.{◌≡◌, ◌∷◌, [], IfOk};
-ghost use Rattle.nk_store.specs.Held.{top, Grows, HasLeaves};
+ghost use Rattle.nk_store.specs.StoreState.{root_field, Grows, HasLeaves};
 ghost use Rattle.nk_apply.specs.Seqs.{no_out};
 ghost use Rattle.nk_apply.specs.Predicates.{IsPredicate};
 
@@ -11,7 +11,7 @@ use std::alloc::AllocError;
 pub fn identity(st: &mut Store) -> Result<Id, AllocError>
     ensures grows { Grows st.old st.new }
     ensures ok { IfOk result (λ d. HasLeaves st.new d (λ pk. no_out ∷ [])) }
-    ensures later { IfOk result (λ d. top st.new d ≡ 18) }
+    ensures later { IfOk result (λ d. root_field st.new d ≡ 18) }
     ensures predicate { IfOk result (λ d. IsPredicate st.new d) }
 {
     st.identity()
@@ -21,7 +21,7 @@ pub fn identity(st: &mut Store) -> Result<Id, AllocError>
 pub fn empty(st: &mut Store) -> Result<Id, AllocError>
     ensures grows { Grows st.old st.new }
     ensures ok { IfOk result (λ d. HasLeaves st.new d (λ pk. [])) }
-    ensures later { IfOk result (λ d. top st.new d ≡ 18) }
+    ensures later { IfOk result (λ d. root_field st.new d ≡ 18) }
     ensures predicate { IfOk result (λ d. IsPredicate st.new d) }
 {
     st.empty()

@@ -1,7 +1,7 @@
 //! The parts of many diagrams together, interval by interval, where these are few.
 ghost use Rattle.std.specs.Prelude.{◌≡◌, ◌<◌, ◌≤◌, IfOk, IfSome, length, slice_index};
-ghost use Rattle.nk_store.specs.Held.{top, Grows, HasLeaves};
-ghost use Rattle.nk_apply.specs.Unions.{AreIds, AreFrom, AreSteady, HaveParts, leaf_at, over_places, subs};
+ghost use Rattle.nk_store.specs.StoreState.{root_field, Grows, HasLeaves};
+ghost use Rattle.nk_apply.specs.Unions.{AreIds, AreFrom, AreSteady, HaveParts, cofactor_leaf, over_places, cofactors};
 
 use crate::many::union_many;
 use crate::part::part_at;
@@ -31,7 +31,7 @@ pub(crate) fn are_few(st: &Store, f: Fid, ds: &[Id]) -> bool
     true
 }
 
-/// Puts the ends of these parts behind the first so many, each once, and tells how many there are then: none where they are
+/// Puts the ends of these parts after the first so many, each once, and tells how many there are then: none where they are
 /// more than few.
 fn with_ends(ends: &mut [u64; 4], count: usize, parts: &[(u64, Id)]) -> Option<usize>
     requires { count ≤ 4 }
@@ -72,7 +72,7 @@ pub(crate) fn few_parts(st: &mut Store, f: Fid, ds: &[Id]) -> Result<List<(u64, 
     requires first { AreFrom st.old f ds.now }
     requires some { 0 < length ds.now }
     ensures grows { Grows st.old st.new }
-    ensures ok { IfOk result (HaveParts st.new f (λ v pk. over_places (leaf_at st.old f ds.now v pk) 0 (length ds.now))) }
+    ensures ok { IfOk result (HaveParts st.new f (λ v pk. over_places (cofactor_leaf st.old f ds.now v pk) 0 (length ds.now))) }
 {
     st.laws();
     let max = st.max(f);
@@ -98,7 +98,7 @@ fn interval_at(st: &Store, f: Fid, ds: &[Id], v: u64) -> Result<(u64, List<Id>),
     ensures from { IfOk result (λ p. v ≤ p.0) }
     ensures within { IfOk result (λ p. p.0 ≤ slice_index st.now.maxes f) }
     ensures steady { IfOk result (λ p. AreSteady st.now f ds.now v p.0) }
-    ensures children { IfOk result (λ p. p.1 ≡ subs st.now f v ds.now) }
+    ensures children { IfOk result (λ p. p.1 ≡ cofactors st.now f v ds.now) }
 {
     let mut end = st.max(f);
     let mut all = List::with_capacity(st.alloc(), ds.len())?;
@@ -116,10 +116,10 @@ fn union_there(st: &mut Store, f: Fid, ds: &[Id], v: u64, children: &[Id]) -> Re
     requires ids { AreIds st.old ds.now }
     requires first { AreFrom st.old f ds.now }
     requires some { 0 < length ds.now }
-    requires children { children.now ≡ subs st.old f v ds.now }
+    requires children { children.now ≡ cofactors st.old f v ds.now }
     ensures grows { Grows st.old st.new }
-    ensures ok { IfOk result (λ r. HasLeaves st.new r (λ pk. over_places (leaf_at st.old f ds.now v pk) 0 (length ds.now))) }
-    ensures later { IfOk result (λ r. f < top st.new r) }
+    ensures ok { IfOk result (λ r. HasLeaves st.new r (λ pk. over_places (cofactor_leaf st.old f ds.now v pk) 0 (length ds.now))) }
+    ensures later { IfOk result (λ r. f < root_field st.new r) }
 {
     st.laws();
     union_many(st, children)

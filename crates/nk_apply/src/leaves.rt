@@ -1,10 +1,10 @@
 //! Operations leaf by leaf.
 ghost use Rattle.std.specs.Prelude.{◌≡◌, ◌≤◌, min, ◌++◌, Some, IfOk, IfSome, OnOk, drop, length};
-ghost use Rattle.nk_store.specs.Held.{IsId, look, top, recalled, Grows, HasLeaves};
+ghost use Rattle.nk_store.specs.StoreState.{IsId, look, root_field, recalled, Grows, HasLeaves};
 ghost use Rattle.nk_store.specs.KeptAnswers.{GivesKept};
 ghost use Rattle.nk_store.specs.declared.operation.Operation.TheVariants as operations;
 ghost use Rattle.nk_apply.specs.Leaves.{merged, guarded, absent};
-ghost use Rattle.nk_apply.specs.Predicates.{IsPredicate, Ends};
+ghost use Rattle.nk_apply.specs.Predicates.{IsPredicate, HasOnlyFinals};
 
 use crate::ascending::join_sorted;
 use crate::pairs::{Join, merge, merge_anew};
@@ -134,7 +134,7 @@ pub fn union(st: &mut Store, a: Id, b: Id) -> Result<Id, AllocError>
     ensures grows { Grows st.old st.new }
     ensures ok { IfOk result (λ d. HasLeaves st.new d (λ pk. merged (look st.old a pk) (look st.old b pk))) }
     ensures predicate { IfOk result (λ d. IsPredicate st.old a → IsPredicate st.old b → IsPredicate st.new d) }
-    ensures ends { IfOk result (λ d. Ends (look st.old a) → Ends (look st.old b) → Ends (look st.new d)) }
+    ensures ends { IfOk result (λ d. HasOnlyFinals (look st.old a) → HasOnlyFinals (look st.old b) → HasOnlyFinals (look st.new d)) }
     ensures kept { IfOk result (λ d. recalled st.new operations.Union a b ≡ Some d) }
     ensures again { GivesKept st.old st.new operations.Union a b result }
 {
@@ -177,7 +177,7 @@ pub fn union_later(st: &mut Store, a: Id, b: Id) -> Result<Id, AllocError>
     requires right { IsId st.old b }
     ensures grows { Grows st.old st.new }
     ensures ok { IfOk result (λ d. HasLeaves st.new d (λ pk. merged (look st.old a pk) (look st.old b pk))) }
-    ensures later { IfOk result (λ d. min (top st.old a) (top st.old b) ≤ top st.new d) }
+    ensures later { IfOk result (λ d. min (root_field st.old a) (root_field st.old b) ≤ root_field st.new d) }
 {
     merge(st, &Together, a, b)
 }
@@ -189,7 +189,7 @@ pub fn both(st: &mut Store, pred: Id, d: Id) -> Result<Id, AllocError>
     ensures grows { Grows st.old st.new }
     ensures ok { IfOk result (λ r. HasLeaves st.new r (λ pk. guarded (look st.old pred pk) (look st.old d pk))) }
     ensures predicate { IfOk result (λ r. IsPredicate st.old d → IsPredicate st.new r) }
-    ensures ends { IfOk result (λ r. Ends (look st.old d) → Ends (look st.new r)) }
+    ensures ends { IfOk result (λ r. HasOnlyFinals (look st.old d) → HasOnlyFinals (look st.new r)) }
     ensures kept { IfOk result (λ r. recalled st.new operations.Both pred d ≡ Some r) }
     ensures again { GivesKept st.old st.new operations.Both pred d result }
 {

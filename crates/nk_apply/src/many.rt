@@ -1,6 +1,6 @@
 //! Many diagrams together: leaves at once, others by halves.
 ghost use Rattle.std.specs.Prelude.{◌≡◌, ℕ, ◌<◌, ◌≤◌, ◌-◌, ◌++◌, IfOk, OnOk, length};
-ghost use Rattle.nk_store.specs.Held.{IsId, top, Grows, HasLeaves};
+ghost use Rattle.nk_store.specs.StoreState.{IsId, root_field, Grows, HasLeaves};
 ghost use Rattle.nk_apply.specs.Seqs.{outs_of};
 ghost use Rattle.nk_apply.specs.Unions.{AreIds, AreFrom, outs_in_turn, unions};
 
@@ -10,10 +10,10 @@ use nk_field::{List, PLACES};
 use nk_store::{Id, Node, Out, Store};
 use std::alloc::AllocError;
 
-/// The place of the field that a diagram tests first, behind all fields for a leaf.
+/// The place of the field that a diagram tests first, after all fields for a leaf.
 fn first_place(st: &Store, d: Id) -> usize
     requires { IsId st.now d }
-    ensures is { result ≡ top st.now d }
+    ensures is { result ≡ root_field st.now d }
     ensures few { result ≤ 18 }
 {
     match tested(st, d) {
@@ -41,7 +41,7 @@ pub(crate) fn union_many(st: &mut Store, ds: &[Id]) -> Result<Id, AllocError>
     requires some { 0 < length ds.now }
     ensures grows { Grows st.old st.new }
     ensures ok { IfOk result (λ r. HasLeaves st.new r (λ pk. unions st.old ds.now 0 (length ds.now) pk)) }
-    ensures later { IfOk result (λ r. (p : ℕ) → p ≤ 18 → AreFrom st.old p ds.now → p ≤ top st.new r) }
+    ensures later { IfOk result (λ r. (p : ℕ) → p ≤ 18 → AreFrom st.old p ds.now → p ≤ root_field st.new r) }
 {
     if ds.len() > 2 && least_place(st, ds) == PLACES {
         return union_leaves(st, ds);
@@ -55,14 +55,14 @@ fn union_leaves(st: &mut Store, ds: &[Id]) -> Result<Id, AllocError>
     requires leaves { AreFrom st.old 18 ds.now }
     ensures grows { Grows st.old st.new }
     ensures ok { IfOk result (λ r. HasLeaves st.new r (λ pk. unions st.old ds.now 0 (length ds.now) pk)) }
-    ensures later { IfOk result (λ r. (p : ℕ) → p ≤ 18 → AreFrom st.old p ds.now → p ≤ top st.new r) }
+    ensures later { IfOk result (λ r. (p : ℕ) → p ≤ 18 → AreFrom st.old p ds.now → p ≤ root_field st.new r) }
 {
     st.laws();
     let outs = outs_of_all(st, ds)?;
     st.leaf(outs)
 }
 
-/// The outs of all these leaves, one leaf's behind the other's.
+/// The outs of all these leaves, one leaf's after the other's.
 fn outs_of_all(st: &Store, ds: &[Id]) -> Result<List<Out>, AllocError>
     requires { AreIds st.now ds.now }
     ensures { IfOk result (λ os. os ≡ outs_in_turn st.now ds.now) }
@@ -105,7 +105,7 @@ fn union_some(st: &mut Store, ds: &[Id], from: usize, to: usize) -> Result<Id, A
     requires within { to ≤ length ds.now }
     ensures grows { Grows st.old st.new }
     ensures ok { IfOk result (λ r. HasLeaves st.new r (λ pk. unions st.old ds.now from (to - from) pk)) }
-    ensures later { IfOk result (λ r. (p : ℕ) → p ≤ 18 → AreFrom st.old p ds.now → p ≤ top st.new r) }
+    ensures later { IfOk result (λ r. (p : ℕ) → p ≤ 18 → AreFrom st.old p ds.now → p ≤ root_field st.new r) }
 {
     let first = ds[from];
     let _tidy = st.view(first);

@@ -2,7 +2,7 @@
 ghost use Rattle.std.specs.Prelude.{ℕ, ◌≤◌, IfOk, List as Items};
 ghost use Rattle.nk_store.specs.declared.node.Out.{Out};
 ghost use Rattle.nk_store.specs.Leaves.{Every, Suits, AreOrdered};
-ghost use Rattle.nk_store.specs.Held.{IsId, look, top, Grows, HasLeaves};
+ghost use Rattle.nk_store.specs.StoreState.{IsId, look, root_field, Grows, HasLeaves};
 
 use crate::walks::{NodeMap, map_nodes};
 use nk_field::{List, PLACES};
@@ -59,7 +59,7 @@ pub fn map_leaves<M: LeafMap>(st: &mut Store, m: &M, d: Id) -> Result<Id, AllocE
     requires allowed { M.allowed m.now st.old.maxes }
     ensures grows { Grows st.old st.new }
     ensures ok { IfOk result (λ r. HasLeaves st.new r (λ pk. M.mapped m.now (look st.old d pk))) }
-    ensures later { IfOk result (λ r. top st.old d ≤ top st.new r) }
+    ensures later { IfOk result (λ r. root_field st.old d ≤ root_field st.new r) }
 {
     map_nodes(st, &ByLeaf { leaves: m }, d)
 }
@@ -68,10 +68,10 @@ pub fn map_leaves<M: LeafMap>(st: &mut Store, m: &M, d: Id) -> Result<Id, AllocE
 fn map_leaf<M: LeafMap>(st: &mut Store, m: &M, d: Id) -> Result<Id, AllocError>
     requires id { IsId st.old d }
     requires allowed { M.allowed m.now st.old.maxes }
-    requires leaf { 18 ≤ top st.old d }
+    requires leaf { 18 ≤ root_field st.old d }
     ensures grows { Grows st.old st.new }
     ensures ok { IfOk result (λ r. HasLeaves st.new r (λ pk. M.mapped m.now (look st.old d pk))) }
-    ensures later { IfOk result (λ r. top st.old d ≤ top st.new r) }
+    ensures later { IfOk result (λ r. root_field st.old d ≤ root_field st.new r) }
 {
     let outs = match st.view(d) {
         Node::Leaf(outs) => m.map(st.alloc(), outs.as_slice())?,

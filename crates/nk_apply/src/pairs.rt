@@ -3,8 +3,8 @@ ghost use Rattle.std.specs.Prelude.{◌≡◌, ℕ, ◌≤◌, min, IfOk, IfSome
 ghost use Rattle.nk_store.specs.declared.node.Out.{Out};
 ghost use Rattle.nk_store.specs.Nodes.{child_at};
 ghost use Rattle.nk_store.specs.Leaves.{Strict, Every, Suits};
-ghost use Rattle.nk_store.specs.Held.{IsId, look, top, Grows, HasLeaves, IsWhole, AreParts};
-ghost use Rattle.nk_apply.specs.Subs.{sub, IsFirst};
+ghost use Rattle.nk_store.specs.StoreState.{IsId, look, root_field, Grows, HasLeaves, IsWhole, AreParts};
+ghost use Rattle.nk_apply.specs.Cofactors.{cofactor, IsFirst};
 
 use crate::part::part_near;
 use nk_field::{Fid, List};
@@ -48,7 +48,7 @@ pub trait Join {
 pub fn first_field(st: &Store, a: Id, b: Id) -> Option<Fid>
     requires left { IsId st.now a }
     requires right { IsId st.now b }
-    ensures { MatchOption result ((top st.now a ≡ 18) × (top st.now b ≡ 18)) (λ f. IsFirst st.now a b f) }
+    ensures { MatchOption result ((root_field st.now a ≡ 18) × (root_field st.now b ≡ 18)) (λ f. IsFirst st.now a b f) }
 {
     match (st.view(a), st.view(b)) {
         (Node::Leaf(_), Node::Leaf(_)) => None,
@@ -65,9 +65,9 @@ pub fn merge<J: Join>(st: &mut Store, j: &J, a: Id, b: Id) -> Result<Id, AllocEr
     requires right { IsId st.old b }
     ensures grows { Grows st.old st.new }
     ensures ok { IfOk result (λ d. HasLeaves st.new d (λ pk. J.joined j.now (look st.old a pk) (look st.old b pk))) }
-    ensures later { IfOk result (λ d. min (top st.old a) (top st.old b) ≤ top st.new d) }
+    ensures later { IfOk result (λ d. min (root_field st.old a) (root_field st.old b) ≤ root_field st.new d) }
 {
-    if let Some(d) = known_top(st, j, a, b) {
+    if let Some(d) = known_root_field(st, j, a, b) {
         return Ok(d);
     }
     let d = merge_anew(st, j, a, b)?;
@@ -82,7 +82,7 @@ pub(crate) fn merge_anew<J: Join>(st: &mut Store, j: &J, a: Id, b: Id) -> Result
     requires right { IsId st.old b }
     ensures grows { Grows st.old st.new }
     ensures ok { IfOk result (λ d. HasLeaves st.new d (λ pk. J.joined j.now (look st.old a pk) (look st.old b pk))) }
-    ensures later { IfOk result (λ d. min (top st.old a) (top st.old b) ≤ top st.new d) }
+    ensures later { IfOk result (λ d. min (root_field st.old a) (root_field st.old b) ≤ root_field st.new d) }
 {
     match first_field(st, a, b) {
         None => merge_leaves(st, j, a, b),
@@ -98,18 +98,18 @@ fn merge_case<J: Join>(st: &mut Store, j: &J, f: Fid, a: Id, b: Id) -> Result<Id
     requires first { IsFirst st.old a b f }
     ensures grows { Grows st.old st.new }
     ensures ok { IfOk result (λ d. HasLeaves st.new d (λ pk. J.joined j.now (look st.old a pk) (look st.old b pk))) }
-    ensures later { IfOk result (λ d. min (top st.old a) (top st.old b) ≤ top st.new d) }
+    ensures later { IfOk result (λ d. min (root_field st.old a) (root_field st.old b) ≤ root_field st.new d) }
 {
     let parts = merge_parts(st, j, f, a, b)?;
     st.case(f, parts)
 }
 
 /// What is known of two diagrams put together; it tests no field before both.
-fn known_top<J: Join>(st: &Store, j: &J, a: Id, b: Id) -> Option<Id>
+fn known_root_field<J: Join>(st: &Store, j: &J, a: Id, b: Id) -> Option<Id>
     requires left { IsId st.now a }
     requires right { IsId st.now b }
     ensures leaves { IfSome result (λ d. HasLeaves st.now d (λ pk. J.joined j.now (look st.now a pk) (look st.now b pk))) }
-    ensures later { IfSome result (λ d. min (top st.now a) (top st.now b) ≤ top st.now d) }
+    ensures later { IfSome result (λ d. min (root_field st.now a) (root_field st.now b) ≤ root_field st.now d) }
 {
     st.laws();
     j.known(st, a, b)
@@ -119,11 +119,11 @@ fn known_top<J: Join>(st: &Store, j: &J, a: Id, b: Id) -> Option<Id>
 fn merge_leaves<J: Join>(st: &mut Store, j: &J, a: Id, b: Id) -> Result<Id, AllocError>
     requires left { IsId st.old a }
     requires right { IsId st.old b }
-    requires left_leaf { top st.old a ≡ 18 }
-    requires right_leaf { top st.old b ≡ 18 }
+    requires left_leaf { root_field st.old a ≡ 18 }
+    requires right_leaf { root_field st.old b ≡ 18 }
     ensures grows { Grows st.old st.new }
     ensures ok { IfOk result (λ d. HasLeaves st.new d (λ pk. J.joined j.now (look st.old a pk) (look st.old b pk))) }
-    ensures later { IfOk result (λ d. top st.new d ≡ 18) }
+    ensures later { IfOk result (λ d. root_field st.new d ≡ 18) }
 {
     let outs = match (st.view(a), st.view(b)) {
         (Node::Leaf(x), Node::Leaf(y)) => j.join(st.alloc(), x.as_slice(), y.as_slice())?,
@@ -146,7 +146,7 @@ fn merge_parts<J: Join>(
     requires first { IsFirst st.old a b f }
     ensures grows { Grows st.old st.new }
     ensures parts { IfOk result (λ ps. AreParts st.new f ps) }
-    ensures ok { IfOk result (λ ps. (v : ℕ) (pk : Items ℕ) → IsWhole pk → look st.new (child_at 0 ps v) pk ≡ J.joined j.now (look st.old (sub st.old f v a) pk) (look st.old (sub st.old f v b) pk)) }
+    ensures ok { IfOk result (λ ps. (v : ℕ) (pk : Items ℕ) → IsWhole pk → look st.new (child_at 0 ps v) pk ≡ J.joined j.now (look st.old (cofactor st.old f v a) pk) (look st.old (cofactor st.old f v b) pk)) }
 {
     let max = st.max(f);
     let mut parts = List::new(st.alloc());

@@ -1,8 +1,8 @@
 //! A diagram at one value of its first field.
 ghost use Rattle.std.specs.Prelude.{◌≡◌, ℕ, ◌<◌, ◌≤◌, length, true, MatchOption, slice_index, slice_index_or};
 ghost use Rattle.nk_store.specs.Nodes.{Rises};
-ghost use Rattle.nk_store.specs.Held.{IsId, top};
-ghost use Rattle.nk_apply.specs.Subs.{found_in, IsPart, IsSplit};
+ghost use Rattle.nk_store.specs.StoreState.{IsId, root_field};
+ghost use Rattle.nk_apply.specs.Cofactors.{found_in, IsPart, IsSplit};
 
 use nk_field::Fid;
 use nk_store::{Id, Node, Store};
@@ -10,7 +10,7 @@ use nk_store::{Id, Node, Store};
 /// The field that a diagram tests first; `None` for a leaf.
 pub fn tested(st: &Store, a: Id) -> Option<Fid>
     requires { IsId st.now a }
-    ensures { MatchOption result (top st.now a ≡ 18) (λ f. (f < 18) × (top st.now a ≡ f) × IsSplit st.now f a) }
+    ensures { MatchOption result (root_field st.now a ≡ 18) (λ f. (f < 18) × (root_field st.now a ≡ f) × IsSplit st.now f a) }
 {
     match st.view(a) {
         Node::Leaf(_) => None,
@@ -22,7 +22,7 @@ pub fn tested(st: &Store, a: Id) -> Option<Fid>
 /// diagram.
 pub fn part_at(st: &Store, d: Id, f: Fid, v: u64) -> (u64, Id)
     requires id { IsId st.now d }
-    requires first { f ≤ top st.now d }
+    requires first { f ≤ root_field st.now d }
     requires field { f < 18 }
     requires within { v ≤ slice_index st.now.maxes f }
     ensures { IsPart st.now f d v result }
@@ -35,7 +35,7 @@ pub fn part_at(st: &Store, d: Id, f: Fid, v: u64) -> (u64, Id)
 /// rise are found in few steps. No clause speaks of that place.
 pub fn part_near(st: &Store, d: Id, f: Fid, v: u64, near: &mut usize) -> (u64, Id)
     requires id { IsId st.now d }
-    requires first { f ≤ top st.now d }
+    requires first { f ≤ root_field st.now d }
     requires field { f < 18 }
     requires within { v ≤ slice_index st.now.maxes f }
     ensures { IsPart st.now f d v result }
@@ -68,7 +68,7 @@ pub fn found_near(parts: &[(u64, Id)], max: u64, v: u64, near: &mut usize) -> (u
 }
 
 /// The place of the first part whose end is not below the value, of parts whose ends rise to the highest value: looked for
-/// at a place, then behind it, then everywhere.
+/// at a place, then after it, then everywhere.
 fn place_near(parts: &[(u64, Id)], max: u64, v: u64, near: usize) -> usize
     requires rise { Rises max 0 parts.now }
     requires within { v ≤ max }

@@ -1,8 +1,8 @@
 //! A diagram at one value of a field.
 ghost use Rattle.std.specs.Prelude.{◌<◌, ◌≤◌, IfOk, slice_set};
 ghost use Rattle.nk_field.specs.Act.{applied};
-ghost use Rattle.nk_store.specs.Held.{IsId, look, top, Grows, HasLeaves};
-ghost use Rattle.nk_apply.specs.Predicates.{IsPredicate, Ends};
+ghost use Rattle.nk_store.specs.StoreState.{IsId, look, root_field, Grows, HasLeaves};
+ghost use Rattle.nk_apply.specs.Predicates.{IsPredicate, HasOnlyFinals};
 
 use crate::part::part_at;
 use crate::walks::{NodeMap, map_nodes};
@@ -16,9 +16,9 @@ pub fn restrict(st: &mut Store, d: Id, f: Fid, n: u64) -> Result<Id, AllocError>
     requires field { f < 18 }
     ensures grows { Grows st.old st.new }
     ensures ok { IfOk result (λ r. HasLeaves st.new r (λ pk. look st.old d (slice_set pk f n))) }
-    ensures later { IfOk result (λ r. top st.old d ≤ top st.new r) }
+    ensures later { IfOk result (λ r. root_field st.old d ≤ root_field st.new r) }
     ensures predicate { IfOk result (λ r. IsPredicate st.old d → IsPredicate st.new r) }
-    ensures ends { IfOk result (λ r. Ends (look st.old d) → Ends (look st.new r)) }
+    ensures ends { IfOk result (λ r. HasOnlyFinals (look st.old d) → HasOnlyFinals (look st.new r)) }
 {
     restricted(st, d, f, n)
 }
@@ -46,7 +46,7 @@ fn restricted(st: &mut Store, d: Id, f: Fid, n: u64) -> Result<Id, AllocError>
     requires { IsId st.old d }
     ensures grows { Grows st.old st.new }
     ensures ok { IfOk result (λ r. HasLeaves st.new r (λ pk. look st.old d (slice_set pk f n))) }
-    ensures later { IfOk result (λ r. top st.old d ≤ top st.new r) }
+    ensures later { IfOk result (λ r. root_field st.old d ≤ root_field st.new r) }
 {
     map_nodes(st, &At { field: f, value: n }, d)
 }
@@ -89,9 +89,9 @@ impl NodeMap for At {
 fn restrict_here(st: &Store, d: Id, f: Fid, n: u64) -> Id
     requires id { IsId st.now d }
     requires field { f < 18 }
-    requires first { f ≤ top st.now d }
+    requires first { f ≤ root_field st.now d }
     ensures leaves { HasLeaves st.now result (λ pk. look st.now d (slice_set pk f n)) }
-    ensures later { top st.now d ≤ top st.now result }
+    ensures later { root_field st.now d ≤ root_field st.now result }
 {
     let v = n.min(st.max(f));
     let (_, c) = part_at(st, d, f, v);

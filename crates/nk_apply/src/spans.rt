@@ -1,6 +1,6 @@
 //! Diagrams that test an interval of one field.
 ghost use Rattle.std.specs.Prelude.{◌≡◌, ◌<◌, ◌≤◌, [], ◌∷◌, cond, eqb, min, IfOk, slice_index};
-ghost use Rattle.nk_store.specs.Held.{IsChild, look, top, Grows, HasLeaves};
+ghost use Rattle.nk_store.specs.StoreState.{IsChild, look, root_field, Grows, HasLeaves};
 ghost use Rattle.nk_apply.specs.Spans.{spanned, span_list};
 ghost use Rattle.nk_apply.specs.Seqs.{no_out, in_span};
 ghost use Rattle.nk_apply.specs.Predicates.{IsPredicate};
@@ -26,7 +26,7 @@ pub fn span(
     requires outside { IsChild st.old f outside }
     ensures grows { Grows st.old st.new }
     ensures ok { IfOk result (λ d. HasLeaves st.new d (λ pk. look st.old (spanned (slice_index st.old.maxes f) lo hi inside outside (slice_index pk f)) pk)) }
-    ensures later { IfOk result (λ d. f ≤ top st.new d) }
+    ensures later { IfOk result (λ d. f ≤ root_field st.new d) }
 {
     let parts = span_parts(st.alloc(), st.max(f), lo, hi, inside, outside)?;
     st.case(f, parts)
@@ -61,7 +61,7 @@ pub fn test(st: &mut Store, f: Fid, n: u64) -> Result<Id, AllocError>
     ensures grows { Grows st.old st.new }
     ensures ok { IfOk result (λ d. HasLeaves st.new d
         (λ pk. cond (eqb (min (slice_index pk f) (slice_index st.old.maxes f)) n) (no_out ∷ []) [])) }
-    ensures later { IfOk result (λ d. f ≤ top st.new d) }
+    ensures later { IfOk result (λ d. f ≤ root_field st.new d) }
     ensures predicate { IfOk result (λ d. IsPredicate st.new d) }
 {
     at_value(st, f, n)
@@ -74,7 +74,7 @@ fn at_value(st: &mut Store, f: Fid, n: u64) -> Result<Id, AllocError>
     ensures grows { Grows st.old st.new }
     ensures ok { IfOk result (λ d. HasLeaves st.new d
         (λ pk. cond (eqb (min (slice_index pk f) (slice_index st.old.maxes f)) n) (no_out ∷ []) [])) }
-    ensures later { IfOk result (λ d. f ≤ top st.new d) }
+    ensures later { IfOk result (λ d. f ≤ root_field st.new d) }
 {
     let inside = identity(st)?;
     let outside = empty(st)?;
@@ -88,7 +88,7 @@ pub fn range(st: &mut Store, f: Fid, lo: u64, hi: u64) -> Result<Id, AllocError>
     ensures grows { Grows st.old st.new }
     ensures ok { IfOk result (λ d. HasLeaves st.new d
         (λ pk. in_span (slice_index st.old.maxes f) lo hi (slice_index pk f))) }
-    ensures later { IfOk result (λ d. f ≤ top st.new d) }
+    ensures later { IfOk result (λ d. f ≤ root_field st.new d) }
     ensures predicate { IfOk result (λ d. IsPredicate st.new d) }
 {
     in_interval(st, f, lo, hi)
@@ -100,7 +100,7 @@ fn in_interval(st: &mut Store, f: Fid, lo: u64, hi: u64) -> Result<Id, AllocErro
     ensures grows { Grows st.old st.new }
     ensures ok { IfOk result (λ d. HasLeaves st.new d
         (λ pk. in_span (slice_index st.old.maxes f) lo hi (slice_index pk f))) }
-    ensures later { IfOk result (λ d. f ≤ top st.new d) }
+    ensures later { IfOk result (λ d. f ≤ root_field st.new d) }
 {
     let end = hi.min(st.max(f));
     let outside = empty(st)?;

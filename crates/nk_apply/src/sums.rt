@@ -1,10 +1,10 @@
 //! Many diagrams together, as parts by the first field of all: one node is made of them in the end, and none before.
 ghost use Rattle.std.specs.Prelude.{◌<◌, ◌≤◌, ◌-◌, [], min, IfOk, length};
 ghost use Rattle.nk_store.specs.Nodes.{child_at};
-ghost use Rattle.nk_store.specs.Held.{IsId, look, top, Grows, HasLeaves, IsChild, AreParts};
+ghost use Rattle.nk_store.specs.StoreState.{IsId, look, root_field, Grows, HasLeaves, IsChild, AreParts};
 ghost use Rattle.nk_apply.specs.Leaves.{merged};
-ghost use Rattle.nk_apply.specs.Subs.{sub};
-ghost use Rattle.nk_apply.specs.Unions.{AreIds, AreFrom, HaveParts, leaf_at, over_places, unions};
+ghost use Rattle.nk_apply.specs.Cofactors.{cofactor};
+ghost use Rattle.nk_apply.specs.Unions.{AreIds, AreFrom, HaveParts, cofactor_leaf, over_places, unions};
 
 use crate::constants::empty;
 use crate::few::{are_few, few_parts};
@@ -35,7 +35,7 @@ fn all_parts(st: &mut Store, f: Fid, ds: &[Id]) -> Result<List<(u64, Id)>, Alloc
     requires first { AreFrom st.old f ds.now }
     requires some { 0 < length ds.now }
     ensures grows { Grows st.old st.new }
-    ensures ok { IfOk result (HaveParts st.new f (λ v pk. over_places (leaf_at st.old f ds.now v pk) 0 (length ds.now))) }
+    ensures ok { IfOk result (HaveParts st.new f (λ v pk. over_places (cofactor_leaf st.old f ds.now v pk) 0 (length ds.now))) }
 {
     if are_few(st, f, ds) {
         return few_parts(st, f, ds);
@@ -57,7 +57,7 @@ fn sum_parts(
     requires some { from < to }
     requires within { to ≤ length ds.now }
     ensures grows { Grows st.old st.new }
-    ensures ok { IfOk result (HaveParts st.new f (λ v pk. over_places (leaf_at st.old f ds.now v pk) from (to - from))) }
+    ensures ok { IfOk result (HaveParts st.new f (λ v pk. over_places (cofactor_leaf st.old f ds.now v pk) from (to - from))) }
 {
     st.laws();
     if to - from == 1 {
@@ -73,8 +73,8 @@ fn sum_parts(
 fn parts_of(st: &Store, f: Fid, d: Id) -> Result<List<(u64, Id)>, AllocError>
     requires id { IsId st.now d }
     requires field { f < 18 }
-    requires first { f ≤ top st.now d }
-    ensures { IfOk result (HaveParts st.now f (λ v pk. look st.now (sub st.now f v d) pk)) }
+    requires first { f ≤ root_field st.now d }
+    ensures { IfOk result (HaveParts st.now f (λ v pk. look st.now (cofactor st.now f v d) pk)) }
 {
     match st.view(d) {
         Node::Case(g, parts) => {
@@ -138,7 +138,7 @@ fn union_beside(st: &mut Store, none: Id, x: Id, y: Id) -> Result<Id, AllocError
     requires right { IsId st.old y }
     ensures grows { Grows st.old st.new }
     ensures ok { IfOk result (λ d. HasLeaves st.new d (λ pk. merged (look st.old x pk) (look st.old y pk))) }
-    ensures later { IfOk result (λ d. min (top st.old x) (top st.old y) ≤ top st.new d) }
+    ensures later { IfOk result (λ d. min (root_field st.old x) (root_field st.old y) ≤ root_field st.new d) }
 {
     st.laws();
     if y == none {

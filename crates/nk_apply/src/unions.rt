@@ -1,6 +1,6 @@
 //! Many diagrams together.
 ghost use Rattle.std.specs.Prelude.{ℕ, ◌<◌, IfOk, IfSome, length, slice_index};
-ghost use Rattle.nk_store.specs.Held.{Grows, HasLeaves};
+ghost use Rattle.nk_store.specs.StoreState.{Grows, HasLeaves};
 ghost use Rattle.nk_apply.specs.Unions.{AreIds, unions};
 ghost use Rattle.nk_apply.specs.Predicates.{IsPredicate};
 

@@ -3,8 +3,8 @@ ghost use Rattle.std.specs.Prelude.{◌≡◌, ℕ, ◌<◌, ◌≤◌, eqb, IfO
 ghost use Rattle.std.specs.Map.{lookup};
 ghost use Rattle.nk_store.specs.declared.node.Out.{Out};
 ghost use Rattle.nk_store.specs.Nodes.{child_at};
-ghost use Rattle.nk_store.specs.Held.{IsId, look, top, Grows, HasLeaves, IsWhole, AreParts};
-ghost use Rattle.nk_apply.specs.Subs.{sub, IsSplit};
+ghost use Rattle.nk_store.specs.StoreState.{IsId, look, root_field, Grows, HasLeaves, IsWhole, AreParts};
+ghost use Rattle.nk_apply.specs.Cofactors.{cofactor, IsSplit};
 ghost use Rattle.nk_apply.specs.MadeOf.{AreMadeOf};
 
 use crate::part::part_near;
@@ -42,16 +42,16 @@ pub trait NodeMap {
     fn laws(&self)
         ensures same { (g : ℕ) (pk : Items ℕ) → g < kept self.now → slice_index (taken self.now pk) g ≡ slice_index pk g }
         ensures least { (t : ℕ) → first self.now t ≤ t }
-        ensures behind { (g t : ℕ) → g < kept self.now → g < t → g < first self.now t };
+        ensures following { (g t : ℕ) → g < kept self.now → g < t → g < first self.now t };
 
     /// What is made of a diagram that tests none of the fields that are kept.
     fn change(&self, st: &mut Store, d: Id) -> Result<Id, AllocError>
         requires id { IsId st.old d }
         requires allowed { allowed self.now st.old.maxes }
-        requires past { kept self.now ≤ top st.old d }
+        requires past { kept self.now ≤ root_field st.old d }
         ensures grows { Grows st.old st.new }
         ensures ok { IfOk result (λ r. HasLeaves st.new r (λ pk. made self.now st.old.maxes pk (look st.old d (taken self.now pk)))) }
-        ensures later { IfOk result (λ r. first self.now (top st.old d) ≤ top st.new r) };
+        ensures later { IfOk result (λ r. first self.now (root_field st.old d) ≤ root_field st.new r) };
 }
 
 /// What is made of a diagram. Each node is visited once; no table is made where it tests none of the kept fields. The only
@@ -61,7 +61,7 @@ pub fn map_nodes<M: NodeMap>(st: &mut Store, m: &M, d: Id) -> Result<Id, AllocEr
     requires allowed { M.allowed m.now st.old.maxes }
     ensures grows { Grows st.old st.new }
     ensures ok { IfOk result (λ r. HasLeaves st.new r (λ pk. M.made m.now st.old.maxes pk (look st.old d (M.taken m.now pk)))) }
-    ensures later { IfOk result (λ r. M.first m.now (top st.old d) ≤ top st.new r) }
+    ensures later { IfOk result (λ r. M.first m.now (root_field st.old d) ≤ root_field st.new r) }
 {
     match first_before(st, d, m.place()) {
         None => m.change(st, d),
@@ -74,12 +74,12 @@ fn map_below<M: NodeMap>(st: &mut Store, m: &M, g: Fid, d: Id) -> Result<Id, All
     requires id { IsId st.old d }
     requires field { g < 18 }
     requires before { g < M.kept m.now }
-    requires first { top st.old d ≡ g }
+    requires first { root_field st.old d ≡ g }
     requires split { IsSplit st.old g d }
     requires allowed { M.allowed m.now st.old.maxes }
     ensures grows { Grows st.old st.new }
     ensures ok { IfOk result (λ r. HasLeaves st.new r (λ pk. M.made m.now st.old.maxes pk (look st.old d (M.taken m.now pk)))) }
-    ensures later { IfOk result (λ r. M.first m.now (top st.old d) ≤ top st.new r) }
+    ensures later { IfOk result (λ r. M.first m.now (root_field st.old d) ≤ root_field st.new r) }
 {
     let mut seen = HashMap::new(st.alloc());
     walk_node(st, &mut seen, m, g, d)
@@ -98,7 +98,7 @@ fn walk_once<M: NodeMap>(
     requires seen { AreMadeOf (M.taken m.now) (M.made m.now) (M.first m.now) st.old seen.old.entries }
     ensures grows { Grows st.old st.new }
     ensures ok { IfOk result (λ r. HasLeaves st.new r (λ pk. M.made m.now st.old.maxes pk (look st.old d (M.taken m.now pk)))) }
-    ensures later { IfOk result (λ r. M.first m.now (top st.old d) ≤ top st.new r) }
+    ensures later { IfOk result (λ r. M.first m.now (root_field st.old d) ≤ root_field st.new r) }
     ensures seen { OnOk result (AreMadeOf (M.taken m.now) (M.made m.now) (M.first m.now) st.new seen.new.entries) }
 {
     match first_before(st, d, m.place()) {
@@ -111,7 +111,7 @@ fn walk_once<M: NodeMap>(
 fn first_before(st: &Store, d: Id, place: usize) -> Option<Fid>
     requires id { IsId st.now d }
     requires few { place ≤ 18 }
-    ensures { MatchOption result (place ≤ top st.now d) (λ g. (g < place) × (top st.now d ≡ g) × IsSplit st.now g d) }
+    ensures { MatchOption result (place ≤ root_field st.now d) (λ g. (g < place) × (root_field st.now d ≡ g) × IsSplit st.now g d) }
 {
     match st.view(d) {
         Node::Case(g, _) => { if g.place() < place { Some(*g) } else { None } }
@@ -127,12 +127,12 @@ fn walk_end<M: NodeMap>(
     d: Id,
 ) -> Result<Id, AllocError>
     requires id { IsId st.old d }
-    requires past { M.kept m.now ≤ top st.old d }
+    requires past { M.kept m.now ≤ root_field st.old d }
     requires allowed { M.allowed m.now st.old.maxes }
     requires seen { AreMadeOf (M.taken m.now) (M.made m.now) (M.first m.now) st.old seen.old.entries }
     ensures grows { Grows st.old st.new }
     ensures ok { IfOk result (λ r. HasLeaves st.new r (λ pk. M.made m.now st.old.maxes pk (look st.old d (M.taken m.now pk)))) }
-    ensures later { IfOk result (λ r. M.first m.now (top st.old d) ≤ top st.new r) }
+    ensures later { IfOk result (λ r. M.first m.now (root_field st.old d) ≤ root_field st.new r) }
     ensures seen { OnOk result (AreMadeOf (M.taken m.now) (M.made m.now) (M.first m.now) st.new seen.new.entries) }
 {
     if m.is_quick() {
@@ -165,13 +165,13 @@ fn walk_case<M: NodeMap>(
     requires id { IsId st.old d }
     requires field { g < 18 }
     requires before { g < M.kept m.now }
-    requires first { top st.old d ≡ g }
+    requires first { root_field st.old d ≡ g }
     requires split { IsSplit st.old g d }
     requires allowed { M.allowed m.now st.old.maxes }
     requires seen { AreMadeOf (M.taken m.now) (M.made m.now) (M.first m.now) st.old seen.old.entries }
     ensures grows { Grows st.old st.new }
     ensures ok { IfOk result (λ r. HasLeaves st.new r (λ pk. M.made m.now st.old.maxes pk (look st.old d (M.taken m.now pk)))) }
-    ensures later { IfOk result (λ r. M.first m.now (top st.old d) ≤ top st.new r) }
+    ensures later { IfOk result (λ r. M.first m.now (root_field st.old d) ≤ root_field st.new r) }
     ensures seen { OnOk result (AreMadeOf (M.taken m.now) (M.made m.now) (M.first m.now) st.new seen.new.entries) }
 {
     if let Some(r) = known(seen, d) {
@@ -194,13 +194,13 @@ fn walk_node<M: NodeMap>(
     requires id { IsId st.old d }
     requires field { g < 18 }
     requires before { g < M.kept m.now }
-    requires first { top st.old d ≡ g }
+    requires first { root_field st.old d ≡ g }
     requires split { IsSplit st.old g d }
     requires allowed { M.allowed m.now st.old.maxes }
     requires seen { AreMadeOf (M.taken m.now) (M.made m.now) (M.first m.now) st.old seen.old.entries }
     ensures grows { Grows st.old st.new }
     ensures ok { IfOk result (λ r. HasLeaves st.new r (λ pk. M.made m.now st.old.maxes pk (look st.old d (M.taken m.now pk)))) }
-    ensures later { IfOk result (λ r. M.first m.now (top st.old d) ≤ top st.new r) }
+    ensures later { IfOk result (λ r. M.first m.now (root_field st.old d) ≤ root_field st.new r) }
     ensures seen { OnOk result (AreMadeOf (M.taken m.now) (M.made m.now) (M.first m.now) st.new seen.new.entries) }
 {
     m.laws();
@@ -220,13 +220,13 @@ fn walk_parts<M: NodeMap>(
     requires id { IsId st.old d }
     requires field { g < 18 }
     requires before { g < M.kept m.now }
-    requires first { top st.old d ≡ g }
+    requires first { root_field st.old d ≡ g }
     requires split { IsSplit st.old g d }
     requires allowed { M.allowed m.now st.old.maxes }
     requires seen { AreMadeOf (M.taken m.now) (M.made m.now) (M.first m.now) st.old seen.old.entries }
     ensures grows { Grows st.old st.new }
     ensures parts { IfOk result (λ ps. AreParts st.new g ps) }
-    ensures ok { IfOk result (λ ps. (v : ℕ) (pk : Items ℕ) → IsWhole pk → look st.new (child_at 0 ps v) pk ≡ M.made m.now st.old.maxes pk (look st.old (sub st.old g v d) (M.taken m.now pk))) }
+    ensures ok { IfOk result (λ ps. (v : ℕ) (pk : Items ℕ) → IsWhole pk → look st.new (child_at 0 ps v) pk ≡ M.made m.now st.old.maxes pk (look st.old (cofactor st.old g v d) (M.taken m.now pk))) }
     ensures seen { OnOk result (AreMadeOf (M.taken m.now) (M.made m.now) (M.first m.now) st.new seen.new.entries) }
 {
     m.laws();

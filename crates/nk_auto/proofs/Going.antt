@@ -3,7 +3,7 @@ use Rattle.std.proofs.Common.{true, ◌≡◌, ℕ, ◌+◌, inl, inr, ⊎_elim,
 use Rattle.nk_field.specs.Act.{applied}
 use Rattle.nk_policy.specs.Policy.{Policy, Policies, test, range, assign, seq_of, not_of, star_of, dup, link, no_part, part, is_predicate, dups_of}
 use Rattle.nk_policy.specs.Progress.{RecordsAt}
-use Rattle.nk_store.specs.Held.{Held, IsId, IsWhole, IsPacket, look, Grows, HasLeaves, AreTidy}
+use Rattle.nk_store.specs.StoreState.{StoreState, IsId, IsWhole, IsStorePacket, look, Grows, HasLeaves, AreTidy}
 use Rattle.nk_store.specs.declared.node.Out.{Out}
 use Rattle.nk_apply.specs.Leaves.{merged, guarded}
 use Rattle.nk_apply.specs.Predicates.{IsPass, IsPredicate}
@@ -16,19 +16,19 @@ use Rattle.nk_auto.proofs.Silences.{fit_before, packet_before, out_sends, dup_gi
 use Rattle.nk_auto.proofs.Ways.{predicate_records_none, gives_in_range, gives_cons, cons_gives, records_cons, cons_records, records_star, star_records, dupless_records_none}
 
 -- what goes on by a diagram goes on by it in a store that grew
-pub goes_on : (old new : Held) (p : Policy) (k : ℕ) (pk y : List ℕ) (t : ℕ) → Grows old new → IsId old k →
+pub goes_on : (old new : StoreState) (p : Policy) (k : ℕ) (pk y : List ℕ) (t : ℕ) → Grows old new → IsId old k →
     GoesOn old p k pk y t → GoesOn new p k pk y t
 goes_on old new p k pk y t g ik s =
     ⊎_elim (λ e. inl (e.0, e.1, sends_on old new k e.0 y t g ik e.2)) (λ e. inr e) s
 
 -- and it did before
-pub goes_back : (old new : Held) (p : Policy) (k : ℕ) (pk y : List ℕ) (t : ℕ) → Grows old new → IsId old k →
+pub goes_back : (old new : StoreState) (p : Policy) (k : ℕ) (pk y : List ℕ) (t : ℕ) → Grows old new → IsId old k →
     GoesOn new p k pk y t → GoesOn old p k pk y t
 goes_back old new p k pk y t g ik s =
     ⊎_elim (λ e. inl (e.0, e.1, sends_back old new k e.0 y t g ik e.2)) (λ e. inr e) s
 
 -- a continued diagram stays so in a store that grew
-pub continued_grow : (old new : Held) (d : ℕ) (p : Policy) (k : ℕ) → Grows old new → IsContinued old d p k →
+pub continued_grow : (old new : StoreState) (d : ℕ) (p : Policy) (k : ℕ) → Grows old new → IsContinued old d p k →
     IsContinued new d p k
 continued_grow old new d p k g h = record {
   id = g.ids d h.id;
@@ -41,7 +41,7 @@ continued_grow old new d p k g h = record {
 }
 
 -- a policy that never records, and then the diagram
-pub through : (st new : Held) (d k r : ℕ) (p : Policy) → AreTidy new → Grows st new → IsSilent st d p → IsId st k →
+pub through : (st new : StoreState) (d k r : ℕ) (p : Policy) → AreTidy new → Grows st new → IsSilent st d p → IsId st k →
     ((pk y : List ℕ) (t : ℕ) → RecordsAt p pk [] y t → ⊥) →
     HasLeaves new r (λ pk. seq_leaf (look st d pk) (look st k) pk) → IsContinued new r p k
 through st new d k r p tidy g a ik none h = record {
@@ -62,12 +62,12 @@ through st new d k r p tidy g a ik none h = record {
       );
 }
 
--- a member behind a guard is one behind a predicate that passes
+-- a member after a guard is one after a predicate that passes
 pub guard_has : (os ks : List Out) (o : Out) → IsPass os → Has (guarded os ks) o → Has os no_out × Has ks o
 guard_has [] ks o p h = absurd h
 guard_has (x ∷ xs) ks o p h = (inl p.0, h)
 
--- and a member behind a predicate that passes is one behind the guard
+-- and a member after a predicate that passes is one after the guard
 pub has_guard : (os ks : List Out) (x o : Out) → Has os x → Has ks o → Has (guarded os ks) o
 has_guard [] ks x o h k = absurd h
 has_guard (z ∷ zs) ks x o h k = k
@@ -78,7 +78,7 @@ guard_is [] x p h = absurd h
 guard_is (z ∷ zs) x p h = ⊎_elim (λ e. sym e ∙ p.0) (λ r. absurd (subst (λ l. Has l x) p.1 r)) h
 
 -- a predicate diagram of a policy that never records, and then the diagram
-guarded_through : (st new : Held) (d k r : ℕ) (p : Policy) → Grows st new → IsSilent st d p → IsPredicate st d → IsId st k →
+guarded_through : (st new : StoreState) (d k r : ℕ) (p : Policy) → Grows st new → IsSilent st d p → IsPredicate st d → IsId st k →
     ((pk y : List ℕ) (t : ℕ) → RecordsAt p pk [] y t → ⊥) →
     HasLeaves new r (λ pk. guarded (look st d pk) (look st k pk)) → IsContinued new r p k
 guarded_through st new d k r p g a pred ik none h = record {
@@ -110,48 +110,48 @@ guarded_through st new d k r p g a pred ik none h = record {
 }
 
 -- the test, continued
-pub test_through : (st new : Held) (d k r f n : ℕ) → Grows st new → IsSilent st d (test f n) → IsPredicate st d → IsId st k →
+pub test_through : (st new : StoreState) (d k r f n : ℕ) → Grows st new → IsSilent st d (test f n) → IsPredicate st d → IsId st k →
     HasLeaves new r (λ pk. guarded (look st d pk) (look st k pk)) → IsContinued new r (test f n) k
 test_through st new d k r f n g a pred ik h = guarded_through st new d k r (test f n) g a pred ik (λ pk y t e. e) h
 
 -- the range, continued
-pub range_through : (st new : Held) (d k r f lo hi : ℕ) → Grows st new → IsSilent st d (range f lo hi) → IsPredicate st d →
+pub range_through : (st new : StoreState) (d k r f lo hi : ℕ) → Grows st new → IsSilent st d (range f lo hi) → IsPredicate st d →
     IsId st k → HasLeaves new r (λ pk. guarded (look st d pk) (look st k pk)) → IsContinued new r (range f lo hi) k
 range_through st new d k r f lo hi g a pred ik h =
     guarded_through st new d k r (range f lo hi) g a pred ik (λ pk y t e. e) h
 
 -- the assignment, continued
-pub set_through : (st new : Held) (d k r f n : ℕ) → AreTidy new → Grows st new → IsSilent st d (assign f n) → IsId st k →
+pub set_through : (st new : StoreState) (d k r f n : ℕ) → AreTidy new → Grows st new → IsSilent st d (assign f n) → IsId st k →
     HasLeaves new r (λ pk. seq_leaf (look st d pk) (look st k) pk) → IsContinued new r (assign f n) k
 set_through st new d k r f n tidy g a ik h = through st new d k r (assign f n) tidy g a ik (λ pk y t e. e) h
 
 -- a policy without a dup, and then the diagram
-pub dupless_through : (st new : Held) (d k r : ℕ) (p : Policy) → dups_of p ≡ 0 → AreTidy new → Grows st new →
+pub dupless_through : (st new : StoreState) (d k r : ℕ) (p : Policy) → dups_of p ≡ 0 → AreTidy new → Grows st new →
     IsSilent st d p → IsId st k → HasLeaves new r (λ pk. seq_leaf (look st d pk) (look st k) pk) →
     IsContinued new r p k
 dupless_through st new d k r p none tidy g a ik h =
     through st new d k r p tidy g a ik (dupless_records_none p none) h
 
 -- a star in which no round records, continued
-pub star_through : (st new : Held) (d k r : ℕ) (p : Policy) → dups_of p ≡ 0 → AreTidy new → Grows st new →
+pub star_through : (st new : StoreState) (d k r : ℕ) (p : Policy) → dups_of p ≡ 0 → AreTidy new → Grows st new →
     IsSilent st d (star_of p) → IsId st k → HasLeaves new r (λ pk. seq_leaf (look st d pk) (look st k) pk) →
     IsContinued new r (star_of p) k
 star_through st new d k r p none tidy g a ik h =
     dupless_through st new d k r (star_of p) none tidy g a ik h
 
 -- the complement, continued
-pub not_through : (st new : Held) (d k r : ℕ) (p : Policy) → Grows st new → IsSilent st d (not_of p) → IsPredicate st d → IsId st k →
+pub not_through : (st new : StoreState) (d k r : ℕ) (p : Policy) → Grows st new → IsSilent st d (not_of p) → IsPredicate st d → IsId st k →
     HasLeaves new r (λ pk. guarded (look st d pk) (look st k pk)) → IsContinued new r (not_of p) k
 not_through st new d k r p g a pred ik h = guarded_through st new d k r (not_of p) g a pred ik (λ pk y t e. e) h
 
 -- a predicate, continued
-pub predicate_through : (st new : Held) (d k r : ℕ) (p : Policy) → is_predicate p ≡ true → Grows st new → IsSilent st d p →
+pub predicate_through : (st new : StoreState) (d k r : ℕ) (p : Policy) → is_predicate p ≡ true → Grows st new → IsSilent st d p →
     IsPredicate st d → IsId st k → HasLeaves new r (λ pk. guarded (look st d pk) (look st k pk)) → IsContinued new r p k
 predicate_through st new d k r p is g a pred ik h =
     guarded_through st new d k r p g a pred ik (λ pk y t e. predicate_records_none p is pk [] y t e) h
 
 -- the packet itself, to the target of a dup
-pub dup_continued : (st : Held) (d l k : ℕ) → HasLeaves st d (λ pk. record { act = []; target = l } ∷ []) → IsId st k →
+pub dup_continued : (st : StoreState) (d l k : ℕ) → HasLeaves st d (λ pk. record { act = []; target = l } ∷ []) → IsId st k →
     IsContinued st d (dup l) k
 dup_continued st d l k h ik = record {
   id = h.id;
@@ -174,7 +174,7 @@ dup_continued st d l k h ik = record {
 }
 
 -- nothing is left to do before the diagram
-pub unit_continued : (st : Held) (k : ℕ) → IsId st k → IsContinued st k (seq_of no_part) k
+pub unit_continued : (st : StoreState) (k : ℕ) → IsId st k → IsContinued st k (seq_of no_part) k
 unit_continued st k ik = record {
   id = ik;
   next = ik;
@@ -185,7 +185,7 @@ unit_continued st k ik = record {
 }
 
 -- one more part in front of a sequence
-pub cons_continued : (st : Held) (d m k : ℕ) (p : Policy) (ps : Policies) → IsContinued st d p m →
+pub cons_continued : (st : StoreState) (d m k : ℕ) (p : Policy) (ps : Policies) → IsContinued st d p m →
     IsContinued st m (seq_of ps) k → IsContinued st d (seq_of (part p ps)) k
 cons_continued st d m k p ps a b = record {
   id = a.id;
@@ -219,8 +219,8 @@ cons_continued st d m k p ps a b = record {
       );
 }
 
--- a dup in front of a sequence comes before all that is behind it
-pub dup_first : (st : Held) (d l m k : ℕ) (ps : Policies) → IsContinued st d (dup l) m → IsId st k →
+-- a dup in front of a sequence comes before all that is after it
+pub dup_first : (st : StoreState) (d l m k : ℕ) (ps : Policies) → IsContinued st d (dup l) m → IsId st k →
     IsContinued st d (seq_of (part (dup l) ps)) k
 dup_first st d l m k ps a ik = record {
   id = a.id;
@@ -244,7 +244,7 @@ dup_first st d l m k ps a ik = record {
 }
 
 -- the six parts of a link literal are it
-pub link_continued : (st : Held) (d k a m b n l : ℕ) →
+pub link_continued : (st : StoreState) (d k a m b n l : ℕ) →
     IsContinued st d (seq_of (part (test 0 a) (part (test 1 m) (part (dup l) (part (assign 0 b) (part (assign 1 n) (part (dup (l + 1)) no_part))))))) k →
     IsContinued st d (link a m b n l) k
 link_continued st d k a m b n l h = record {
@@ -256,7 +256,7 @@ link_continued st d k a m b n l h = record {
 }
 
 -- a link literal from its first test to its first record
-pub link_begins : (st : Held) (at_dup at_port d k old a m b n l : ℕ) → IsContinued st at_dup (dup l) old →
+pub link_begins : (st : StoreState) (at_dup at_port d k old a m b n l : ℕ) → IsContinued st at_dup (dup l) old →
     IsContinued st at_port (test 1 m) at_dup → IsContinued st d (test 0 a) at_port → IsId st k →
     IsContinued st d (link a m b n l) k
 link_begins st at_dup at_port d k old a m b n l x y z ik =
@@ -266,7 +266,7 @@ link_begins st at_dup at_port d k old a m b n l x y z ik =
     (cons_continued st at_port at_dup k (test 1 m) (part (dup l) rest) y (dup_first st at_dup l old k rest x ik)))
 
 -- and from its first record to its second one
-pub link_ends : (st : Held) (at_dup at_port d k old b n l : ℕ) → IsContinued st at_dup (dup (l + 1)) old →
+pub link_ends : (st : StoreState) (at_dup at_port d k old b n l : ℕ) → IsContinued st at_dup (dup (l + 1)) old →
     IsContinued st at_port (assign 1 n) at_dup → IsContinued st d (assign 0 b) at_port → IsId st k →
     IsContinued st d (seq_of (part (assign 0 b) (part (assign 1 n) (part (dup (l + 1)) no_part)))) k
 link_ends st at_dup at_port d k old b n l x y z ik =
@@ -274,8 +274,8 @@ link_ends st at_dup at_port d k old b n l x y z ik =
     (cons_continued st at_port at_dup k (assign 1 n) (part (dup (l + 1)) no_part) y (dup_first st at_dup (l + 1) old k no_part x ik))
 
 -- what the body, continued by nothing, does: it records first
-pub body_records : (st : Held) (nothing e : ℕ) (p : Policy) → IsContinued st e p nothing → HasLeaves st nothing (λ pk. []) →
-    IsFit st.maxes p → (z y : List ℕ) (t : ℕ) → IsPacket st z → Sends st e z y t → RecordsAt p z [] y t
+pub body_records : (st : StoreState) (nothing e : ℕ) (p : Policy) → IsContinued st e p nothing → HasLeaves st nothing (λ pk. []) →
+    IsFit st.maxes p → (z y : List ℕ) (t : ℕ) → IsStorePacket st z → Sends st e z y t → RecordsAt p z [] y t
 body_records st nothing e p first none fit z y t z_in s =
     ⊎_elim
     (λ q. absurd (dropped q.0 (gives_in_range st.maxes p fit.1 z q.0 q.1 z_in).0 q.2))
@@ -286,7 +286,7 @@ body_records st nothing e p first none fit z y t z_in s =
     dropped x w q = subst (λ os. Has os (out_of q.0 t)) (none.leaf x w) (contains_has _ _ q.1)
 
 -- rounds without a record, and then the diagram or what the body records first
-pub star_continued : (st mid new : Held) (nothing e k f both d : ℕ) (p : Policy) → AreTidy new → Grows st mid → Grows mid new →
+pub star_continued : (st mid new : StoreState) (nothing e k f both d : ℕ) (p : Policy) → AreTidy new → Grows st mid → Grows mid new →
     IsContinued st e p nothing → HasLeaves st nothing (λ pk. []) → IsSilent st f (star_of p) → IsId st k →
     HasLeaves mid both (λ pk. merged (look st k pk) (look st e pk)) →
     HasLeaves new d (λ pk. seq_leaf (look mid f pk) (look mid both) pk) → IsContinued new d (star_of p) k

@@ -1,4 +1,4 @@
--- Predicates side by side in a sequence, as one guard before what is behind them.
+-- Predicates side by side in a sequence, as one guard before what is after them.
 use Rattle.std.proofs.Common.{◌≡◌, ℕ, ◌-◌, ◌+◌, ◌<◌, ◌≤◌, inl, inr, ⊎_elim, Bool, true, false, List, [], ◌∷◌, length, refl, sym, ap, subst, ◌∙◌}
 use Rattle.std.specs.Prelude.{slice_index, ◌||◌, if◌then◌else◌}
 use Rattle.nk_field.specs.Act.{applied}
@@ -6,7 +6,7 @@ use Rattle.nk_policy.specs.Policy.{Policy, Policies, test, range, seq_of, not_of
 use Rattle.nk_policy.specs.Meaning.{Gives}
 use Rattle.nk_policy.specs.After.{has_dup, some_has_dup, after, after_all}
 use Rattle.nk_policy.proofs.Tests.{false_true, both_false}
-use Rattle.nk_store.specs.Held.{Held, IsPacket, look, Grows, HasLeaves}
+use Rattle.nk_store.specs.StoreState.{StoreState, IsStorePacket, look, Grows, HasLeaves}
 use Rattle.nk_apply.specs.Leaves.{guarded}
 use Rattle.nk_apply.specs.Predicates.{IsPass, IsPredicate}
 use Rattle.nk_apply.specs.Seqs.{no_out}
@@ -37,7 +37,7 @@ predicate_guards p is = record {
 }
 
 -- what is guarded stays so in a store that grew
-pub guarded_grow : (old new : Held) (guard rest k : ℕ) (p : Policy) → Grows old new → IsGuarded old guard rest p k →
+pub guarded_grow : (old new : StoreState) (guard rest k : ℕ) (p : Policy) → Grows old new → IsGuarded old guard rest p k →
     IsGuarded new guard rest p k
 guarded_grow old new guard rest k p g h = record {
   guard_id = g.ids guard h.guard_id;
@@ -54,7 +54,7 @@ guarded_grow old new guard rest k p g h = record {
 }
 
 -- a continued diagram, with the guard that lets each packet pass
-pub free_guarded : (st new : Held) (all rest k : ℕ) (p : Policy) → Grows st new → HasLeaves new all (λ pk. no_out ∷ []) →
+pub free_guarded : (st new : StoreState) (all rest k : ℕ) (p : Policy) → Grows st new → HasLeaves new all (λ pk. no_out ∷ []) →
     IsPredicate new all → IsContinued st rest p k → IsGuarded new all rest p k
 free_guarded st new all rest k p g h pred a =
     let here = continued_grow st new rest p k g a in
@@ -70,8 +70,8 @@ free_guarded st new all rest k p g h pred a =
           );
     }
 
--- a guard and what is behind it, as one diagram
-pub guarded_continued : (st new : Held) (guard rest r k : ℕ) (p : Policy) → Grows st new →
+-- a guard and what is after it, as one diagram
+pub guarded_continued : (st new : StoreState) (guard rest r k : ℕ) (p : Policy) → Grows st new →
     HasLeaves new r (λ pk. guarded (look st guard pk) (look st rest pk)) → IsGuarded st guard rest p k →
     IsContinued new r p k
 guarded_continued st new guard rest r k p g h b = record {
@@ -94,7 +94,7 @@ guarded_continued st new guard rest r k p g h b = record {
 }
 
 -- one more part of a sequence that never records, before the guard
-pub more_guarded : (st new : Held) (d guard rest r k : ℕ) (p : Policy) (ps : Policies) → Grows st new → NeverRecords p →
+pub more_guarded : (st new : StoreState) (d guard rest r k : ℕ) (p : Policy) (ps : Policies) → Grows st new → NeverRecords p →
     IsSilent st d p → IsPredicate st d → IsPredicate new r →
     HasLeaves new r (λ pk. guarded (look st d pk) (look st guard pk)) → IsGuarded st guard rest (seq_of ps) k →
     IsGuarded new r rest (seq_of (part p ps)) k
@@ -131,7 +131,7 @@ more_guarded st new d guard rest r k p ps g is a pred made h b = record {
       );
 }
   where
-    back : IsFit st.maxes p → IsFit st.maxes (seq_of ps) → (pk z y : List ℕ) (t : ℕ) → IsPacket new pk → Gives p pk [] z →
+    back : IsFit st.maxes p → IsFit st.maxes (seq_of ps) → (pk z y : List ℕ) (t : ℕ) → IsStorePacket new pk → Gives p pk [] z →
         GoesOn st (seq_of ps) k z y t → PassesOn new r rest pk y t
     back fit_p fit_rest pk z y t pk_in gives on =
         let before = packet_before st new pk g pk_in in
@@ -146,9 +146,9 @@ more_guarded st new d guard rest r k p ps g is a pred made h b = record {
         )
 
 -- the states stay where a part without a dup stands before the others
-pub behind_written : (st new : Held) (states later : List ℕ) (base k : ℕ) (p : Policy) (ps : Policies) → Grows st new →
+pub after_written : (st new : StoreState) (states later : List ℕ) (base k : ℕ) (p : Policy) (ps : Policies) → Grows st new →
     (NegatesPredicates p → (l : ℕ) → has_dup p l ≡ true → ⊥) → AreWritten st states later base (seq_of ps) k → AreWritten new states later base (seq_of (part p ps)) k
-behind_written st new states later base k p ps g dupless h = record {
+after_written st new states later base k p ps g dupless h = record {
   count = h.count;
   states = λ fit l from place has. by fit l from place has (has_dup p l) refl;
   others = λ l from has. let none = both_false (has_dup p l) (some_has_dup ps l) has in h.others l from none.1;

@@ -17,8 +17,8 @@ use Rattle.nk_policy.proofs.DupsOfRuns.{rest_dups}
 use Rattle.nk_policy.proofs.Remade.{marked_numbers}
 use Rattle.nk_policy.proofs.Splitting.{holds_dup}
 use Rattle.nk_policy.proofs.Uses.{assigns_from_uses}
-use Rattle.nk_store.specs.Held.{Held, IsId, look, Grows, HasLeaves}
-use Rattle.nk_store.specs.Held.{IsOver as IsStoreOver}
+use Rattle.nk_store.specs.StoreState.{StoreState, IsId, look, Grows, HasLeaves}
+use Rattle.nk_store.specs.StoreState.{IsOver as IsStoreOver}
 use Rattle.nk_apply.specs.Leaves.{merged, aimed, out_to}
 use Rattle.nk_apply.specs.Unions.{AreIds}
 use Rattle.nk_apply.proofs.Members.{Has, contains_has, has_contains, gathered_has, has_gathered}
@@ -35,11 +35,11 @@ use Rattle.nk_auto.proofs.Silences.{fit_before, packet_before}
 use Rattle.nk_auto.proofs.Stating.{no_zero, states_are}
 
 -- the runs without a record end at target 0
-pub silent_aimed : (st : Held) (d : ℕ) (p : Policy) → IsSilent st d p → IsAimed st d p 0
+pub silent_aimed : (st : StoreState) (d : ℕ) (p : Policy) → IsSilent st d p → IsAimed st d p 0
 silent_aimed st d p a = record { id = a.id; sends = a.sends }
 
 -- and at any other target, once the diagram is aimed at it
-pub aim_aimed : (st new : Held) (d r l : ℕ) (p : Policy) → Grows st new → IsSilent st d p →
+pub aim_aimed : (st new : StoreState) (d r l : ℕ) (p : Policy) → Grows st new → IsSilent st d p →
     HasLeaves new r (λ pk. aimed l (look st d pk)) → IsAimed new r p l
 aim_aimed st new d r l p g a h = record {
   id = h.id;
@@ -62,11 +62,11 @@ aim_aimed st new d r l p g a h = record {
 }
 
 -- so do legs that fit
-legs_before : (old new : Held) (legs : List (Pol × ℕ)) → Grows old new → All (IsFitLeg new.maxes) legs → All (IsFitLeg old.maxes) legs
+legs_before : (old new : StoreState) (legs : List (Pol × ℕ)) → Grows old new → All (IsFitLeg new.maxes) legs → All (IsFitLeg old.maxes) legs
 legs_before old new legs g fits = subst (λ m. All (IsFitLeg m) legs) g.maxes fits
 
 -- so does the diagram of a part
-pub part_grow : (old new : Held) (d : ℕ) (free : Policy) (legs : List (Pol × ℕ)) → Grows old new → IsOfPart old d free legs →
+pub part_grow : (old new : StoreState) (d : ℕ) (free : Policy) (legs : List (Pol × ℕ)) → Grows old new → IsOfPart old d free legs →
     IsOfPart new d free legs
 part_grow old new d free legs g h = record {
   id = g.ids d h.id;
@@ -76,7 +76,7 @@ part_grow old new d free legs g h = record {
 }
 
 -- no legs yet
-pub no_legs : (st : Held) (d : ℕ) (free : Policy) → IsAimed st d free 0 → IsOfPart st d free []
+pub no_legs : (st : StoreState) (d : ℕ) (free : Policy) → IsAimed st d free 0 → IsOfPart st d free []
 no_legs st d free a = record {
   id = a.id;
   sends = λ fit fits pk y t pk_in. (
@@ -86,7 +86,7 @@ no_legs st d free a = record {
 }
 
 -- one more leg
-pub one_more_leg : (st new : Held) (a d r : ℕ) (free : Policy) (leg : Pol × ℕ) (legs : List (Pol × ℕ)) → Grows st new →
+pub one_more_leg : (st new : StoreState) (a d r : ℕ) (free : Policy) (leg : Pol × ℕ) (legs : List (Pol × ℕ)) → Grows st new →
     IsAimed st a (tree_of leg.0) leg.1 → IsOfPart st d free legs →
     HasLeaves new r (λ pk. merged (look st a pk) (look st d pk)) → IsOfPart new r free (leg ∷ legs)
 one_more_leg st new a d r free leg legs g one more h = record {
@@ -121,7 +121,7 @@ legs_from legs i leg some within is =
     drop-cons legs (i - 1) leg lt ∙ ap (λ x. x ∷ drop (suc (i - 1)) legs) (sym is) ∙ ap (λ n. leg ∷ drop n legs) back
 
 -- the diagram of a part is that of the state whose part it is
-pub part_state : (st : Held) (d : ℕ) (made : Part) (s : Policy) → IsOfPart st d (tree_of made.free) made.legs → IsPartOfDerivative made s →
+pub part_state : (st : StoreState) (d : ℕ) (made : Part) (s : Policy) → IsOfPart st d (tree_of made.free) made.legs → IsPartOfDerivative made s →
     IsFit st.maxes (tree_of made.free) → All (IsFitLeg st.maxes) made.legs → has_dup s 0 ≡ false → IsState st d s
 part_state st d made s h is fit fits none = record {
   id = h.id;
@@ -159,14 +159,14 @@ mutual
   all_dup_free_negate (part p ps) h = (dup_free_negates p h.0, all_dup_free_negate ps h.1)
 
 -- a value of the fields is one of the store
-value_in : (st : Held) (fields : FieldTable) (f n : ℕ) → IsStoreOver fields st → IsValue fields f n → n ≤ slice_index st.maxes f
+value_in : (st : StoreState) (fields : FieldTable) (f n : ℕ) → IsStoreOver fields st → IsValue fields f n → n ≤ slice_index st.maxes f
 value_in st fields f n over v =
     let same : slice_index st.maxes f ≡ slice_index fields.maxima f =
     ap (λ m. slice_index m f) over.maxes ∙ get_or_append_left fields.maxima (replicate (18 - length fields.maxima) 0) 0 f v.0 in
     subst (λ m. n ≤ m) (sym same) v.1
 
 -- what is made of a policy over the store's fields is fit
-made_fit : (st : Held) (fields : FieldTable) (p q : Policy) → IsStoreOver fields st → IsOverFields fields p → IsBuiltOf p q →
+made_fit : (st : StoreState) (fields : FieldTable) (p q : Policy) → IsStoreOver fields st → IsOverFields fields p → IsBuiltOf p q →
     IsFit st.maxes q
 made_fit st fields p q store over m = (
   dup_free_negates q m.dup_free,
@@ -174,7 +174,7 @@ made_fit st fields p q store over m = (
 )
 
 -- so are legs
-legs_fit : (st : Held) (fields : FieldTable) (p : Policy) (legs : List (Pol × ℕ)) → IsStoreOver fields st → IsOverFields fields p →
+legs_fit : (st : StoreState) (fields : FieldTable) (p : Policy) (legs : List (Pol × ℕ)) → IsStoreOver fields st → IsOverFields fields p →
     All (IsLegOf p) legs → All (IsFitLeg st.maxes) legs
 legs_fit st fields p [] store over h = All-nil (IsFitLeg st.maxes)
 legs_fit st fields p (leg ∷ legs) store over h =
@@ -183,7 +183,7 @@ legs_fit st fields p (leg ∷ legs) store over h =
     (legs_fit st fields p legs store over (All-tail (IsLegOf p) leg legs h))
 
 -- a part of what is made of the policy is that of a state
-one_state : (st : Held) (fields : FieldTable) (d : ℕ) (made : Part) (p s : Policy) → IsStoreOver fields st → IsOverFields fields p →
+one_state : (st : StoreState) (fields : FieldTable) (d : ℕ) (made : Part) (p s : Policy) → IsStoreOver fields st → IsOverFields fields p →
     IsOfPart st d (tree_of made.free) made.legs → IsPartOfDerivative made s → IsWithin p made → has_dup s 0 ≡ false → IsState st d s
 one_state st fields d made p s store over h is within none =
     part_state st d made s h is
@@ -192,7 +192,7 @@ one_state st fields d made p s store over h is within none =
     none
 
 -- one more diagram at the end
-pub one_more_state : (st new : Held) (made : List ℕ) (es : List (ℕ × Part)) (d : ℕ) (e : ℕ × Part) → Grows st new →
+pub one_more_state : (st new : StoreState) (made : List ℕ) (es : List (ℕ × Part)) (d : ℕ) (e : ℕ × Part) → Grows st new →
     AreOfParts st made es → IsOfPart new d (tree_of e.1.free) e.1.legs → AreOfParts new (made ++ d ∷ []) (es ++ e ∷ [])
 one_more_state st new [] [] d e g a one = (one, tt)
 one_more_state st new [] (x ∷ es) d e g a one = absurd a
@@ -201,7 +201,7 @@ one_more_state st new (m ∷ made) (x ∷ es) d e g a one =
     (part_grow st new m (tree_of x.1.free) x.1.legs g a.0, one_more_state st new made es d e g a.1 one)
 
 -- as many diagrams as parts
-many_states : (st : Held) (made : List ℕ) (es : List (ℕ × Part)) (ls : List ℕ) → AreOfParts st made es → map (λ e. e.0) es ≡ ls →
+many_states : (st : StoreState) (made : List ℕ) (es : List (ℕ × Part)) (ls : List ℕ) → AreOfParts st made es → map (λ e. e.0) es ≡ ls →
     length made ≡ length ls
 many_states st [] [] ls a is = ap length is
 many_states st [] (x ∷ es) ls a is = absurd a
@@ -209,7 +209,7 @@ many_states st (m ∷ made) [] ls a is = absurd a
 many_states st (m ∷ made) (x ∷ es) ls a is = ap suc (many_states st made es (map (λ e. e.0) es) a.1 refl) ∙ ap length is
 
 -- what is left after each dup is the state of its part
-each_state : (st : Held) (fields : FieldTable) (p : Policy) → IsStoreOver fields st → IsOverFields fields p →
+each_state : (st : StoreState) (fields : FieldTable) (p : Policy) → IsStoreOver fields st → IsOverFields fields p →
     ((l : ℕ) → has_dup (after p l) 0 ≡ false) → (made : List ℕ) (es : List (ℕ × Part)) (from n : ℕ) →
     map (λ e. e.0) es ≡ range_with_len from n → AreOfParts st made es → All (λ e. IsPartOfDerivative e.1 (after p e.0)) es →
     All (λ e. IsWithin p e.1) es → (i : ℕ) → i < n → IsState st (slice_index made i) (after p (from + i))
@@ -228,7 +228,7 @@ each_state st fields p store over none (m ∷ made) (e ∷ es) from (suc n) is a
     (All-tail (λ x. IsPartOfDerivative x.1 (after p x.0)) e es parts) (All-tail (λ x. IsWithin p x.1) e es within) i (omega (arith, lt)))
 
 -- the diagrams of the parts are the automaton
-pub parts_automaton : (old st : Held) (start : ℕ) (made all : List ℕ) (parts : Parts) (p : Policy) (first : ℕ) → Grows old st →
+pub parts_automaton : (old st : StoreState) (start : ℕ) (made all : List ℕ) (parts : Parts) (p : Policy) (first : ℕ) → Grows old st →
     all ≡ start ∷ made → IsOfPart st start (tree_of parts.first.free) parts.first.legs → AreOfParts st made parts.after →
     ArePolicyParts parts p → IsDrawable old p first → IsAutomaton st all first p
 parts_automaton old st start made all parts p first g same begun rest are draw =
@@ -236,7 +236,7 @@ parts_automaton old st start made all parts p first g same begun rest are draw =
     (states_are st (start ∷ made) first p draw.numbered many
     (one_state st draw.fields start parts.first p p store draw.over begun are.first are.first.within (no_zero p p first draw.from draw.numbered (λ k. k)))
     (λ i lt.
-    subst (λ d. IsState st d (after p (first + i))) (sym (behind i))
+    subst (λ d. IsState st d (after p (first + i))) (sym (following i))
     (each_state st draw.fields p store draw.over (λ l. no_zero p (after p l) first draw.from draw.numbered (λ k. rest_dups p l 0 k)) made parts.after first (dups_of p) labels rest are.after are.within i lt)))
   where
     store : IsStoreOver draw.fields st
@@ -245,14 +245,14 @@ parts_automaton old st start made all parts p first g same begun rest are draw =
     labels : map (λ e. e.0) parts.after ≡ range_with_len first (dups_of p)
     labels = are.labels ∙ ap numbers_of (sym draw.numbered) ∙ marked_numbers p first
 
-    behind : (i : ℕ) → slice_index (start ∷ made) (1 + i) ≡ slice_index made i
-    behind i = let place : 1 + i ≡ suc i = omega arith in ap (λ n. slice_index (start ∷ made) n) place
+    following : (i : ℕ) → slice_index (start ∷ made) (1 + i) ≡ slice_index made i
+    following i = let place : 1 + i ≡ suc i = omega arith in ap (λ n. slice_index (start ∷ made) n) place
 
     many : length (start ∷ made) ≡ 1 + dups_of p
     many = ap suc (many_states st made parts.after (range_with_len first (dups_of p)) rest labels ∙ length-range_with_len first (dups_of p)) ∙ omega arith
 
 -- the diagrams of parts are of the store
-made_ids : (st : Held) (made : List ℕ) (es : List (ℕ × Part)) → AreOfParts st made es → (k : ℕ) → k < length made →
+made_ids : (st : StoreState) (made : List ℕ) (es : List (ℕ × Part)) → AreOfParts st made es → (k : ℕ) → k < length made →
     IsId st (slice_index made k)
 made_ids st [] es a k lt = absurd (omega (arith, lt))
 made_ids st (m ∷ made) [] a k lt = absurd a
@@ -260,7 +260,7 @@ made_ids st (m ∷ made) (e ∷ es) a zero lt = a.0.id
 made_ids st (m ∷ made) (e ∷ es) a (suc k) lt = made_ids st made es a.1 k (omega (arith, lt))
 
 -- so are all
-pub all_ids : (st : Held) (start : ℕ) (made all : List ℕ) (es : List (ℕ × Part)) → all ≡ start ∷ made → IsId st start →
+pub all_ids : (st : StoreState) (start : ℕ) (made all : List ℕ) (es : List (ℕ × Part)) → all ≡ start ∷ made → IsId st start →
     AreOfParts st made es → AreIds st all
 all_ids st start made all es same id a = subst (AreIds st) (sym same) ids
   where

@@ -3,8 +3,8 @@ use Rattle.std.proofs.Common.{◌≡◌, ℕ, inl, inr, List, [], ◌∷◌, ref
 use Rattle.nk_field.specs.Act.{applied, act_then}
 use Rattle.nk_store.specs.declared.node.Out.{Out}
 use Rattle.nk_store.specs.Leaves.{Every, Strict}
-use Rattle.nk_store.specs.Held.{Held, IsId, IsWhole, look, Grows, HasLeaves, AreTidy}
-use Rattle.nk_apply.specs.Predicates.{Ends}
+use Rattle.nk_store.specs.StoreState.{StoreState, IsId, IsWhole, look, Grows, HasLeaves, AreTidy}
+use Rattle.nk_apply.specs.Predicates.{HasOnlyFinals}
 use Rattle.nk_apply.specs.Seqs.{out_after, prefixed, seq_leaf, no_out}
 use Rattle.nk_apply.proofs.Members.{Has, every_has, strict_same, gathered_strict, seq_leaf_is, seq_leaf_has, has_seq_leaf}
 use Rattle.nk_apply.proofs.Predicates.{whole_applied}
@@ -51,8 +51,8 @@ all_passed_on os B pk w sorted ends passes =
     passed x wx q h = only q (subst (λ xs. Has xs q) (passes x wx) h)
 
 -- a diagram that ends is itself and then one that passes each packet
-pub ended_itself : (st new : Held) (d next passing : ℕ) → AreTidy new → Grows st new → IsId st d → IsId st next →
-    Ends (look st d) → HasLeaves new passing (λ pk. no_out ∷ []) → next ≡ passing →
+pub ended_itself : (st new : StoreState) (d next passing : ℕ) → AreTidy new → Grows st new → IsId st d → IsId st next →
+    HasOnlyFinals (look st d) → HasLeaves new passing (λ pk. no_out ∷ []) → next ≡ passing →
     HasLeaves new d (λ pk. seq_leaf (look st d pk) (look st next) pk)
 ended_itself st new d next passing tidy g id ik ends h same = record {
   id = g.ids d id;
@@ -63,7 +63,7 @@ ended_itself st new d next passing tidy g id ik ends h same = record {
 }
 
 -- a sequence, by the leaves of a store that grew since
-pub sequence_before : (st mid new : Held) (d next r : ℕ) → Grows st mid → IsId st d → IsId st next →
+pub sequence_before : (st mid new : StoreState) (d next r : ℕ) → Grows st mid → IsId st d → IsId st next →
     HasLeaves new r (λ pk. seq_leaf (look mid d pk) (look mid next) pk) →
     HasLeaves new r (λ pk. seq_leaf (look st d pk) (look st next) pk)
 sequence_before st mid new d next r g id ik h = record {

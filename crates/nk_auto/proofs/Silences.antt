@@ -11,9 +11,9 @@ use Rattle.nk_policy.proofs.Tests.{both_true, both_pass, at_most_test, at_most_f
 use Rattle.nk_store.specs.declared.node.Out.{Out}
 use Rattle.nk_store.specs.Leaves.{Every}
 use Rattle.nk_store.specs.Nodes.{InRange}
-use Rattle.nk_store.specs.Held.{Held, IsId, IsWhole, IsPacket, look, Grows, HasLeaves, AreTidy}
+use Rattle.nk_store.specs.StoreState.{StoreState, IsId, IsWhole, IsStorePacket, look, Grows, HasLeaves, AreTidy}
 use Rattle.nk_apply.specs.Leaves.{absent}
-use Rattle.nk_apply.specs.Predicates.{Ends}
+use Rattle.nk_apply.specs.Predicates.{HasOnlyFinals}
 use Rattle.nk_apply.specs.Seqs.{seq_leaf, no_out, in_span}
 use Rattle.nk_apply.proofs.Members.{Has, contains_has, has_contains, every_has}
 use Rattle.nk_apply.proofs.Predicates.{ends_by, ends_seq}
@@ -27,15 +27,15 @@ use Rattle.nk_auto.proofs.Sending.{out_of, sends_on, sends_back, seq_sends, send
 use Rattle.nk_auto.proofs.Ways.{gives_in_range, gives_cons, cons_gives, gives_round}
 
 -- a policy that suits the highest values of a store suits those of the later one, and before
-pub fit_before : (old new : Held) (p : Policy) → Grows old new → IsFit new.maxes p → IsFit old.maxes p
+pub fit_before : (old new : StoreState) (p : Policy) → Grows old new → IsFit new.maxes p → IsFit old.maxes p
 fit_before old new p g fit = subst (λ m. IsFit m p) g.maxes fit
 
 -- so does a packet
-pub packet_before : (old new : Held) (pk : List ℕ) → Grows old new → IsPacket new pk → IsPacket old pk
+pub packet_before : (old new : StoreState) (pk : List ℕ) → Grows old new → IsStorePacket new pk → IsStorePacket old pk
 packet_before old new pk g r = subst (λ m. InRange m pk) g.maxes r
 
 -- what is silent stays so in a store that grew
-pub silent_grow : (old new : Held) (d : ℕ) (p : Policy) → Grows old new → IsSilent old d p → IsSilent new d p
+pub silent_grow : (old new : StoreState) (d : ℕ) (p : Policy) → Grows old new → IsSilent old d p → IsSilent new d p
 silent_grow old new d p g h = record {
   id = g.ids d h.id;
   ends = λ pk w. subst (λ os. Every (λ o. o.target ≡ 0) os) (sym (g.leaves d pk h.id)) (h.ends pk w);
@@ -54,12 +54,12 @@ pub every_same : (P : Out → Type 0) (xs ys : List Out) → xs ≡ ys → Every
 every_same P xs ys e h = subst (Every P) (sym e) h
 
 -- where an out is read, by what the leaf is
-pub read_out : (st : Held) (d : ℕ) (F : List ℕ → List Out) (pk y : List ℕ) (t : ℕ) → HasLeaves st d F → IsWhole pk →
+pub read_out : (st : StoreState) (d : ℕ) (F : List ℕ → List Out) (pk y : List ℕ) (t : ℕ) → HasLeaves st d F → IsWhole pk →
     (s : Sends st d pk y t) → Has (F pk) (out_of s.0 t)
 read_out st d F pk y t h w s = subst (λ os. Has os (out_of s.0 t)) (h.leaf pk w) (contains_has _ _ s.1)
 
 -- where an out stands, the diagram sends
-pub out_sends : (st : Held) (d : ℕ) (F : List ℕ → List Out) (pk : List ℕ) (g : List (ℕ × ℕ)) (t : ℕ) → HasLeaves st d F →
+pub out_sends : (st : StoreState) (d : ℕ) (F : List ℕ → List Out) (pk : List ℕ) (g : List (ℕ × ℕ)) (t : ℕ) → HasLeaves st d F →
     IsWhole pk → Has (F pk) (out_of g t) → Sends st d pk (applied g pk) t
 out_sends st d F pk g t h w k = (g, has_contains _ _ (subst (λ os. Has os (out_of g t)) (sym (h.leaf pk w)) k), refl)
 
@@ -71,7 +71,7 @@ kept_out g t pk y e f =
     (sym target_is, f ∙ ap (λ h. applied h pk) (sym act_is))
 
 -- the packet where the field has the value
-pub test_silent : (st : Held) (maxes : List ℕ) (d f n : ℕ) → st.maxes ≡ maxes →
+pub test_silent : (st : StoreState) (maxes : List ℕ) (d f n : ℕ) → st.maxes ≡ maxes →
     HasLeaves st d (λ pk. cond (eqb (min (slice_index pk f) (slice_index maxes f)) n) (no_out ∷ []) []) →
     IsSilent st d (test f n)
 test_silent st maxes d f n same h = record {
@@ -92,7 +92,7 @@ test_silent st maxes d f n same h = record {
 }
 
 -- the packet where the field's value is in the range
-pub range_silent : (st : Held) (maxes : List ℕ) (d f lo hi : ℕ) → st.maxes ≡ maxes →
+pub range_silent : (st : StoreState) (maxes : List ℕ) (d f lo hi : ℕ) → st.maxes ≡ maxes →
     HasLeaves st d (λ pk. in_span (slice_index maxes f) lo hi (slice_index pk f)) → IsSilent st d (range f lo hi)
 range_silent st maxes d f lo hi same h =
     let inside : ℕ → Bool = λ v. leb lo v && leb v hi in
@@ -117,7 +117,7 @@ range_silent st maxes d f lo hi same h =
     }
 
 -- the packet with the field set
-pub set_silent : (st : Held) (maxes : List ℕ) (d f n : ℕ) → st.maxes ≡ maxes →
+pub set_silent : (st : StoreState) (maxes : List ℕ) (d f n : ℕ) → st.maxes ≡ maxes →
     HasLeaves st d (λ pk. cond (leb n (slice_index maxes f)) (one_out f n ∷ []) []) → IsSilent st d (assign f n)
 set_silent st maxes d f n same h = record {
   id = h.id;
@@ -137,7 +137,7 @@ set_silent st maxes d f n same h = record {
 }
 
 -- no packet, where the policy has no run without a record
-pub none_silent : (st : Held) (d : ℕ) (p : Policy) → HasLeaves st d (λ pk. []) →
+pub none_silent : (st : StoreState) (d : ℕ) (p : Policy) → HasLeaves st d (λ pk. []) →
     ((pk y : List ℕ) → Gives p pk [] y → ⊥) → IsSilent st d p
 none_silent st d p h none = record {
   id = h.id;
@@ -159,15 +159,15 @@ link_gives_none a m b n l pk y g =
     dup_gives_none l two.0 three.0 three.1
 
 -- the diagram of a dup
-pub dup_silent : (st : Held) (d l : ℕ) → HasLeaves st d (λ pk. []) → IsSilent st d (dup l)
+pub dup_silent : (st : StoreState) (d l : ℕ) → HasLeaves st d (λ pk. []) → IsSilent st d (dup l)
 dup_silent st d l h = none_silent st d (dup l) h (dup_gives_none l)
 
 -- and of a link literal
-pub link_silent : (st : Held) (d a m b n l : ℕ) → HasLeaves st d (λ pk. []) → IsSilent st d (link a m b n l)
+pub link_silent : (st : StoreState) (d a m b n l : ℕ) → HasLeaves st d (λ pk. []) → IsSilent st d (link a m b n l)
 link_silent st d a m b n l h = none_silent st d (link a m b n l) h (link_gives_none a m b n l)
 
 -- one more part in front of a sequence
-pub cons_silent : (st new : Held) (d rest r : ℕ) (p : Policy) (ps : Policies) → AreTidy new → Grows st new →
+pub cons_silent : (st new : StoreState) (d rest r : ℕ) (p : Policy) (ps : Policies) → AreTidy new → Grows st new →
     IsSilent st d p → IsSilent st rest (seq_of ps) →
     HasLeaves new r (λ pk. seq_leaf (look st d pk) (look st rest) pk) → IsSilent new r (seq_of (part p ps))
 cons_silent st new d rest r p ps tidy g a b h = record {
@@ -190,10 +190,10 @@ cons_silent st new d rest r p ps tidy g a b h = record {
       );
 }
 
--- parts that always record do so behind another one
-none_behind : (st : Held) (d : ℕ) (p : Policy) (ps : Policies) → HasLeaves st d (λ pk. []) → IsSilent st d (seq_of ps) →
+-- parts that always record do so after another one
+none_following : (st : StoreState) (d : ℕ) (p : Policy) (ps : Policies) → HasLeaves st d (λ pk. []) → IsSilent st d (seq_of ps) →
     IsSilent st d (seq_of (part p ps))
-none_behind st d p ps h b = record {
+none_following st d p ps h b = record {
   id = b.id;
   ends = b.ends;
   sends = λ fit pk y t pk_in. (
@@ -205,15 +205,15 @@ none_behind st d p ps h b = record {
   );
 }
 
--- and behind others
-pub none_at_end : (st : Held) (d : ℕ) (ps : List Pol) (i : ℕ) → HasLeaves st d (λ pk. []) →
+-- and after others
+pub none_at_end : (st : StoreState) (d : ℕ) (ps : List Pol) (i : ℕ) → HasLeaves st d (λ pk. []) →
     IsSilent st d (seq_of (trees_of (drop i ps))) → IsSilent st d (seq_of (trees_of ps))
 none_at_end st d ps zero h b = b
 none_at_end st d [] (suc i) h b = b
-none_at_end st d (p ∷ ps) (suc i) h b = none_behind st d (tree_of p) (trees_of ps) h (none_at_end st d ps i h b)
+none_at_end st d (p ∷ ps) (suc i) h b = none_following st d (tree_of p) (trees_of ps) h (none_at_end st d ps i h b)
 
 -- the complement of a predicate
-pub not_silent : (st new : Held) (d r : ℕ) (p : Policy) → Grows st new → IsSilent st d p →
+pub not_silent : (st new : StoreState) (d r : ℕ) (p : Policy) → Grows st new → IsSilent st d p →
     HasLeaves new r (λ pk. absent (look st d pk) (look st d pk)) → IsSilent new r (not_of p)
 not_silent st new d r p g a h = record {
   id = h.id;
@@ -255,7 +255,7 @@ not_silent st new d r p g a h = record {
     absent_is [] o k = ⊎_elim (λ e. e) (λ n. absurd n) k
     absent_is (x ∷ os) o k = absurd k
 
-    drops : IsFit st.maxes p → is_predicate p ≡ true → (pk : List ℕ) → IsPacket st pk → (Gives p pk [] pk → ⊥) →
+    drops : IsFit st.maxes p → is_predicate p ≡ true → (pk : List ℕ) → IsStorePacket st pk → (Gives p pk [] pk → ⊥) →
         (os : List Out) → look st d pk ≡ os → Has (absent os os) no_out
     drops fit predicate pk before never [] e = inl refl
     drops fit predicate pk before never (o ∷ os) e =
@@ -265,8 +265,8 @@ not_silent st new d r p g a h = record {
         absurd (never (subst (λ x. Gives p pk [] x) same.1 given.1))
 
 -- steps of the diagram are rounds without a record
-leads_rounds : (st : Held) (d : ℕ) (p : Policy) → IsFit st.maxes p → IsSilent st d p → (n : ℕ) (pk y : List ℕ) →
-    IsPacket st pk → Leads (look st d) n pk y → rounds n (way_of p (λ l x. x)) pk [] y
+leads_rounds : (st : StoreState) (d : ℕ) (p : Policy) → IsFit st.maxes p → IsSilent st d p → (n : ℕ) (pk y : List ℕ) →
+    IsStorePacket st pk → Leads (look st d) n pk y → rounds n (way_of p (λ l x. x)) pk [] y
 leads_rounds st d p fit a zero pk y pk_in l = (refl, l)
 leads_rounds st d p fit a (suc n) pk y pk_in l =
     let first = (a.sends fit pk l.0 0 pk_in).0 l.1 in
@@ -274,8 +274,8 @@ leads_rounds st d p fit a (suc n) pk y pk_in l =
     ([], [], l.0, refl, first.1, leads_rounds st d p fit a n l.0 y z_in l.2)
 
 -- and rounds are steps
-rounds_lead : (st : Held) (d : ℕ) (p : Policy) → IsFit st.maxes p → IsSilent st d p → (n : ℕ) (pk y : List ℕ) →
-    IsPacket st pk → rounds n (way_of p (λ l x. x)) pk [] y → Leads (look st d) n pk y
+rounds_lead : (st : StoreState) (d : ℕ) (p : Policy) → IsFit st.maxes p → IsSilent st d p → (n : ℕ) (pk y : List ℕ) →
+    IsStorePacket st pk → rounds n (way_of p (λ l x. x)) pk [] y → Leads (look st d) n pk y
 rounds_lead st d p fit a zero pk y pk_in g = g.1
 rounds_lead st d p fit a (suc n) pk y pk_in g =
     let k = gives_round p n pk y g in
@@ -283,8 +283,8 @@ rounds_lead st d p fit a (suc n) pk y pk_in g =
     (k.0, (a.sends fit pk k.0 0 pk_in).1 (refl, k.1), rounds_lead st d p fit a n k.0 y z_in k.2)
 
 -- any number of rounds
-pub star_silent : (st new : Held) (d r : ℕ) (p : Policy) → Grows st new → IsSilent st d p → IsId new r →
-    Ends (look new r) →
+pub star_silent : (st new : StoreState) (d r : ℕ) (p : Policy) → Grows st new → IsSilent st d p → IsId new r →
+    HasOnlyFinals (look new r) →
     ((pk y : List ℕ) → IsWhole pk → Makes (look new r) pk y ↔ ((n : ℕ) × Leads (look st d) n pk y)) →
     IsSilent new r (star_of p)
 star_silent st new d r p g a id ends leads = record {
@@ -305,7 +305,7 @@ star_silent st new d r p g a id ends leads = record {
 }
 
 -- the complement of a predicate's complement is the predicate
-pub twice_silent : (st new : Held) (d r : ℕ) (p : Policy) → is_predicate p ≡ true → Grows st new → IsSilent st d p →
+pub twice_silent : (st new : StoreState) (d r : ℕ) (p : Policy) → is_predicate p ≡ true → Grows st new → IsSilent st d p →
     IsSilent new r (not_of (not_of p)) → IsSilent new r p
 twice_silent st new d r p pred g a b = record {
   id = b.id;
@@ -323,7 +323,7 @@ twice_silent st new d r p pred g a b = record {
       );
 }
   where
-    given : IsFit st.maxes p → (pk : List ℕ) → IsPacket st pk → (Gives (not_of p) pk [] pk → ⊥) → (os : List Out) →
+    given : IsFit st.maxes p → (pk : List ℕ) → IsStorePacket st pk → (Gives (not_of p) pk [] pk → ⊥) → (os : List Out) →
         look st d pk ≡ os → Gives p pk [] pk
     given fit pk before never [] e =
         absurd

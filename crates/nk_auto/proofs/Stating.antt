@@ -14,7 +14,7 @@ use Rattle.nk_policy.proofs.Remade.{numbers_are, marked_numbers}
 use Rattle.nk_policy.proofs.Splitting.{holds_dup}
 use Rattle.nk_policy.proofs.Tests.{false_where}
 use Rattle.nk_store.specs.Nodes.{InRange}
-use Rattle.nk_store.specs.Held.{Held, IsWhole, IsPacket, HasLeaves}
+use Rattle.nk_store.specs.StoreState.{StoreState, IsWhole, IsStorePacket, HasLeaves}
 use Rattle.nk_store.proofs.Same.{set_in_range}
 use Rattle.nk_apply.specs.Seqs.{no_out}
 use Rattle.nk_apply.proofs.Members.{Has, contains_has}
@@ -74,15 +74,15 @@ after_fit maxes p l fit = (
 )
 
 -- a diagram that passes each packet sends it as it is, to target 0
-passes : (st : Held) (e : ℕ) (z y : List ℕ) (t : ℕ) → HasLeaves st e (λ pk. no_out ∷ []) → IsWhole z → Sends st e z y t →
+passes : (st : StoreState) (e : ℕ) (z y : List ℕ) (t : ℕ) → HasLeaves st e (λ pk. no_out ∷ []) → IsWhole z → Sends st e z y t →
     (t ≡ 0) × (y ≡ z)
 passes st e z y t h w s =
     let m : Has (no_out ∷ []) (out_of s.0 t) = subst (λ os. Has os (out_of s.0 t)) (h.leaf z w) (contains_has _ _ s.1) in
     kept_out s.0 t z y (⊎_elim (λ k. k) (λ n. absurd n) m) s.2
 
 -- what a policy does before the diagram that passes each packet: it ends, or it records
-pub goes_to : (st : Held) (e : ℕ) (p : Policy) (pk y : List ℕ) (t : ℕ) → HasLeaves st e (λ pk. no_out ∷ []) → IsFit st.maxes p →
-    IsPacket st pk → GoesOn st p e pk y t → ((t ≡ 0) × Gives p pk [] y) ⊎ RecordsAt p pk [] y t
+pub goes_to : (st : StoreState) (e : ℕ) (p : Policy) (pk y : List ℕ) (t : ℕ) → HasLeaves st e (λ pk. no_out ∷ []) → IsFit st.maxes p →
+    IsStorePacket st pk → GoesOn st p e pk y t → ((t ≡ 0) × Gives p pk [] y) ⊎ RecordsAt p pk [] y t
 goes_to st e p pk y t h fit pk_in s =
     ⊎_elim
     (λ g.
@@ -92,7 +92,7 @@ goes_to st e p pk y t h fit pk_in s =
     s
 
 -- a policy that has no dup 0, continued by the diagram that passes each packet, is a state
-pub state_is : (st : Held) (d e : ℕ) (p : Policy) → HasLeaves st e (λ pk. no_out ∷ []) → IsFit st.maxes p →
+pub state_is : (st : StoreState) (d e : ℕ) (p : Policy) → HasLeaves st e (λ pk. no_out ∷ []) → IsFit st.maxes p →
     has_dup p 0 ≡ false → IsContinued st d p e → IsState st d p
 state_is st d e p h fit none c = record {
   id = c.id;
@@ -130,15 +130,15 @@ pub no_zero : (p q : Policy) (first : ℕ) → 1 ≤ first → marked_from p fir
 no_zero p q first from e rest = false_where (has_dup q 0) (λ h. let w = label_within p first 0 e (rest h) in omega (arith, w.0, from))
 
 -- where a state's outs lead
-state_leads : (st : Held) (d : ℕ) (p q : Policy) (first : ℕ) → marked_from p first ≡ p →
-    ((l : ℕ) → has_dup q l ≡ true → has_dup p l ≡ true) → IsState st d q → (pk y : List ℕ) (t : ℕ) → IsPacket st pk →
+state_leads : (st : StoreState) (d : ℕ) (p q : Policy) (first : ℕ) → marked_from p first ≡ p →
+    ((l : ℕ) → has_dup q l ≡ true → has_dup p l ≡ true) → IsState st d q → (pk y : List ℕ) (t : ℕ) → IsStorePacket st pk →
     Sends st d pk y t → (t ≡ 0) ⊎ ((first ≤ t) × (t < first + dups_of p))
 state_leads st d p q first numbered rest h pk y zero pk_in s = inl refl
 state_leads st d p q first numbered rest h pk y (suc t) pk_in s =
     inr (label_within p first (suc t) numbered (rest (suc t) (holds_dup q pk [] y (suc t) ((h.records pk y (suc t) pk_in (omega arith)).0 s))))
 
 -- the states of the start and of what is left after each dup are the automaton
-pub states_are : (st : Held) (all : List ℕ) (first : ℕ) (p : Policy) → marked_from p first ≡ p → length all ≡ 1 + dups_of p →
+pub states_are : (st : StoreState) (all : List ℕ) (first : ℕ) (p : Policy) → marked_from p first ≡ p → length all ≡ 1 + dups_of p →
     IsState st (slice_index all 0) p →
     ((i : ℕ) → i < dups_of p → IsState st (slice_index all (1 + i)) (after p (first + i))) → IsAutomaton st all first p
 states_are st all first p numbered many begun rest = record {
@@ -149,7 +149,7 @@ states_are st all first p numbered many begun rest = record {
   targets = λ i pk y t lt pk_in s. place i lt pk y t pk_in s;
 }
   where
-    place : (i : ℕ) → i < length all → (pk y : List ℕ) (t : ℕ) → IsPacket st pk → Sends st (slice_index all i) pk y t →
+    place : (i : ℕ) → i < length all → (pk y : List ℕ) (t : ℕ) → IsStorePacket st pk → Sends st (slice_index all i) pk y t →
         (t ≡ 0) ⊎ ((first ≤ t) × (t < first + dups_of p))
     place zero lt pk y t pk_in s = state_leads st (slice_index all 0) p p first numbered (λ l k. k) begun pk y t pk_in s
     place (suc i) lt pk y t pk_in s =
@@ -159,7 +159,7 @@ states_are st all first p numbered many begun rest = record {
         (subst (λ n. Sends st (slice_index all n) pk y t) same s)
 
 -- they and the start are the automaton
-pub automaton_is : (st : Held) (blank states all : List ℕ) (first start e : ℕ) (p : Policy) → 1 ≤ first →
+pub automaton_is : (st : StoreState) (blank states all : List ℕ) (first start e : ℕ) (p : Policy) → 1 ≤ first →
     marked_from p first ≡ p → length blank ≡ dups_of p + 1 → AreWritten st blank states (first - 1) p e →
     IsContinued st start p e → HasLeaves st e (λ pk. no_out ∷ []) → all ≡ slice_set states 0 start → IsFit st.maxes p →
     IsAutomaton st all first p

@@ -6,7 +6,7 @@ use Rattle.nk_policy.specs.Meaning.{Gives}
 use Rattle.nk_policy.specs.Progress.{RecordsAt, SomeRecordsAt}
 use Rattle.nk_store.specs.declared.node.Out.{Out}
 use Rattle.nk_store.specs.Leaves.{Every}
-use Rattle.nk_store.specs.Held.{Held, IsId, IsWhole, IsPacket, look, Grows, HasLeaves}
+use Rattle.nk_store.specs.StoreState.{StoreState, IsId, IsWhole, IsStorePacket, look, Grows, HasLeaves}
 use Rattle.nk_apply.specs.Unions.{AreIds, unions}
 use Rattle.nk_apply.proofs.Members.{Has, contains_has, has_contains, every_has, every_from}
 use Rattle.nk_auto.specs.Plain.{Sends}
@@ -20,7 +20,7 @@ In no_part p = ⊥
 In (part q qs) p = (q ≡ p) ⊎ In qs p
 
 -- each of the diagrams is one of some part's, and each part has one
-pub record AreOf (P : Held → ℕ → Policy → Type 0) (st : Held) (ids : List ℕ) (ps : Policies) : Type 0 where
+pub record AreOf (P : StoreState → ℕ → Policy → Type 0) (st : StoreState) (ids : List ℕ) (ps : Policies) : Type 0 where
   pub from : (d : ℕ) → Has ids d → (p : Policy) × In ps p × P st d p
   pub to : (p : Policy) → In ps p → (d : ℕ) × Has ids d × P st d p
 
@@ -43,8 +43,8 @@ has_either (i ∷ ids) d e (inl is) = inl (inl is)
 has_either (i ∷ ids) d e (inr h) = ⊎_elim (λ k. inl (inr k)) (λ k. inr k) (has_either ids d e h)
 
 -- one more part and its diagram
-pub one_more_of : (P : Held → ℕ → Policy → Type 0) → ((old new : Held) (d : ℕ) (p : Policy) → Grows old new → P old d p → P new d p) →
-    (st new : Held) (ids more : List ℕ) (ps : Policies) (d : ℕ) (p : Policy) → Grows st new → more ≡ ids ++ d ∷ [] →
+pub one_more_of : (P : StoreState → ℕ → Policy → Type 0) → ((old new : StoreState) (d : ℕ) (p : Policy) → Grows old new → P old d p → P new d p) →
+    (st new : StoreState) (ids more : List ℕ) (ps : Policies) (d : ℕ) (p : Policy) → Grows st new → more ≡ ids ++ d ∷ [] →
     AreOf P st ids ps → P new d p → AreOf P new more (part p ps)
 one_more_of P mono st new ids more ps d p g pushed a one = subst (λ l. AreOf P new l (part p ps)) (sym pushed) both
   where
@@ -69,13 +69,13 @@ has_at (i ∷ ids) zero lt = inl refl
 has_at (i ∷ ids) (suc k) lt = inr (has_at ids k (omega arith))
 
 -- so all are numbers of the store
-pub ids_of : (P : Held → ℕ → Policy → Type 0) → ((st : Held) (d : ℕ) (p : Policy) → P st d p → IsId st d) →
-    (st : Held) (ids given : List ℕ) (ps : Policies) → given ≡ ids → AreOf P st ids ps → AreIds st given
+pub ids_of : (P : StoreState → ℕ → Policy → Type 0) → ((st : StoreState) (d : ℕ) (p : Policy) → P st d p → IsId st d) →
+    (st : StoreState) (ids given : List ℕ) (ps : Policies) → given ≡ ids → AreOf P st ids ps → AreIds st given
 ids_of P known st ids given ps same a =
     subst (AreIds st) (sym same) (λ k lt. let r = a.from (slice_index ids k) (has_at ids k lt) in known st (slice_index ids k) r.0 r.2)
 
 -- a member of many diagrams together is one of a part's diagram
-outs_of_some : (P : Held → ℕ → Policy → Type 0) (st : Held) (ids : List ℕ) (ps : Policies) (pk : List ℕ) (o : Out) →
+outs_of_some : (P : StoreState → ℕ → Policy → Type 0) (st : StoreState) (ids : List ℕ) (ps : Policies) (pk : List ℕ) (o : Out) →
     AreOf P st ids ps → Has (unions st ids 0 (length ids) pk) o →
     (d : ℕ) × (p : Policy) × In ps p × P st d p × Has (look st d pk) o
 outs_of_some P st ids ps pk o a h =
@@ -84,7 +84,7 @@ outs_of_some P st ids ps pk o a h =
     (slice_index ids k.0, r.0, r.1, r.2, k.2)
 
 -- and each of theirs is one
-outs_of_each : (st : Held) (ids : List ℕ) (d : ℕ) (pk : List ℕ) (o : Out) → Has ids d → Has (look st d pk) o →
+outs_of_each : (st : StoreState) (ids : List ℕ) (d : ℕ) (pk : List ℕ) (o : Out) → Has ids d → Has (look st d pk) o →
     Has (unions st ids 0 (length ids) pk) o
 outs_of_each st ids d pk o h k =
     let c = has_contains ids d h in
@@ -134,7 +134,7 @@ part_fit maxes (part q qs) p fit (inl e) = subst (IsFit maxes) e (fit.0.0, fit.1
 part_fit maxes (part q qs) p fit (inr i) = part_fit maxes qs p (fit.0.1, fit.1.1) i
 
 -- the silent diagrams of the parts together are that of the sum
-pub sum_silent : (st new : Held) (ids given : List ℕ) (ps : Policies) (r : ℕ) → given ≡ ids → Grows st new →
+pub sum_silent : (st new : StoreState) (ids given : List ℕ) (ps : Policies) (r : ℕ) → given ≡ ids → Grows st new →
     AreOf IsSilent st ids ps → HasLeaves new r (λ pk. unions st given 0 (length given) pk) →
     IsSilent new r (sum_of ps)
 sum_silent st new ids given ps r same g a united =
@@ -166,12 +166,12 @@ sum_silent st new ids given ps r same g a united =
     }
 
 -- the diagram of a part, continued by k
-abbrev pub IsOnward : ℕ → Held → ℕ → Policy → Type 0
+abbrev pub IsOnward : ℕ → StoreState → ℕ → Policy → Type 0
 IsOnward k st d p = IsContinued st d p k
 
 -- where a part goes on, the diagrams together send
-part_onward : (st new : Held) (ids : List ℕ) (ps : Policies) (k r : ℕ) → AreOf (IsOnward k) st ids ps →
-    HasLeaves new r (λ pk. unions st ids 0 (length ids) pk) → (pk y : List ℕ) (t : ℕ) → IsWhole pk → IsPacket st pk →
+part_onward : (st new : StoreState) (ids : List ℕ) (ps : Policies) (k r : ℕ) → AreOf (IsOnward k) st ids ps →
+    HasLeaves new r (λ pk. unions st ids 0 (length ids) pk) → (pk y : List ℕ) (t : ℕ) → IsWhole pk → IsStorePacket st pk →
     IsFit st.maxes (sum_of ps) → (p : Policy) → In ps p → GoesOn st p k pk y t → Sends new r pk y t
 part_onward st new ids ps k r a h pk y t w before fits p i goes =
     let d = a.to p i in
@@ -180,7 +180,7 @@ part_onward st new ids ps k r a h pk y t w before fits p i goes =
     (sent.0, has_contains _ _ (subst (λ os. Has os (out_of sent.0 t)) (sym (h.leaf pk w)) m), sent.2)
 
 -- the continued diagrams of the parts together are that of the sum
-pub sum_continued : (st new : Held) (ids given : List ℕ) (ps : Policies) (k r : ℕ) → given ≡ ids → Grows st new → IsId st k →
+pub sum_continued : (st new : StoreState) (ids given : List ℕ) (ps : Policies) (k r : ℕ) → given ≡ ids → Grows st new → IsId st k →
     AreOf (IsOnward k) st ids ps → HasLeaves new r (λ pk. unions st given 0 (length given) pk) →
     IsContinued new r (sum_of ps) k
 sum_continued st new ids given ps k r same g ik a united =

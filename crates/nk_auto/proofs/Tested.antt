@@ -11,7 +11,7 @@ use Rattle.nk_policy.specs.Policy.{Policy, Policies, sum_of, part}
 use Rattle.nk_policy.proofs.Tests.{false_where, or_left, or_right, or_cases, both_true, both_pass, at_most_test, at_most_from}
 use Rattle.nk_store.specs.declared.node.Out.{Out}
 use Rattle.nk_store.specs.Nodes.{child_at, InRange}
-use Rattle.nk_store.specs.Held.{Held, IsWhole, look, Grows, HasLeaves, IsChild}
+use Rattle.nk_store.specs.StoreState.{StoreState, IsWhole, look, Grows, HasLeaves, IsChild}
 use Rattle.nk_store.proofs.Stores.{grows_same}
 use Rattle.nk_apply.specs.Predicates.{IsPass, IsPredicate}
 use Rattle.nk_apply.specs.Seqs.{no_out}
@@ -44,8 +44,8 @@ before : (v : ℕ) (x : ℕ × ℕ) → v < x.0 → is_between v x ≡ false
 before v x l = false_where (is_between v x) (λ h. let b = (ends_hold v x h).0 in omega (arith, b, l))
 
 -- nor is one above the second
-behind : (v : ℕ) (x : ℕ × ℕ) → x.1 < v → is_between v x ≡ false
-behind v x l = false_where (is_between v x) (λ h. let b = (ends_hold v x h).1 in omega (arith, b, l))
+following : (v : ℕ) (x : ℕ × ℕ) → x.1 < v → is_between v x ≡ false
+following v x l = false_where (is_between v x) (λ h. let b = (ends_hold v x h).1 in omega (arith, b, l))
 
 -- one interval more is found
 this_value : (vs : List (ℕ × ℕ)) (x : ℕ × ℕ) (v : ℕ) → is_between v x ≡ true → list_any (is_between v) (vs ++ x ∷ []) ≡ true
@@ -93,7 +93,7 @@ keeps_moved f xs ys p moved keeps pk y =
     )
 
 -- the diagram of a policy that keeps packets by the values of a field
-pub values_silent : (st : Held) (maxes : List ℕ) (d f : ℕ) (values : List (ℕ × ℕ)) (p : Policy) → st.maxes ≡ maxes →
+pub values_silent : (st : StoreState) (maxes : List ℕ) (d f : ℕ) (values : List (ℕ × ℕ)) (p : Policy) → st.maxes ≡ maxes →
     HasLeaves st d (λ pk. value_leaf values (min (slice_index pk f) (slice_index maxes f))) → KeepsWhere f values p →
     IsSilent st d p
 values_silent st maxes d f values p same h keeps = record {
@@ -115,7 +115,7 @@ values_silent st maxes d f values p same h keeps = record {
 }
 
 -- and it is a predicate
-pub values_pass : (st : Held) (d : ℕ) (values : List (ℕ × ℕ)) (F : List ℕ → ℕ) → HasLeaves st d (λ pk. value_leaf values (F pk)) →
+pub values_pass : (st : StoreState) (d : ℕ) (values : List (ℕ × ℕ)) (F : List ℕ → ℕ) → HasLeaves st d (λ pk. value_leaf values (F pk)) →
     IsPredicate st d
 values_pass st d values F h = λ pk w. subst IsPass (sym (h.leaf pk w)) (one_or_none (list_any (is_between (F pk)) values))
   where
@@ -124,12 +124,12 @@ values_pass st d values F h = λ pk w. subst IsPass (sym (h.leaf pk w)) (one_or_
     one_or_none false = tt
 
 -- a diagram with one leaf has it in a store that grew
-pub constant_grow : (old new : Held) (d : ℕ) (outs : List Out) → Grows old new → IsConstant old d outs → IsConstant new d outs
-constant_grow old new d outs g k = record { leaves = leaves_grow old new d _ g k.leaves; top_is = g.tops d k.leaves.id ∙ k.top_is }
+pub constant_grow : (old new : StoreState) (d : ℕ) (outs : List Out) → Grows old new → IsConstant old d outs → IsConstant new d outs
+constant_grow old new d outs g k = record { leaves = leaves_grow old new d _ g k.leaves; root_field_is = g.root_fields d k.leaves.id ∙ k.root_field_is }
 
 -- it is a child of each field's nodes
-constant_child : (st : Held) (f d : ℕ) (outs : List Out) → f < 18 → IsConstant st d outs → IsChild st f d
-constant_child st f d outs h k = record { id = k.leaves.id; later = omega (arith, k.top_is, h) }
+constant_child : (st : StoreState) (f d : ℕ) (outs : List Out) → f < 18 → IsConstant st d outs → IsChild st f d
+constant_child st f d outs h k = record { id = k.leaves.id; later = omega (arith, k.root_field_is, h) }
 
 -- the first intervals with the one at the next place
 take_next : (values : List (ℕ × ℕ)) (i : ℕ) (x : ℕ × ℕ) → i < length values → x ≡ get_or values i (0, 0) →
@@ -137,13 +137,13 @@ take_next : (values : List (ℕ × ℕ)) (i : ℕ) (x : ℕ × ℕ) → i < leng
 take_next values i x l is = take_more values i (0, 0) l ∙ ap (λ e. take i values ++ e ∷ []) (sym is)
 
 -- parts that give what R does give what S does
-built_same : (R S : ℕ → List ℕ → List Out) (st : Held) (f to : ℕ) (ps : List (ℕ × ℕ)) →
+built_same : (R S : ℕ → List ℕ → List Out) (st : StoreState) (f to : ℕ) (ps : List (ℕ × ℕ)) →
     ((v : ℕ) (pk : List ℕ) → v < to → R v pk ≡ S v pk) → Built R st f to ps → Built S st f to ps
 built_same R S st f to ps same b =
     record { ends = b.ends; children = b.children; leaf = λ v pk w l. b.leaf v pk w l ∙ same v pk l }
 
 -- a part for the values below x
-built_gap : (R : ℕ → List ℕ → List Out) (st : Held) (f from x d : ℕ) (ps : List (ℕ × ℕ)) → Built R st f from ps → from ≤ x →
+built_gap : (R : ℕ → List ℕ → List Out) (st : StoreState) (f from x d : ℕ) (ps : List (ℕ × ℕ)) → Built R st f from ps → from ≤ x →
     IsChild st f d → ((v : ℕ) (pk : List ℕ) → IsWhole pk → from ≤ v → v < x → look st d pk ≡ R v pk) →
     Built R st f x (ps ++ gap from x d)
 built_gap R st f from x d ps b le child serves = elim (leb_tells x from) [
@@ -164,14 +164,14 @@ AreBelow from vs = (v : ℕ) → from ≤ v → list_any (is_between v) vs ≡ f
 
 -- so does one more below the next
 below_more : (from : ℕ) (x : ℕ × ℕ) (vs : List (ℕ × ℕ)) → from ≤ x.1 → AreBelow from vs → AreBelow (x.1 + 1) (vs ++ x ∷ [])
-below_more from x vs le below v l = other_value vs x v (behind v x (omega (arith, l))) ∙ below v (omega (arith, l, le))
+below_more from x vs le below v l = other_value vs x v (following v x (omega (arith, l))) ∙ below v (omega (arith, l, le))
 
 -- the leaf of each value
 abbrev pub by_value : List (ℕ × ℕ) → ℕ → List ℕ → List Out
 by_value vs v pk = value_leaf vs v
 
 -- parts up to one interval more
-value_built : (st : Held) (f from inside outside : ℕ) (x : ℕ × ℕ) (vs ps : List (ℕ × ℕ)) → f < 18 → from ≤ x.0 → x.0 ≤ x.1 →
+value_built : (st : StoreState) (f from inside outside : ℕ) (x : ℕ × ℕ) (vs ps : List (ℕ × ℕ)) → f < 18 → from ≤ x.0 → x.0 ≤ x.1 →
     IsConstant st inside (no_out ∷ []) → IsConstant st outside [] → AreBelow from vs → Built (by_value vs) st f from ps →
     Built (by_value (vs ++ x ∷ [])) st f (x.1 + 1) ((ps ++ gap from x.0 outside) ++ (x.1, inside) ∷ [])
 value_built st f from inside outside x vs ps h le rise i o below b =
@@ -185,7 +185,7 @@ value_built st f from inside outside x vs ps h le rise i o below b =
     (λ v pk w l m. i.leaves.leaf pk w ∙ ap leaf (sym (this_value vs x v (between v x.0 x.1 l m))))
 
 -- what is put for the interval at a place
-pub value_step : (st : Held) (f from i inside outside : ℕ) (x : ℕ × ℕ) (values ps mid more : List (ℕ × ℕ)) → f < 18 → i < length values →
+pub value_step : (st : StoreState) (f from i inside outside : ℕ) (x : ℕ × ℕ) (values ps mid more : List (ℕ × ℕ)) → f < 18 → i < length values →
     x ≡ get_or values i (0, 0) → from ≤ x.0 → x.0 ≤ x.1 → IsConstant st inside (no_out ∷ []) → IsConstant st outside [] →
     AreBelow from (take i values) → mid ≡ ps ++ gap from x.0 outside → more ≡ mid ++ (x.1, inside) ∷ [] →
     Built (by_value (take i values)) st f from ps → Built (by_value (take (i + 1) values)) st f (x.1 + 1) more
@@ -201,7 +201,7 @@ below_step from i x values l is le below =
     subst (AreBelow (x.1 + 1)) (sym (take_next values i x l is)) (below_more from x (take i values) le below)
 
 -- parts up to the field's largest value
-pub rest_built : (st : Held) (f from most outside : ℕ) (vs ps : List (ℕ × ℕ)) → f < 18 → from ≤ most →
+pub rest_built : (st : StoreState) (f from most outside : ℕ) (vs ps : List (ℕ × ℕ)) → f < 18 → from ≤ most →
     IsConstant st outside [] → AreBelow from vs → Built (by_value vs) st f from ps →
     Built (by_value vs) st f (most + 1) (ps ++ (most, outside) ∷ [])
 rest_built st f from most outside vs ps h le o below b =
@@ -209,7 +209,7 @@ rest_built st f from most outside vs ps h le o below b =
     (λ v pk w l m. o.leaves.leaf pk w ∙ ap (λ c. cond c (no_out ∷ []) []) (sym (below v l)))
 
 -- parts for all values of the field
-pub values_parts : (st : Held) (f most : ℕ) (vs ps : List (ℕ × ℕ)) → f < 18 → most ≡ slice_index st.maxes f →
+pub values_parts : (st : StoreState) (f most : ℕ) (vs ps : List (ℕ × ℕ)) → f < 18 → most ≡ slice_index st.maxes f →
     Built (by_value vs) st f (most + 1) ps → HaveParts st f (λ v pk. value_leaf vs (min v (slice_index st.maxes f))) ps
 values_parts st f most vs ps h is b =
     let R = λ (v : ℕ) (pk : List ℕ). value_leaf vs (min v (slice_index st.maxes f)) in
@@ -222,7 +222,7 @@ values_parts st f most vs ps h is b =
     }
 
 -- the node of these parts
-pub values_case : (old st new : Held) (f r : ℕ) (values ps : List (ℕ × ℕ)) → Grows old st →
+pub values_case : (old st new : StoreState) (f r : ℕ) (values ps : List (ℕ × ℕ)) → Grows old st →
     HaveParts st f (λ v pk. value_leaf values (min v (slice_index st.maxes f))) ps →
     HasLeaves new r (λ pk. look st (child_at 0 ps (slice_index pk f)) pk) →
     HasLeaves new r (λ pk. value_leaf values (min (slice_index pk f) (slice_index old.maxes f)))

@@ -40,7 +40,7 @@ pub gives_in_range : (maxes : List ℕ) (p : Policy) → AssignsWithin maxes p �
     InRange maxes pk → InRange maxes y
 gives_in_range maxes p within pk y g = run_in_range maxes p within pk [] y (gives_run p pk y g)
 
--- a sequence ends where its parts behind the first end from where the first one ends
+-- a sequence ends where its parts after the first end from where the first one ends
 pub gives_cons : (p : Policy) (ps : Policies) (pk y : List ℕ) → Gives (seq_of (part p ps)) pk [] y →
     (z : List ℕ) × Gives p pk [] z × Gives (seq_of ps) z [] y
 gives_cons p ps pk y g = (
@@ -54,7 +54,7 @@ pub cons_gives : (p : Policy) (ps : Policies) (pk z y : List ℕ) → Gives p pk
     Gives (seq_of (part p ps)) pk [] y
 cons_gives p ps pk z y a b = ([], [], z, refl, a, b)
 
--- a sequence records first what its first part does, or what the parts behind it do from where that one ends
+-- a sequence records first what its first part does, or what the parts after it do from where that one ends
 pub records_cons : (p : Policy) (ps : Policies) (pk y : List ℕ) (t : ℕ) → AllRecordAt (part p ps) pk [] y t →
     RecordsAt p pk [] y t ⊎ ((z : List ℕ) × Gives p pk [] z × AllRecordAt ps z [] y t)
 records_cons p ps pk y t r =

@@ -7,8 +7,8 @@ use Rattle.nk_policy.specs.Tree.{tree_of}
 use Rattle.nk_policy.specs.Meaning.{Gives}
 use Rattle.nk_policy.specs.After.{after}
 use Rattle.nk_policy.specs.Ranges.{IsOverFields}
-use Rattle.nk_store.specs.Held.{Held, IsId, IsPacket}
-use Rattle.nk_store.specs.Held.{IsOver as IsStoreOver}
+use Rattle.nk_store.specs.StoreState.{StoreState, IsId, IsStorePacket}
+use Rattle.nk_store.specs.StoreState.{IsOver as IsStoreOver}
 use Rattle.nk_deriv.specs.declared.values.Part.{Part}
 use Rattle.nk_deriv.specs.declared.values.Parts.{Parts}
 use Rattle.nk_deriv.specs.Part.{LegsGive, IsPartOfDerivative, IsWithin}
@@ -16,9 +16,9 @@ use Rattle.nk_auto.specs.Plain.{Sends}
 use Rattle.nk_auto.specs.Continued.{IsFit}
 
 -- the diagram of a policy's runs without a record, all to one target
-pub record IsAimed (st : Held) (d : ℕ) (p : Policy) (target : ℕ) : Type 0 where
+pub record IsAimed (st : StoreState) (d : ℕ) (p : Policy) (target : ℕ) : Type 0 where
   pub id : IsId st d
-  pub sends : IsFit st.maxes p → (pk y : List ℕ) (t : ℕ) → IsPacket st pk →
+  pub sends : IsFit st.maxes p → (pk y : List ℕ) (t : ℕ) → IsStorePacket st pk →
       Sends st d pk y t ↔ ((t ≡ target) × Gives p pk [] y)
 
 -- a leg's policy is fit
@@ -27,13 +27,13 @@ IsFitLeg maxes leg = IsFit maxes (tree_of leg.0)
 
 -- the diagram of a free policy and legs: to target 0 it sends to where the free policy ends without a record, and to
 -- target l to where some leg of label l does
-pub record IsOfPart (st : Held) (d : ℕ) (free : Policy) (legs : List (Pol × ℕ)) : Type 0 where
+pub record IsOfPart (st : StoreState) (d : ℕ) (free : Policy) (legs : List (Pol × ℕ)) : Type 0 where
   pub id : IsId st d
-  pub sends : IsFit st.maxes free → All (IsFitLeg st.maxes) legs → (pk y : List ℕ) (t : ℕ) → IsPacket st pk →
+  pub sends : IsFit st.maxes free → All (IsFitLeg st.maxes) legs → (pk y : List ℕ) (t : ℕ) → IsStorePacket st pk →
       Sends st d pk y t ↔ (((t ≡ 0) × Gives free pk [] y) ⊎ LegsGive legs pk y t)
 
--- the diagrams of the parts behind labels, in order
-abbrev pub AreOfParts : Held → List ℕ → List (ℕ × Part) → Type 0
+-- the diagrams of the parts after labels, in order
+abbrev pub AreOfParts : StoreState → List ℕ → List (ℕ × Part) → Type 0
 AreOfParts st [] [] = Unit {0}
 AreOfParts st [] (e ∷ es) = ⊥
 AreOfParts st (d ∷ ds) [] = ⊥
@@ -48,7 +48,7 @@ pub record ArePolicyParts (parts : Parts) (p : Policy) : Type 0 where
 
 -- the dups of the policy are numbered from first on, and its tests, ranges and assignments are of the store's fields, to values
 -- in range
-pub record IsDrawable (st : Held) (p : Policy) (first : ℕ) : Type 0 where
+pub record IsDrawable (st : StoreState) (p : Policy) (first : ℕ) : Type 0 where
   pub from : 1 ≤ first
   pub numbered : marked_from p first ≡ p
   pub fields : FieldTable

@@ -4,7 +4,7 @@ use Rattle.std.specs.List.{list_any}
 use Rattle.nk_policy.specs.Policy.{Policy}
 use Rattle.nk_policy.specs.Meaning.{Gives}
 use Rattle.nk_store.specs.declared.node.Out.{Out}
-use Rattle.nk_store.specs.Held.{Held, top, HasLeaves}
+use Rattle.nk_store.specs.StoreState.{StoreState, root_field, HasLeaves}
 use Rattle.nk_apply.specs.Seqs.{no_out}
 
 -- the value is in the interval, by its ends
@@ -25,9 +25,9 @@ abbrev pub value_leaf : List (ℕ × ℕ) → ℕ → List Out
 value_leaf intervals v = cond (list_any (is_between v) intervals) (no_out ∷ []) []
 
 -- the diagram has one leaf for all packets
-pub record IsConstant (st : Held) (d : ℕ) (outs : List Out) : Type 0 where
+pub record IsConstant (st : StoreState) (d : ℕ) (outs : List Out) : Type 0 where
   pub leaves : HasLeaves st d (λ pk. outs)
-  pub top_is : top st d ≡ 18
+  pub root_field_is : root_field st d ≡ 18
 
 -- the part for the values from low on that are below high, if there are any
 abbrev pub gap : ℕ → ℕ → ℕ → List (ℕ × ℕ)

@@ -2,7 +2,7 @@
 ghost use Rattle.std.specs.Prelude.{◌≡◌, ℕ, ◌++◌, List as Items, IfOk, OnOk};
 ghost use Rattle.nk_policy.specs.Policy.{Policy};
 ghost use Rattle.nk_policy.specs.Tree.{tree_of};
-ghost use Rattle.nk_store.specs.Held.{Grows};
+ghost use Rattle.nk_store.specs.StoreState.{Grows};
 ghost use Rattle.nk_apply.specs.Unions.{AreIds};
 ghost use Rattle.nk_auto.specs.Automaton.{IsAutomaton};
 ghost use Rattle.nk_auto.specs.OfParts.{IsAimed, IsOfPart, AreOfParts, ArePolicyParts, IsDrawable};
@@ -15,9 +15,9 @@ use nk_policy::Pol;
 use nk_store::{Id, Store};
 use std::alloc::AllocError;
 
-/// The automaton of a policy from its parts: the diagram of the first part, then that of the part behind each dup, in
+/// The automaton of a policy from its parts: the diagram of the first part, then that of the part after each dup, in
 /// text order. It is the automaton of every policy that has these parts and whose dups are numbered in text order. This
-/// is the plain way: each part is drawn alone, so what several dups have behind them is drawn several times. The only
+/// is the plain way: each part is drawn alone, so what several dups have after them is drawn several times. The only
 /// error is that memory ran out.
 pub fn automaton(st: &mut Store, parts: &Parts) -> Result<List<Id>, AllocError>
     ensures grows { Grows st.old st.new }

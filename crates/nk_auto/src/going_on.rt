@@ -2,7 +2,7 @@
 ghost use Rattle.std.specs.Prelude.{◌≡◌, ℕ, ◌+◌, ◌∷◌, [], true, IfOk};
 ghost use Rattle.nk_policy.specs.Policy.{Policies, test, range, assign, sum_of, seq_of, not_of, star_of, link, dup, part, no_part, dups_of, is_predicate as is_predicate_tree};
 ghost use Rattle.nk_policy.specs.Tree.{tree_of, trees_of};
-ghost use Rattle.nk_store.specs.Held.{IsId, Grows, HasLeaves};
+ghost use Rattle.nk_store.specs.StoreState.{IsId, Grows, HasLeaves};
 ghost use Rattle.nk_auto.specs.Continued.{IsContinued};
 ghost use Rattle.nk_auto.specs.Guarded.{IsGuarded};
 ghost use Rattle.nk_auto.specs.TwoWays.{AreWays};
@@ -181,35 +181,35 @@ fn continued_any(st: &mut Store, ps: &[Pol], next: Id) -> Result<Id, AllocError>
     union_all(st, ids.as_slice())
 }
 
-/// A sequence, each part continued by the parts behind it. Predicates side by side are one guard.
+/// A sequence, each part continued by the parts after it. Predicates side by side are one guard.
 #[cycle(continued)]
 fn continued_all(st: &mut Store, ps: &[Pol], next: Id) -> Result<Id, AllocError>
     requires { IsId st.old next }
     ensures grows { Grows st.old st.new }
     ensures ok { IfOk result (λ d. IsContinued st.new d (seq_of (trees_of ps.now)) next) }
 {
-    let mut behind = unguarded(st, next)?;
+    let mut following = unguarded(st, next)?;
     let mut i = ps.len();
     while i > 0 {
         i -= 1;
-        behind = with_part(st, &ps[i], behind)?;
+        following = with_part(st, &ps[i], following)?;
     }
-    put_together(st, behind)
+    put_together(st, following)
 }
 
 /// One more part before what a sequence does from a place on.
 #[cycle(continued)]
-fn with_part(st: &mut Store, p: &Pol, behind: Behind) -> Result<Behind, AllocError>
-    requires guard { IsId st.old behind.guard }
-    requires rest { IsId st.old behind.rest }
+fn with_part(st: &mut Store, p: &Pol, following: Behind) -> Result<Behind, AllocError>
+    requires guard { IsId st.old following.guard }
+    requires rest { IsId st.old following.rest }
     ensures grows { Grows st.old st.new }
-    ensures ok { IfOk result (λ b. (ps : Policies) (k : ℕ) → IsGuarded st.old behind.guard behind.rest (seq_of ps) k →
+    ensures ok { IfOk result (λ b. (ps : Policies) (k : ℕ) → IsGuarded st.old following.guard following.rest (seq_of ps) k →
         IsGuarded st.new b.guard b.rest (seq_of (part (tree_of p.now) ps)) k) }
 {
     if let Some(d) = guard_of(st, p)? {
-        return guarded_by(st, d, behind);
+        return guarded_by(st, d, following);
     }
-    let next = put_together(st, behind)?;
+    let next = put_together(st, following)?;
     let rest = continued(st, p, next)?;
     unguarded(st, rest)
 }
@@ -315,7 +315,7 @@ fn both_all(st: &mut Store, ps: &[Pol], nothing: Id) -> Result<BothWays, AllocEr
     ensures ok { IfOk result (λ b. AreWays st.new b.silent b.records nothing (seq_of (trees_of ps.now))) }
 {
     let passing = identity(st)?;
-    let mut behind = BothWays {
+    let mut following = BothWays {
         silent: passing,
         records: nothing,
     };
@@ -323,10 +323,10 @@ fn both_all(st: &mut Store, ps: &[Pol], nothing: Id) -> Result<BothWays, AllocEr
     while i > 0 {
         i -= 1;
         let first = both_ways(st, &ps[i], nothing)?;
-        let more = put_before(st, first, behind)?;
-        behind = more;
+        let more = put_before(st, first, following)?;
+        following = more;
     }
-    Ok(behind)
+    Ok(following)
 }
 
 /// A star in which no round records: rounds, and then the diagram.

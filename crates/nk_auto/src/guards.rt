@@ -1,8 +1,8 @@
-//! Predicates side by side in a sequence, as one guard before what the sequence does behind them.
+//! Predicates side by side in a sequence, as one guard before what the sequence does after them.
 ghost use Rattle.std.specs.Prelude.{ℕ, IfOk, IfSome};
 ghost use Rattle.nk_policy.specs.Policy.{Policy, Policies, seq_of, part};
 ghost use Rattle.nk_policy.specs.Tree.{tree_of};
-ghost use Rattle.nk_store.specs.Held.{IsId, Grows};
+ghost use Rattle.nk_store.specs.StoreState.{IsId, Grows};
 ghost use Rattle.nk_apply.specs.Predicates.{IsPredicate};
 ghost use Rattle.nk_auto.specs.Continued.{IsSilent, IsContinued};
 ghost use Rattle.nk_auto.specs.Guarded.{NeverRecords, IsGuarded};
@@ -15,12 +15,12 @@ use nk_store::{Id, Store};
 use std::alloc::AllocError;
 
 /// What a sequence does from a place on: the predicates that stand there side by side, as one, and the diagram of what is
-/// behind them.
+/// after them.
 #[derive(Clone, Copy)]
 pub struct Behind {
     /// The diagram of the predicates; it holds for all packets where there is none.
     pub guard: Id,
-    /// The diagram of what is behind the predicates.
+    /// The diagram of what is after the predicates.
     pub rest: Id,
 }
 
@@ -33,30 +33,30 @@ pub fn unguarded(st: &mut Store, rest: Id) -> Result<Behind, AllocError>
     Ok(Behind { guard, rest })
 }
 
-/// The predicates and what is behind them as one diagram. The walk goes along the packets of the predicates alone.
-pub fn put_together(st: &mut Store, behind: Behind) -> Result<Id, AllocError>
-    requires guard { IsId st.old behind.guard }
-    requires rest { IsId st.old behind.rest }
+/// The predicates and what is after them as one diagram. The walk goes along the packets of the predicates alone.
+pub fn put_together(st: &mut Store, following: Behind) -> Result<Id, AllocError>
+    requires guard { IsId st.old following.guard }
+    requires rest { IsId st.old following.rest }
     ensures grows { Grows st.old st.new }
     ensures id { IfOk result (λ d. IsId st.new d) }
-    ensures ok { IfOk result (λ d. (p : Policy) (k : ℕ) → IsGuarded st.old behind.guard behind.rest p k → IsContinued st.new d p k) }
+    ensures ok { IfOk result (λ d. (p : Policy) (k : ℕ) → IsGuarded st.old following.guard following.rest p k → IsContinued st.new d p k) }
 {
-    let d = at_packets(st, behind.guard, behind.rest)?;
+    let d = at_packets(st, following.guard, following.rest)?;
     Ok(d)
 }
 
 /// The same with one more predicate, `d`, before the others.
-pub fn guarded_by(st: &mut Store, d: Id, behind: Behind) -> Result<Behind, AllocError>
+pub fn guarded_by(st: &mut Store, d: Id, following: Behind) -> Result<Behind, AllocError>
     requires id { IsId st.old d }
-    requires guard { IsId st.old behind.guard }
+    requires guard { IsId st.old following.guard }
     ensures grows { Grows st.old st.new }
     ensures ok { IfOk result (λ b. (p : Policy) (ps : Policies) (k : ℕ) → NeverRecords p → IsSilent st.old d p → IsPredicate st.old d →
-        IsGuarded st.old behind.guard behind.rest (seq_of ps) k → IsGuarded st.new b.guard b.rest (seq_of (part p ps)) k) }
+        IsGuarded st.old following.guard following.rest (seq_of ps) k → IsGuarded st.new b.guard b.rest (seq_of (part p ps)) k) }
 {
-    let guard = both(st, d, behind.guard)?;
+    let guard = both(st, d, following.guard)?;
     Ok(Behind {
         guard,
-        rest: behind.rest,
+        rest: following.rest,
     })
 }
 

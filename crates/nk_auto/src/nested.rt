@@ -1,8 +1,8 @@
 //! Both what a policy does without a record and what it records first, for a star that holds stars.
 ghost use Rattle.std.specs.Prelude.{ℕ, IfOk};
 ghost use Rattle.nk_policy.specs.Policy.{Policy, Policies, seq_of, star_of, part};
-ghost use Rattle.nk_store.specs.Held.{IsId, look, Grows};
-ghost use Rattle.nk_apply.specs.Predicates.{Ends};
+ghost use Rattle.nk_store.specs.StoreState.{IsId, look, Grows};
+ghost use Rattle.nk_apply.specs.Predicates.{HasOnlyFinals};
 ghost use Rattle.nk_auto.specs.Continued.{IsSilent, IsContinued};
 ghost use Rattle.nk_auto.specs.TwoWays.{AreWays};
 
@@ -64,22 +64,26 @@ fn some_holds_star(ps: &[Pol]) -> bool {
     false
 }
 
-/// Both ways of a first part and of the parts behind it, as those of all of them.
-pub fn put_before(st: &mut Store, first: BothWays, behind: BothWays) -> Result<BothWays, AllocError>
+/// Both ways of a first part and of the parts after it, as those of all of them.
+pub fn put_before(
+    st: &mut Store,
+    first: BothWays,
+    following: BothWays,
+) -> Result<BothWays, AllocError>
     requires silent { IsId st.old first.silent }
-    requires ends { Ends (look st.old first.silent) }
+    requires ends { HasOnlyFinals (look st.old first.silent) }
     requires records { IsId st.old first.records }
-    requires behind_silent { IsId st.old behind.silent }
-    requires behind_records { IsId st.old behind.records }
+    requires after_silent { IsId st.old following.silent }
+    requires after_records { IsId st.old following.records }
     ensures grows { Grows st.old st.new }
     ensures ok { IfOk result (λ b. (p : Policy) (ps : Policies) (nothing : ℕ) → AreWays st.old first.silent first.records nothing p →
-        AreWays st.old behind.silent behind.records nothing (seq_of ps) →
+        AreWays st.old following.silent following.records nothing (seq_of ps) →
         AreWays st.new b.silent b.records nothing (seq_of (part p ps))) }
 {
-    let later = ended_then(st, first.silent, behind.records)?;
+    let later = ended_then(st, first.silent, following.records)?;
     st.laws();
     let records = union(st, first.records, later)?;
-    let silent = ended_then(st, first.silent, behind.silent)?;
+    let silent = ended_then(st, first.silent, following.silent)?;
     st.laws();
     Ok(BothWays { silent, records })
 }
@@ -88,7 +92,7 @@ pub fn put_before(st: &mut Store, first: BothWays, behind: BothWays) -> Result<B
 /// diagram or what the body records first.
 pub fn around(st: &mut Store, body: BothWays, next: Id) -> Result<BothWays, AllocError>
     requires silent { IsId st.old body.silent }
-    requires ends { Ends (look st.old body.silent) }
+    requires ends { HasOnlyFinals (look st.old body.silent) }
     requires records { IsId st.old body.records }
     requires next { IsId st.old next }
     ensures grows { Grows st.old st.new }

@@ -1,6 +1,6 @@
 //! The diagrams of a test, of a range and of an assignment, of a value past the field's highest too.
 ghost use Rattle.std.specs.Prelude.{◌∷◌, [], cond, leb, eqb, min, slice_index, IfOk};
-ghost use Rattle.nk_store.specs.Held.{Grows, HasLeaves};
+ghost use Rattle.nk_store.specs.StoreState.{Grows, HasLeaves};
 ghost use Rattle.nk_apply.specs.Predicates.{IsPredicate};
 ghost use Rattle.nk_apply.specs.Seqs.{in_span};
 ghost use Rattle.nk_auto.specs.Values.{one_out};

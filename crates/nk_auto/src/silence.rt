@@ -2,8 +2,8 @@
 ghost use Rattle.std.specs.Prelude.{◌≡◌, ℕ, true, IfOk};
 ghost use Rattle.nk_policy.specs.Policy.{test, range, assign, sum_of, seq_of, not_of, star_of, dup, link, is_predicate};
 ghost use Rattle.nk_policy.specs.Tree.{tree_of, trees_of};
-ghost use Rattle.nk_store.specs.Held.{IsId, look, Grows, HasLeaves};
-ghost use Rattle.nk_apply.specs.Predicates.{Ends, IsPredicate};
+ghost use Rattle.nk_store.specs.StoreState.{IsId, look, Grows, HasLeaves};
+ghost use Rattle.nk_apply.specs.Predicates.{HasOnlyFinals, IsPredicate};
 ghost use Rattle.nk_apply.specs.Seqs.{seq_leaf};
 ghost use Rattle.nk_auto.specs.Continued.{IsSilent};
 
@@ -153,7 +153,7 @@ fn silent_all(st: &mut Store, ps: &[Pol]) -> Result<Id, AllocError>
 /// What a diagram that ends does, and then another one: itself, where the other one passes each packet.
 pub(crate) fn ended_then(st: &mut Store, d: Id, next: Id) -> Result<Id, AllocError>
     requires id { IsId st.old d }
-    requires ends { Ends (look st.old d) }
+    requires ends { HasOnlyFinals (look st.old d) }
     requires next { IsId st.old next }
     ensures grows { Grows st.old st.new }
     ensures ok { IfOk result (λ r. HasLeaves st.new r (λ pk. seq_leaf (look st.old d pk) (look st.old next) pk)) }

@@ -2,7 +2,7 @@
 ghost use Rattle.std.specs.Prelude.{◌≡◌, ◌<◌, ◌++◌, [], ◌∷◌, min, slice_index, IfOk, IfSome, OnOk};
 ghost use Rattle.nk_policy.specs.Policy.{sum_of};
 ghost use Rattle.nk_policy.specs.Tree.{tree_of, trees_of};
-ghost use Rattle.nk_store.specs.Held.{Grows, HasLeaves};
+ghost use Rattle.nk_store.specs.StoreState.{Grows, HasLeaves};
 ghost use Rattle.nk_apply.specs.Predicates.{IsPredicate};
 ghost use Rattle.nk_apply.specs.Seqs.{no_out};
 ghost use Rattle.nk_apply.specs.Unions.{HaveParts};
@@ -96,7 +96,7 @@ fn push_values(found: &mut List<(u64, u64)>, ends: (u64, u64)) -> Result<(), All
     Ok(())
 }
 
-/// The packet itself where the field's value is in one of the intervals. None where these don't ascend, each behind the one
+/// The packet itself where the field's value is in one of the intervals. None where these don't ascend, each after the one
 /// before, up to the field's largest value at most.
 fn values_where(st: &mut Store, f: Fid, intervals: &[(u64, u64)]) -> Result<Option<Id>, AllocError>
     ensures grows { Grows st.old st.new }

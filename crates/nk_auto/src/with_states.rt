@@ -2,7 +2,7 @@
 ghost use Rattle.std.specs.Prelude.{ℕ, ◌+◌, ◌-◌, ◌<◌, List as Items, IfOk, OnOk};
 ghost use Rattle.nk_policy.specs.Policy.{Policies, sum_of, seq_of, star_of, dup, link, part};
 ghost use Rattle.nk_policy.specs.Tree.{tree_of, trees_of};
-ghost use Rattle.nk_store.specs.Held.{IsId, Grows};
+ghost use Rattle.nk_store.specs.StoreState.{IsId, Grows};
 ghost use Rattle.nk_auto.specs.Continued.{IsContinued, AreWritten, IsPut};
 ghost use Rattle.nk_auto.specs.Guarded.{IsGuarded};
 
@@ -19,7 +19,7 @@ use std::alloc::AllocError;
 
 /// The same diagram as that of `continued`, in the same pass from the right, which also writes the state of each dup of
 /// the policy that has a place: the state of dup l stands at the place l - base, and becomes the diagram of what is left
-/// of the policy after l, continued by the same diagram. Dups that have the same left behind them have one diagram. The
+/// of the policy after l, continued by the same diagram. Dups that have the same left after them have one diagram. The
 /// only error is that memory ran out.
 #[cycle(with_states)]
 #[tactic(auto, using(nk_policy::proofs::Trees::tree_of_sum, nk_policy::proofs::Trees::tree_of_seq, crate::proofs::Writing::test_written, crate::proofs::Writing::range_written, crate::proofs::Writing::set_written, crate::proofs::Writing::not_written))]
@@ -167,30 +167,30 @@ fn write_all(
     Ok(())
 }
 
-/// The states of the first part's dups alone. What is behind it isn't put together where it has no dup.
+/// The states of the first part's dups alone. What is after it isn't put together where it has no dup.
 #[cycle(with_states)]
 fn write_first(
     st: &mut Store,
     p: &Pol,
-    behind: Behind,
+    following: Behind,
     base: u32,
     states: &mut List<Id>,
 ) -> Result<(), AllocError>
-    requires guard { IsId st.old behind.guard }
-    requires rest { IsId st.old behind.rest }
+    requires guard { IsId st.old following.guard }
+    requires rest { IsId st.old following.rest }
     ensures grows { Grows st.old st.new }
     ensures written { OnOk result ((before : Items ℕ) (ps : Policies) (k : ℕ) →
-        IsGuarded st.old behind.guard behind.rest (seq_of ps) k → AreWritten st.old before states.old base (seq_of ps) k →
+        IsGuarded st.old following.guard following.rest (seq_of ps) k → AreWritten st.old before states.old base (seq_of ps) k →
         AreWritten st.new before states.new base (seq_of (part (tree_of p.now) ps)) k) }
 {
     if !may_record(p) {
         return Ok(());
     }
-    let next = put_together(st, behind)?;
+    let next = put_together(st, following)?;
     write_states(st, p, next, base, states)
 }
 
-/// A dup: behind it the diagram is left.
+/// A dup: after it the diagram is left.
 fn dup_with_state(
     st: &mut Store,
     l: u32,
@@ -208,7 +208,7 @@ fn dup_with_state(
     Ok(d)
 }
 
-/// A link literal: behind its first dup its assignments and its second dup are left, and behind that one the diagram.
+/// A link literal: after its first dup its assignments and its second dup are left, and after that one the diagram.
 fn link_with_states(
     st: &mut Store,
     source: (u16, u16),
@@ -270,7 +270,7 @@ fn any_with_states(
     union_all(st, ids.as_slice())
 }
 
-/// The parts of a sequence, each continued by the parts behind it. Predicates side by side are one guard.
+/// The parts of a sequence, each continued by the parts after it. Predicates side by side are one guard.
 #[cycle(with_states)]
 fn all_with_states(
     st: &mut Store,
@@ -284,13 +284,13 @@ fn all_with_states(
     ensures ok { IfOk result (λ d. IsContinued st.new d (seq_of (trees_of ps.now)) next) }
     ensures written { OnOk result (AreWritten st.new states.old states.new base (seq_of (trees_of ps.now)) next) }
 {
-    let mut behind = unguarded(st, next)?;
+    let mut following = unguarded(st, next)?;
     let mut i = ps.len();
     while i > 0 {
         i -= 1;
-        behind = part_with_states(st, &ps[i], behind, base, states)?;
+        following = part_with_states(st, &ps[i], following, base, states)?;
     }
-    put_together(st, behind)
+    put_together(st, following)
 }
 
 /// One more part before what a sequence does from a place on, and the states of its dups.
@@ -298,23 +298,23 @@ fn all_with_states(
 fn part_with_states(
     st: &mut Store,
     p: &Pol,
-    behind: Behind,
+    following: Behind,
     base: u32,
     states: &mut List<Id>,
 ) -> Result<Behind, AllocError>
-    requires guard { IsId st.old behind.guard }
-    requires rest { IsId st.old behind.rest }
+    requires guard { IsId st.old following.guard }
+    requires rest { IsId st.old following.rest }
     ensures grows { Grows st.old st.new }
-    ensures ok { IfOk result (λ b. (ps : Policies) (k : ℕ) → IsGuarded st.old behind.guard behind.rest (seq_of ps) k →
+    ensures ok { IfOk result (λ b. (ps : Policies) (k : ℕ) → IsGuarded st.old following.guard following.rest (seq_of ps) k →
         IsGuarded st.new b.guard b.rest (seq_of (part (tree_of p.now) ps)) k) }
     ensures written { OnOk result ((before : Items ℕ) (ps : Policies) (k : ℕ) →
-        IsGuarded st.old behind.guard behind.rest (seq_of ps) k → AreWritten st.old before states.old base (seq_of ps) k →
+        IsGuarded st.old following.guard following.rest (seq_of ps) k → AreWritten st.old before states.old base (seq_of ps) k →
         AreWritten st.new before states.new base (seq_of (part (tree_of p.now) ps)) k) }
 {
     if let Some(d) = guard_of(st, p)? {
-        return guarded_by(st, d, behind);
+        return guarded_by(st, d, following);
     }
-    let next = put_together(st, behind)?;
+    let next = put_together(st, following)?;
     let rest = continued_with_states(st, p, next, base, states)?;
     unguarded(st, rest)
 }

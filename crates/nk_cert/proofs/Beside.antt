@@ -4,7 +4,7 @@ use Rattle.std.specs.Prelude.{slice_index, slice_set}
 use Rattle.std.proofs.lemmas.List.{get_or_append_left}
 use Rattle.nk_field.specs.Packet.{FieldTable}
 use Rattle.nk_policy.specs.Policy.{Policy, dups_of}
-use Rattle.nk_store.specs.Held.{Held, IsId, IsOver, Grows, AreTidy, HasLeaves, look}
+use Rattle.nk_store.specs.StoreState.{StoreState, IsId, IsOver, Grows, AreTidy, HasLeaves, look}
 use Rattle.nk_store.proofs.Stores.{grows_on}
 use Rattle.nk_apply.specs.Leaves.{merged}
 use Rattle.nk_auto.specs.Automaton.{IsState, IsAutomaton}
@@ -14,14 +14,14 @@ use Rattle.nk_cert.specs.Together.{AreNumbered, either_of}
 use Rattle.nk_cert.specs.Levelled.{IsAutomatonOfBoth, AreJoined}
 use Rattle.nk_cert.proofs.Joining.{either_state, joined_automaton}
 
--- behind a list come the elements of the next
-behind_list : (xs ys : List ℕ) (i : ℕ) → get_or (xs ++ ys) (length xs + i) 0 ≡ get_or ys i 0
-behind_list [] ys i = let e : 0 + i ≡ i = omega arith in ap (λ k. get_or ys k 0) e
-behind_list (x ∷ xs) ys i =
+-- after a list come the elements of the next
+after_list : (xs ys : List ℕ) (i : ℕ) → get_or (xs ++ ys) (length xs + i) 0 ≡ get_or ys i 0
+after_list [] ys i = let e : 0 + i ≡ i = omega arith in ap (λ k. get_or ys k 0) e
+after_list (x ∷ xs) ys i =
     let e : length (x ∷ xs) + i ≡ suc (length xs + i) = omega arith in
-    ap (λ k. get_or (x ∷ (xs ++ ys)) k 0) e ∙ behind_list xs ys i
+    ap (λ k. get_or (x ∷ (xs ++ ys)) k 0) e ∙ after_list xs ys i
 
--- the states behind the start
+-- the states after the start
 joined_states : (of_left of_right : List ℕ) (start : ℕ) (p q : Policy) → length of_left ≡ 1 + dups_of p → length of_right ≡ 1 + dups_of q
     → AreJoined of_left of_right (slice_set of_left 0 start ++ drop 1 of_right) p q
 joined_states [] of_right start p q e f = absurd (omega (arith, e))
@@ -35,7 +35,7 @@ joined_states (x ∷ ls) (y ∷ rs) start p q e f = record {
   right = λ i lt.
       let is : 1 + (dups_of p + i) ≡ suc (length ls + i) = omega (arith, e) in
       let one : 1 + i ≡ suc i = omega arith in
-      ap (λ k. get_or (start ∷ (ls ++ rs)) k 0) is ∙ behind_list ls rs i ∙ sym (ap (λ k. get_or (y ∷ rs) k 0) one);
+      ap (λ k. get_or (start ∷ (ls ++ rs)) k 0) is ∙ after_list ls rs i ∙ sym (ap (λ k. get_or (y ∷ rs) k 0) one);
 }
 
 -- and the start
@@ -44,7 +44,7 @@ first_state [] more start lt = absurd (omega (arith, lt))
 first_state (x ∷ ls) more start lt = refl
 
 -- the states that are put together are the automaton of both
-pub both_are : (fields : FieldTable) (first second third : Held) (of_left of_right states : List ℕ) (left right start : ℕ) (p q : Policy)
+pub both_are : (fields : FieldTable) (first second third : StoreState) (of_left of_right states : List ℕ) (left right start : ℕ) (p q : Policy)
     → IsOver fields third → AreTidy third → AreNumbered p q
     → IsAutomaton first of_left 1 p → Grows first second → IsAutomaton second of_right (1 + dups_of p) q → Grows second third
     → left ≡ slice_index of_left 0 → right ≡ slice_index of_right 0

@@ -11,9 +11,9 @@ use Rattle.nk_policy.specs.Labels.{HasRecorded, HasExactly}
 use Rattle.nk_policy.specs.PositionSets.{IsPosition, last_from, IsPositionOfEither, AreSides}
 use Rattle.nk_policy.proofs.PositionSteps.{left_gives, right_gives}
 use Rattle.nk_store.specs.declared.node.Out.{Out}
-use Rattle.nk_store.specs.Held.{Held, IsPacket}
+use Rattle.nk_store.specs.StoreState.{StoreState, IsStorePacket}
 use Rattle.nk_store.proofs.InRange.{packet_in_range, packet_of_fields}
-use Rattle.nk_reach.specs.Pairs.{Node, HavePlaces, IsStep}
+use Rattle.nk_reach.specs.Pairs.{Node, AreLabelsBelow, IsStep}
 use Rattle.nk_reach.specs.Sides.{EndsAt}
 use Rattle.nk_reach.specs.Breaks.{Walks, IsBreak, Breaks}
 use Rattle.nk_runs.specs.Labels.{IsAmong}
@@ -33,20 +33,20 @@ positions_either p q pk (y ∷ u) s h =
     exact_for (HasRecorded (either_of p q) pk (y ∷ u)) (IsAtEither p q pk (y ∷ u)) s (either_at p q pk (y ∷ u)) h
 
 -- the set where a history's records end
-record IsEnd (st : Held) (states : List ℕ) (p q : Policy) (f : Found) (n : Node) : Type 0 where
+record IsEnd (st : StoreState) (states : List ℕ) (p q : Policy) (f : Found) (n : Node) : Type 0 where
   exactly : HasExactly (IsPositionOfEither p q f.start f.records) n.0
   last : n.1 ≡ last_from f.start f.records
-  range : IsPacket st n.1
-  places : HavePlaces (length states) n.0
+  range : IsStorePacket st n.1
+  places : AreLabelsBelow (length states) n.0
 
-module _ (fields : FieldTable) (st : Held) (states : List ℕ) (left right : ℕ) (p q : Policy) (a : IsAutomatonOfBoth fields st states left right p q) where
+module _ (fields : FieldTable) (st : StoreState) (states : List ℕ) (left right : ℕ) (p q : Policy) (a : IsAutomatonOfBoth fields st states left right p q) where
   sides : AreSides p q
   sides = sides_of p q a.numbered
 
   distinct : HasDistinct (either_of p q)
   distinct = either_distinct p q sides
 
-  end_is : (f : Found) (n : Node) → IsPacket st f.start → Walks (IsStep st states) (0 ∷ [], f.start) f.records n → IsEnd st states p q f n
+  end_is : (f : Found) (n : Node) → IsStorePacket st f.start → Walks (IsStep st states) (0 ∷ [], f.start) f.records n → IsEnd st states p q f n
   end_is f n r w =
       let m = (walks_met st states (either_of p q) a.states_are distinct a.tidy f.start f.records n r).0 w in
       record {

@@ -14,13 +14,13 @@ use Rattle.nk_policy.specs.Distinct.{HasDistinct}
 use Rattle.nk_policy.specs.PositionSets.{at_position}
 use Rattle.nk_policy.proofs.Tests.{false_true, or_cases}
 use Rattle.nk_store.specs.declared.node.Out.{Out}
-use Rattle.nk_store.specs.Held.{Held, IsPacket, Grows, AreTidy}
+use Rattle.nk_store.specs.StoreState.{StoreState, IsStorePacket, Grows, AreTidy}
 use Rattle.nk_store.proofs.InRange.{packet_in_range, packet_of_fields, over_grown}
 use Rattle.nk_apply.specs.Unions.{AreIds}
 use Rattle.nk_determ.specs.Exact.{Sends}
 use Rattle.nk_determ.specs.States.{StateLeads}
 use Rattle.nk_auto.proofs.Stating.{label_within}
-use Rattle.nk_reach.specs.Pairs.{HavePlaces, IsStep}
+use Rattle.nk_reach.specs.Pairs.{AreLabelsBelow, IsStep}
 use Rattle.nk_reach.specs.Sides.{alone, alone_sided, ends_of, ends_same, MakesWithTarget, AreOneSided}
 use Rattle.nk_reach.specs.Sides.{EndsAt}
 use Rattle.nk_reach.proofs.Growing.{place_of}
@@ -29,26 +29,26 @@ use Rattle.nk_runs.proofs.Listings.{all_listed, some_decided, sends_decided}
 use Rattle.nk_runs.proofs.Stands.{stands, state_on, are_states}
 use Rattle.nk_runs.proofs.Steps.{start_leads, members_lead, led_in_range}
 use Rattle.nk_cert.specs.Together.{either_of, EndsWithin}
-use Rattle.nk_cert.specs.Certificates.{Place, at_start, behind, CertRow, SomeEndsAt, RecordsNext, IsPlaceOf, MeetsPosition, MeetsFinals, MeetsHop}
+use Rattle.nk_cert.specs.Certificates.{RowPosition, at_start, at_dups, CertRow, SomeEndsAt, RecordsNext, IsRowPositionOf, MeetsPosition, MeetsFinals, MeetsHop}
 use Rattle.nk_cert.specs.Levelled.{IsAutomatonOfBoth, IsOneSided}
-use Rattle.nk_cert.specs.Checked.{labels_at, IsSetAt, HasNoBad, StepsLeadToRows}
+use Rattle.nk_cert.specs.Checked.{labels_at, IsSetAt, HasNoViolation, StepsLeadToRows}
 use Rattle.nk_cert.proofs.Together.{sides_of, either_distinct, held_left, held_right, after_left, after_right, left_state, right_state}
 use Rattle.nk_cert.proofs.Levels.{side_ends, empty_from, first_of_some, ends_decided, below_from, above_from, mark_below, mark_above, above_start, both_decided, decided_for, above_zero}
 
 -- the goal of sides, in the store in which levels begin, is one-sided
-pub goal_is_one_sided : (first made old : Held) (states : List ℕ) (left right bound : ℕ) (ends : List ℕ)
+pub goal_is_one_sided : (first made old : StoreState) (states : List ℕ) (left right bound : ℕ) (ends : List ℕ)
     → AreIds made ends → length ends ≡ length states → Grows first made → Grows made old
-    → ((set pk : List ℕ) → HavePlaces (length states) set → IsPacket first pk → AreOneSided first states left right bound set pk (alone (ends_of made ends set pk)))
+    → ((set pk : List ℕ) → AreLabelsBelow (length states) set → IsStorePacket first pk → AreOneSided first states left right bound set pk (alone (ends_of made ends set pk)))
     → IsOneSided first states left right bound (λ set pk. alone (ends_of old ends set pk))
 goal_is_one_sided first made old states left right bound ends ids count begun grown sided = record {
   sides = λ set pk places range.
-      let p : HavePlaces (length ends) set = subst (λ n. HavePlaces n set) (sym count) places in
+      let p : AreLabelsBelow (length ends) set = subst (λ n. AreLabelsBelow n set) (sym count) places in
       subst (λ outs. AreOneSided first states left right bound set pk (alone outs)) (sym (ends_same made old ends set pk grown ids p)) (sided set pk places range);
   targets = λ set pk o c. alone_sided (ends_of old ends set pk) o c;
 }
 
 -- the automaton of both stands while the store grows
-pub both_stand : (fields : FieldTable) (st new : Held) (states : List ℕ) (left right : ℕ) (p q : Policy)
+pub both_stand : (fields : FieldTable) (st new : StoreState) (states : List ℕ) (left right : ℕ) (p q : Policy)
     → IsAutomatonOfBoth fields st states left right p q → Grows st new → AreTidy new
     → IsAutomatonOfBoth fields new states left right p q
 both_stand fields st new states left right p q a g tidy = record {
@@ -60,7 +60,7 @@ both_stand fields st new states left right p q a g tidy = record {
   right_start = state_on st new right q a.right_start g;
 }
 
-module _ (fields : FieldTable) (st : Held) (states : List ℕ) (left right : ℕ) (p q : Policy) (a : IsAutomatonOfBoth fields st states left right p q) where
+module _ (fields : FieldTable) (st : StoreState) (states : List ℕ) (left right : ℕ) (p q : Policy) (a : IsAutomatonOfBoth fields st states left right p q) where
   distinct : HasDistinct (either_of p q)
   distinct = either_distinct p q (sides_of p q a.numbered)
 
@@ -72,7 +72,7 @@ module _ (fields : FieldTable) (st : Held) (states : List ℕ) (left right : ℕ
   right_above l h = let w = label_within q (1 + dups_of p) l a.numbered.right h in omega (arith, w.0)
 
   -- position: each number is one of those of all dups
-  pub position_is : (positions : List ℕ) → IsPlaceOf p q (behind positions) ↔ ((l : ℕ) → Contains positions l → (1 ≤ l) × (l ≤ dups_of p + dups_of q))
+  pub position_is : (positions : List ℕ) → IsRowPositionOf p q (at_dups positions) ↔ ((l : ℕ) → Contains positions l → (1 ≤ l) × (l ≤ dups_of p + dups_of q))
   position_is positions = (
     λ h l c.
         ⊎_elim
@@ -88,17 +88,17 @@ module _ (fields : FieldTable) (st : Held) (states : List ℕ) (left right : ℕ
   )
 
   -- a place of dups
-  module _ (place : Place) (ok : IsPlaceOf p q place) (set : List ℕ) (same : IsSetAt place set) where
+  module _ (row_position : RowPosition) (ok : IsRowPositionOf p q row_position) (set : List ℕ) (same : IsSetAt row_position set) where
     -- a label of the place above 0 is a dup
     dup_of_place : (l : ℕ) → Contains set l → 0 < l → (has_dup p l ≡ true) ⊎ (has_dup q l ≡ true)
-    dup_of_place l c some = by place ok ((same l).0 c)
+    dup_of_place l c some = by row_position ok ((same l).0 c)
       where
-        by : (at : Place) → IsPlaceOf p q at → Contains (labels_at at) l → (has_dup p l ≡ true) ⊎ (has_dup q l ≡ true)
+        by : (at : RowPosition) → IsRowPositionOf p q at → Contains (labels_at at) l → (has_dup p l ≡ true) ⊎ (has_dup q l ≡ true)
         by at_start k i = absurd (⊎_elim (λ e. omega (arith, e, some)) (λ z. z) (in_from_contains (0 ∷ []) l i))
-        by (behind positions) k i = k l i
+        by (at_dups positions) k i = k l i
 
     -- all labels are places among the states
-    pub places : HavePlaces (length states) set
+    pub places : AreLabelsBelow (length states) set
     places =
         all_from_members (λ l. l < length states) set
         (λ l i. by (numbers_decided l 0) (contains_from_in set l i))
@@ -112,17 +112,17 @@ module _ (fields : FieldTable) (st : Held) (states : List ℕ) (left right : ℕ
             omega (arith, w.1, a.states_are.count)
 
     -- what a side ends at
-    ends_there : (b : Policy) → ((l : ℕ) → has_dup b l ≡ true → 0 < l) → (x y : Packet) → SomeEndsAt b place x y ↔ EndsWithin b set x y
-    ends_there b above x y = by place ok same
+    ends_there : (b : Policy) → ((l : ℕ) → has_dup b l ≡ true → 0 < l) → (x y : Packet) → SomeEndsAt b row_position x y ↔ EndsWithin b set x y
+    ends_there b above x y = by row_position ok same
       where
-        by : (at : Place) → IsPlaceOf p q at → IsSetAt at set → SomeEndsAt b at x y ↔ EndsWithin b set x y
+        by : (at : RowPosition) → IsRowPositionOf p q at → IsSetAt at set → SomeEndsAt b at x y ↔ EndsWithin b set x y
         by at_start k s = (
           λ e. (0, (s 0).1 (contains_from_in (0 ∷ []) 0 (inl refl)), inl refl, subst (λ z. Gives z x [] y) e.1 e.2),
           λ e.
               let is : e.0 ≡ 0 = ⊎_elim (λ z. z) (λ z. absurd z) (in_from_contains (0 ∷ []) e.0 ((s e.0).0 e.1)) in
               (b, refl, subst (λ l. Gives (at_position b l) x [] y) is e.3),
         )
-        by (behind positions) k s = (
+        by (at_dups positions) k s = (
           λ e.
               let m = e.1 in
               let g = subst (λ z. Gives z x [] y) m.3 e.2 in
@@ -139,7 +139,7 @@ module _ (fields : FieldTable) (st : Held) (states : List ℕ) (left right : ℕ
         )
 
     -- the ends of both sides at a packet
-    pub left_there : (x y : Packet) → IsPacket st x → EndsAt st states left (1 + dups_of p) 1 set x y ↔ SomeEndsAt p place x y
+    pub left_there : (x y : Packet) → IsStorePacket st x → EndsAt st states left (1 + dups_of p) 1 set x y ↔ SomeEndsAt p row_position x y
     left_there x y range =
         let e =
         side_ends st states left (1 + dups_of p) 1 p a.left_start
@@ -158,7 +158,7 @@ module _ (fields : FieldTable) (st : Held) (states : List ℕ) (left right : ℕ
         let f = ends_there p left_above x y in
         (λ h. f.1 (e.0 h), λ h. e.1 (f.0 h))
 
-    pub right_there : (x y : Packet) → IsPacket st x → EndsAt st states right (1 + dups_of p) 2 set x y ↔ SomeEndsAt q place x y
+    pub right_there : (x y : Packet) → IsStorePacket st x → EndsAt st states right (1 + dups_of p) 2 set x y ↔ SomeEndsAt q row_position x y
     right_there x y range =
         let e =
         side_ends st states right (1 + dups_of p) 2 q a.right_start
@@ -180,14 +180,14 @@ module _ (fields : FieldTable) (st : Held) (states : List ℕ) (left right : ℕ
         (λ h. f.1 (e.0 h), λ h. e.1 (f.0 h))
 
     -- both sides end alike exactly where nothing is bad
-    alike : (bad : List ℕ → List ℕ → List Out) → IsOneSided st states left right (1 + dups_of p) bad → (x : Packet) → IsPacket st x
-        → ((y : Packet) → SomeEndsAt p place x y ↔ SomeEndsAt q place x y) ↔ (bad set x ≡ [])
+    alike : (bad : List ℕ → List ℕ → List Out) → IsOneSided st states left right (1 + dups_of p) bad → (x : Packet) → IsStorePacket st x
+        → ((y : Packet) → SomeEndsAt p row_position x y ↔ SomeEndsAt q row_position x y) ↔ (bad set x ≡ [])
     alike bad goal x range = (λ h. forth h, λ e y. (λ k. there e y k, λ k. back e y k))
       where
         sided : AreOneSided st states left right (1 + dups_of p) set x (bad set x)
         sided = goal.sides set x places range
 
-        forth : ((y : Packet) → SomeEndsAt p place x y ↔ SomeEndsAt q place x y) → bad set x ≡ []
+        forth : ((y : Packet) → SomeEndsAt p row_position x y ↔ SomeEndsAt q row_position x y) → bad set x ≡ []
         forth h = empty_from (bad set x) (λ some.
             let o = first_of_some (bad set x) some in
             let y = applied o.0.act x in
@@ -202,7 +202,7 @@ module _ (fields : FieldTable) (st : Held) (states : List ℕ) (left right : ℕ
             w.1 ((left_there x y range).1 ((h y).1 ((right_there x y range).0 w.0))))
             (goal.targets set x o.0 o.1))
 
-        there : bad set x ≡ [] → (y : Packet) → SomeEndsAt p place x y → SomeEndsAt q place x y
+        there : bad set x ≡ [] → (y : Packet) → SomeEndsAt p row_position x y → SomeEndsAt q row_position x y
         there e y k =
             let mine = (left_there x y range).1 k in
             let its = stable (ends_decided st states right (1 + dups_of p) 2 set x y) (λ other.
@@ -210,7 +210,7 @@ module _ (fields : FieldTable) (st : Held) (states : List ℕ) (left right : ℕ
             in_from_contains {X = Out} [] (record { act = m.0; target = 0 }) (subst (λ os. Contains os (record { act = m.0; target = 0 })) e m.1)) in
             (right_there x y range).0 its
 
-        back : bad set x ≡ [] → (y : Packet) → SomeEndsAt q place x y → SomeEndsAt p place x y
+        back : bad set x ≡ [] → (y : Packet) → SomeEndsAt q row_position x y → SomeEndsAt p row_position x y
         back e y k =
             let mine = (right_there x y range).1 k in
             let its = stable (ends_decided st states left (1 + dups_of p) 1 set x y) (λ other.
@@ -219,13 +219,13 @@ module _ (fields : FieldTable) (st : Held) (states : List ℕ) (left right : ℕ
             (left_there x y range).0 its
 
     -- what is recorded next is what the states of the set lead to
-    pub next_is : (x z : Packet) (l : ℕ) → IsPacket st x → RecordsNext p q place x z l ↔ ((0 < l) × StateLeads st states set x z l)
-    next_is x z l range = by place ok same
+    pub next_is : (x z : Packet) (l : ℕ) → IsStorePacket st x → RecordsNext p q row_position x z l ↔ ((0 < l) × StateLeads st states set x z l)
+    next_is x z l range = by row_position ok same
       where
-        moved : (at : Place) → IsSetAt at set → StateLeads st states (labels_at at) x z l ↔ StateLeads st states set x z l
+        moved : (at : RowPosition) → IsSetAt at set → StateLeads st states (labels_at at) x z l ↔ StateLeads st states set x z l
         moved at s = (λ h. (h.0, (s h.0).1 h.1, h.2), λ h. (h.0, (s h.0).0 h.1, h.2))
 
-        by : (at : Place) → IsPlaceOf p q at → IsSetAt at set → RecordsNext p q at x z l ↔ ((0 < l) × StateLeads st states set x z l)
+        by : (at : RowPosition) → IsRowPositionOf p q at → IsSetAt at set → RecordsNext p q at x z l ↔ ((0 < l) × StateLeads st states set x z l)
         by at_start k s =
             let lead = start_leads st states (either_of p q) a.states_are distinct a.tidy x z range l in
             let m = moved at_start s in (
@@ -234,12 +234,12 @@ module _ (fields : FieldTable) (st : Held) (states : List ℕ) (left right : ℕ
                   (w.0, m.0 w.1),
               λ h. ⊎_elim (λ r. (p, inl refl, r)) (λ r. ⊎_elim (λ u. (q, inr refl, u)) (λ n. absurd n) r) (lead.0 (h.0, m.1 h.1)),
             )
-        by (behind positions) k s =
+        by (at_dups positions) k s =
             let sd = sides_of p q a.numbered in
             let dups : (j : ℕ) → Contains positions j → has_dup (either_of p q) j ≡ true =
             λ j c. ⊎_elim (λ d. held_left p q sd j d) (λ d. held_right p q sd j d) (k j c) in
             let lead = members_lead st states (either_of p q) a.states_are distinct a.tidy positions x z dups range l in
-            let m = moved (behind positions) s in (
+            let m = moved (at_dups positions) s in (
               λ r.
                   let w =
                   lead.1
@@ -257,7 +257,7 @@ module _ (fields : FieldTable) (st : Held) (states : List ℕ) (left right : ℕ
             )
 
     -- whatever is recorded next is a step to the set of all labels with which it is
-    step_of : (x z : Packet) (l : ℕ) → IsPacket st x → RecordsNext p q place x z l → (t : List ℕ) × IsStep st states (set, x) (t, z)
+    step_of : (x z : Packet) (l : ℕ) → IsStorePacket st x → RecordsNext p q row_position x z l → (t : List ℕ) × IsStep st states (set, x) (t, z)
     step_of x z l range r =
         let P : ℕ → Type 0 = λ k. (0 < k) × StateLeads st states set x z k in
         let all =
@@ -281,43 +281,43 @@ module _ (fields : FieldTable) (st : Held) (states : List ℕ) (left right : ℕ
 
   -- finals: nothing is bad at the packets of the row
   pub finals_is : (bad : List ℕ → List ℕ → List Out) → IsOneSided st states left right (1 + dups_of p) bad
-      → (row : CertRow) → MeetsPosition fields p q row → (set : List ℕ) → IsSetAt row.place set
-      → MeetsFinals fields p q row ↔ HasNoBad st bad row set
+      → (row : CertRow) → MeetsPosition fields p q row → (set : List ℕ) → IsSetAt row.row_position set
+      → MeetsFinals fields p q row ↔ HasNoViolation st bad row set
   finals_is bad goal row ok set same = (
-    λ h pk range here. (alike row.place ok set same bad goal pk range).0 (h pk (packet_of_fields fields st pk a.over range) here),
+    λ h pk range here. (alike row.row_position ok set same bad goal pk range).0 (h pk (packet_of_fields fields st pk a.over range) here),
     λ h pk r here.
         let range = packet_in_range fields st pk a.over r in
-        (alike row.place ok set same bad goal pk range).1 (h pk range here),
+        (alike row.row_position ok set same bad goal pk range).1 (h pk range here),
   )
 
   -- hop: each step leads to a row
-  pub hop_is : (all : List CertRow) (row : CertRow) → MeetsPosition fields p q row → (set : List ℕ) → IsSetAt row.place set
+  pub hop_is : (all : List CertRow) (row : CertRow) → MeetsPosition fields p q row → (set : List ℕ) → IsSetAt row.row_position set
       → MeetsHop fields p q all row ↔ StepsLeadToRows st states all row set
   hop_is all row ok set same = (
     λ h pk x t range here step.
         let one = first_of_some t step.some in
         let lead = (step.every one.0).0 one.1 in
-        let next = (next_is row.place ok set same pk x one.0 range).1 lead in
+        let next = (next_is row.row_position ok set same pk x one.0 range).1 lead in
         let r = h pk x one.0 (packet_of_fields fields st pk a.over range) here next in (
           r.0,
           r.1,
           r.2,
           λ l. (
-            λ c. (step.every l).1 ((next_is row.place ok set same pk x l range).0 ((r.3 l).0 c)),
-            λ c. (r.3 l).1 ((next_is row.place ok set same pk x l range).1 ((step.every l).0 c)),
+            λ c. (step.every l).1 ((next_is row.row_position ok set same pk x l range).0 ((r.3 l).0 c)),
+            λ c. (r.3 l).1 ((next_is row.row_position ok set same pk x l range).1 ((step.every l).0 c)),
           ),
           r.4,
         ),
     λ h pk x l ok_pk here next.
         let range = packet_in_range fields st pk a.over ok_pk in
-        let step = step_of row.place ok set same pk x l range next in
+        let step = step_of row.row_position ok set same pk x l range next in
         let r = h pk x step.0 range here step.1 in (
           r.0,
           r.1,
           r.2,
           λ k. (
-            λ c. (next_is row.place ok set same pk x k range).1 ((step.1.every k).0 ((r.3 k).0 c)),
-            λ n. (r.3 k).1 ((step.1.every k).1 ((next_is row.place ok set same pk x k range).0 n)),
+            λ c. (next_is row.row_position ok set same pk x k range).1 ((step.1.every k).0 ((r.3 k).0 c)),
+            λ n. (r.3 k).1 ((step.1.every k).1 ((next_is row.row_position ok set same pk x k range).0 n)),
           ),
           r.4,
         ),

@@ -9,7 +9,7 @@ use Rattle.nk_policy.specs.Ranges.{IsInRange}
 use Rattle.nk_policy.specs.Meaning.{Way, Gives}
 use Rattle.nk_policy.proofs.Remade.{marked_ways, marked_again}
 use Rattle.nk_store.specs.declared.node.Out.{Out}
-use Rattle.nk_store.specs.Held.{Held, Grows, AreTidy}
+use Rattle.nk_store.specs.StoreState.{StoreState, Grows, AreTidy}
 use Rattle.nk_store.proofs.Stores.{grows_on}
 use Rattle.nk_sets.specs.PacketSets.{is_in}
 use Rattle.nk_determ.specs.Sets.{HasEachSetOnce}
@@ -51,15 +51,15 @@ same_target Left = refl
 same_target Right = refl
 
 -- entries over states have sets of packets
-pub packets_are_sets : (st : Held) (ss : List (List ℕ)) (states : ℕ) (ps : List (ℕ × ℕ)) → EachPair (IsPair st ss states) ps → HaveSets st ps
+pub packets_are_sets : (st : StoreState) (ss : List (List ℕ)) (states : ℕ) (ps : List (ℕ × ℕ)) → EachPair (IsPair st ss states) ps → HaveSets st ps
 packets_are_sets st ss states [] h = tt
 packets_are_sets st ss states (p ∷ ps) h = (h.0.packets, packets_are_sets st ss states ps h.1)
 
 -- what the goal finds bad in a store
-abbrev pub bad_in : Held → List ℕ → List ℕ → List ℕ → List Out
-bad_in st ends set pk = alone (ends_of st ends set pk)
+abbrev pub violations_in : StoreState → List ℕ → List ℕ → List ℕ → List Out
+violations_in st ends set pk = alone (ends_of st ends set pk)
 
-module _ (first : Held) (states : List ℕ) (left right bound : ℕ) (new : Held) (ss : List (List ℕ)) (ends : List ℕ) (ls : List (List (ℕ × ℕ))) (broken : Bool) (states_are : AreStates first states)
+module _ (first : StoreState) (states : List ℕ) (left right bound : ℕ) (new : StoreState) (ss : List (List ℕ)) (ends : List ℕ) (ls : List (List (ℕ × ℕ))) (broken : Bool) (states_are : AreStates first states)
     (lv : AreSideLevels first states left right bound new ss ends ls broken) where
   -- the levels begin with the start at all packets
   set_first : first_set ls ≡ lv.set
@@ -77,19 +77,19 @@ module _ (first : Held) (states : List ℕ) (left right bound : ℕ) (new : Held
       (has_on lv.old new lv.start pk lv.grown lv.start_id (lv.start_is pk (packet_back lv.old new pk lv.grown r)))
 
   -- they are levels of the store as it is now
-  pub levels_here : AreLevels new new ss states (first_set ls) (first_packets ls) (λ set pk. bad_in new ends set pk) ls broken
+  pub levels_here : AreLevels new new ss states (first_set ls) (first_packets ls) (λ set pk. violations_in new ends set pk) ls broken
   levels_here =
       let begun = states_grow first lv.old states lv.begun states_are in
-      let made : AreLevels new new ss states lv.set lv.start (λ set pk. bad_in new ends set pk) ls broken =
-      levels_now lv.old new ss states lv.set lv.start lv.bad (λ set pk. bad_in new ends set pk) ls broken lv.grown begun lv.start_id (λ n places. lv.read n.0 n.1 places) lv.levels in
-      subst (λ (v : ℕ). AreLevels new new ss states v (first_packets ls) (λ set pk. bad_in new ends set pk) ls broken) (sym set_first)
-      (subst (λ (v : ℕ). AreLevels new new ss states lv.set v (λ set pk. bad_in new ends set pk) ls broken) (sym packets_first) made)
+      let made : AreLevels new new ss states lv.set lv.start (λ set pk. violations_in new ends set pk) ls broken =
+      levels_now lv.old new ss states lv.set lv.start lv.bad (λ set pk. violations_in new ends set pk) ls broken lv.grown begun lv.start_id (λ n places. lv.read n.0 n.1 places) lv.levels in
+      subst (λ (v : ℕ). AreLevels new new ss states v (first_packets ls) (λ set pk. violations_in new ends set pk) ls broken) (sym set_first)
+      (subst (λ (v : ℕ). AreLevels new new ss states lv.set v (λ set pk. violations_in new ends set pk) ls broken) (sym packets_first) made)
 
-module _ (fields : FieldTable) (first : Held) (states : List ℕ) (left right bound : ℕ) (p q : Policy) (a : IsAutomatonOfBoth fields first states left right p q) (is : bound ≡ 1 + dups_of p)
-    (new : Held) (ss : List (List ℕ)) (ends : List ℕ) (ls : List (List (ℕ × ℕ))) (broken : Bool) (lv : AreSideLevels first states left right bound new ss ends ls broken) where
+module _ (fields : FieldTable) (first : StoreState) (states : List ℕ) (left right bound : ℕ) (p q : Policy) (a : IsAutomatonOfBoth fields first states left right p q) (is : bound ≡ 1 + dups_of p)
+    (new : StoreState) (ss : List (List ℕ)) (ends : List ℕ) (ls : List (List (ℕ × ℕ))) (broken : Bool) (lv : AreSideLevels first states left right bound new ss ends ls broken) where
   -- without an end of one side alone both do the same, and what is made of the levels is the printed certificate
   pub related_is :
-      broken ≡ false → HasEachSetOnce ss → IsInRange p fields → IsInRange q fields → (final : Held) → Grows new final
+      broken ≡ false → HasEachSetOnce ss → IsInRange p fields → IsInRange q fields → (final : StoreState) → Grows new final
       → (c : CertificateValue) → IsCertificateOf new final ss ls c → IsRelated fields p q c
   related_is e differ rp rq final grew c made =
       let levels = levels_of_policies fields first states left right bound p q a is new ss ends ls broken lv in
@@ -105,36 +105,36 @@ module _ (fields : FieldTable) (first : Held) (states : List ℕ) (left right bo
 
   -- and what is least of all that break the goal is the least difference
   pub difference_is : AreTidy new → (side : Side) (f : Found)
-      → IsBreak new states (slice_index_or ss (first_set ls) []) (first_packets ls) (λ set pk. bad_in new ends set pk) (witness_target side) f
-      → IsLeast (λ g. Breaks new states (slice_index_or ss (first_set ls) []) (first_packets ls) (λ set pk. bad_in new ends set pk) g) f
+      → IsBreak new states (slice_index_or ss (first_set ls) []) (first_packets ls) (λ set pk. violations_in new ends set pk) (witness_target side) f
+      → IsLeast (λ g. Breaks new states (slice_index_or ss (first_set ls) []) (first_packets ls) (λ set pk. violations_in new ends set pk) g) f
       → IsLeastDifference fields p q (whose side) f
   difference_is tidy side f breaks least =
       let states_are = are_states first states (either_of p q) a.states_are in
       let alone_set = start_alone first states left right bound new ss ends ls broken states_are lv in
       let here = both_stand fields first new states left right p q a (grows_on first lv.old new lv.begun lv.grown) tidy in
-      least_difference fields new states left right p q here (λ set pk. bad_in new ends set pk)
+      least_difference fields new states left right p q here (λ set pk. violations_in new ends set pk)
       (goal_now fields first states left right bound p q a is new ss ends ls broken lv) (first_packets ls)
       (each_first first states left right bound new ss ends ls broken states_are lv) (whose side) f
-      (subst (λ t. IsBreak new states (0 ∷ []) (first_packets ls) (λ set pk. bad_in new ends set pk) t f) (same_target side)
-      (subst (λ s. IsBreak new states s (first_packets ls) (λ set pk. bad_in new ends set pk) (witness_target side) f) alone_set breaks))
-      (subst (λ s. IsLeast (λ g. Breaks new states s (first_packets ls) (λ set pk. bad_in new ends set pk) g) f) alone_set least)
+      (subst (λ t. IsBreak new states (0 ∷ []) (first_packets ls) (λ set pk. violations_in new ends set pk) t f) (same_target side)
+      (subst (λ s. IsBreak new states s (first_packets ls) (λ set pk. violations_in new ends set pk) (witness_target side) f) alone_set breaks))
+      (subst (λ s. IsLeast (λ g. Breaks new states s (first_packets ls) (λ set pk. violations_in new ends set pk) g) f) alone_set least)
 
 -- the same where the states are given as a slice
-module _ (new : Held) (ss : List (List ℕ)) (ends : List ℕ) (ls : List (List (ℕ × ℕ))) (slice states : List ℕ) (same : slice ≡ states) where
-  pub levels_at : (broken : Bool) → AreLevels new new ss states (first_set ls) (first_packets ls) (λ set pk. bad_in new ends set pk) ls broken
-      → AreLevels new new ss slice (first_set ls) (first_packets ls) (λ set pk. bad_in new ends set pk) ls broken
+module _ (new : StoreState) (ss : List (List ℕ)) (ends : List ℕ) (ls : List (List (ℕ × ℕ))) (slice states : List ℕ) (same : slice ≡ states) where
+  pub levels_at : (broken : Bool) → AreLevels new new ss states (first_set ls) (first_packets ls) (λ set pk. violations_in new ends set pk) ls broken
+      → AreLevels new new ss slice (first_set ls) (first_packets ls) (λ set pk. violations_in new ends set pk) ls broken
   levels_at broken h =
-      subst (λ r. AreLevels new new ss r (first_set ls) (first_packets ls) (λ set pk. bad_in new ends set pk) ls broken) (sym same) h
+      subst (λ r. AreLevels new new ss r (first_set ls) (first_packets ls) (λ set pk. violations_in new ends set pk) ls broken) (sym same) h
 
-  pub break_at : (t : ℕ) (f : Found) → IsBreak new slice (slice_index_or ss (first_set ls) []) (first_packets ls) (λ set pk. bad_in new ends set pk) t f
-      → IsBreak new states (slice_index_or ss (first_set ls) []) (first_packets ls) (λ set pk. bad_in new ends set pk) t f
+  pub break_at : (t : ℕ) (f : Found) → IsBreak new slice (slice_index_or ss (first_set ls) []) (first_packets ls) (λ set pk. violations_in new ends set pk) t f
+      → IsBreak new states (slice_index_or ss (first_set ls) []) (first_packets ls) (λ set pk. violations_in new ends set pk) t f
   break_at t f h =
-      subst (λ r. IsBreak new r (slice_index_or ss (first_set ls) []) (first_packets ls) (λ set pk. bad_in new ends set pk) t f) same h
+      subst (λ r. IsBreak new r (slice_index_or ss (first_set ls) []) (first_packets ls) (λ set pk. violations_in new ends set pk) t f) same h
 
-  pub least_at : (f : Found) → IsLeast (λ g. Breaks new slice (slice_index_or ss (first_set ls) []) (first_packets ls) (λ set pk. bad_in new ends set pk) g) f
-      → IsLeast (λ g. Breaks new states (slice_index_or ss (first_set ls) []) (first_packets ls) (λ set pk. bad_in new ends set pk) g) f
+  pub least_at : (f : Found) → IsLeast (λ g. Breaks new slice (slice_index_or ss (first_set ls) []) (first_packets ls) (λ set pk. violations_in new ends set pk) g) f
+      → IsLeast (λ g. Breaks new states (slice_index_or ss (first_set ls) []) (first_packets ls) (λ set pk. violations_in new ends set pk) g) f
   least_at f h =
-      subst (λ r. IsLeast (λ g. Breaks new r (slice_index_or ss (first_set ls) []) (first_packets ls) (λ set pk. bad_in new ends set pk) g) f) same h
+      subst (λ r. IsLeast (λ g. Breaks new r (slice_index_or ss (first_set ls) []) (first_packets ls) (λ set pk. violations_in new ends set pk) g) f) same h
 
 -- a policy that is numbered from a number on is the same numbered so once more
 pub right_numbered : (q r : Policy) (n m : ℕ) → r ≡ marked_from q n → n ≡ m → marked_from r m ≡ r

@@ -7,12 +7,12 @@ use Rattle.nk_field.proofs.Lists.{In, in_from_contains, contains_from_in, Decide
 use Rattle.nk_field.proofs.Ascending.{all_from_members}
 use Rattle.nk_policy.specs.Policy.{Policy, dups_of}
 use Rattle.nk_store.specs.declared.node.Out.{Out}
-use Rattle.nk_store.specs.Held.{Held, IsPacket}
+use Rattle.nk_store.specs.StoreState.{StoreState, IsStorePacket}
 use Rattle.nk_store.proofs.InRange.{packet_in_range, packet_of_fields}
 use Rattle.nk_determ.specs.Sets.{HasAscendingSets}
 use Rattle.nk_sets.specs.PacketSets.{is_in}
-use Rattle.nk_reach.specs.Pairs.{HavePlaces}
-use Rattle.nk_reach.specs.Goals.{PairBad, PairNone}
+use Rattle.nk_reach.specs.Pairs.{AreLabelsBelow}
+use Rattle.nk_reach.specs.Goals.{PairHasViolation, PairHasNoViolation}
 use Rattle.nk_reach.proofs.Kept.{under_at, entry_of, get_or_same}
 use Rattle.nk_reach.proofs.Growing.{place_of, step_places}
 use Rattle.nk_reach.proofs.Rising.{rising_one}
@@ -22,10 +22,10 @@ use Rattle.nk_cert.specs.declared.certificate.CertPart.TheVariants.{Position, St
 use Rattle.nk_cert.specs.declared.certificate.Verdict.{Verdict}
 use Rattle.nk_cert.specs.declared.certificate.Verdict.TheVariants.{Valid, Invalid}
 use Rattle.nk_cert.specs.Together.{either_of}
-use Rattle.nk_cert.specs.Certificates.{at_start, behind, RowValue, CertificateValue, CertRow, later_row, certificate_rows, Holds, IsPlaceOf, HasAllPackets, MeetsPosition, MeetsStart, MeetsFinals, MeetsHop, MeetsAll}
+use Rattle.nk_cert.specs.Certificates.{at_start, at_dups, RowValue, CertificateValue, CertRow, later_row, certificate_rows, Holds, IsRowPositionOf, HasAllPackets, MeetsPosition, MeetsStart, MeetsFinals, MeetsHop, MeetsAll}
 use Rattle.nk_cert.specs.Verdicts.{FailsIn, FailsFirst, IsFinding}
 use Rattle.nk_cert.specs.Levelled.{IsAutomatonOfBoth, IsOneSided, HasEach}
-use Rattle.nk_cert.specs.Checked.{labels_at, IsSetAt, HasNoBad, StepsLeadToRows}
+use Rattle.nk_cert.specs.Checked.{labels_at, IsSetAt, HasNoViolation, StepsLeadToRows}
 use Rattle.nk_cert.specs.Values.{row_part, finding_of}
 use Rattle.nk_cert.specs.Judged.{AreLabels, IsStartEntryOf, AreEntriesOf, AreTold, row_at, entry_at, StepsStay, SomeStepLeaves, IsRowJudged, IsStartJudged, IsLaterFailure, IsJudged}
 use Rattle.nk_cert.proofs.CertRows.{position_is, finals_is, hop_is}
@@ -37,7 +37,7 @@ later_of r = later_row r.positions r.predicate
 
 -- the start row
 abbrev start_row : CertificateValue → CertRow
-start_row c = record { place = at_start; predicate = c.start }
+start_row c = record { row_position = at_start; predicate = c.start }
 
 -- each position is a label, or one is none
 labels_decided : (n : ℕ) (positions : List ℕ) → Decided (AreLabels n positions)
@@ -74,7 +74,7 @@ placed_before [] (suc n) row le i = absurd (omega (arith, le))
 placed_before (r ∷ rs) (suc n) row le (inl e) = (zero, omega arith, e)
 placed_before (r ∷ rs) (suc n) row le (inr i) = let k = placed_before rs n row (omega (arith, le)) i in (suc k.0, omega (arith, k.1), k.2)
 
--- the rows before a place, the one there, and those behind it
+-- the rows before a place, the one there, and those after it
 split_at : (rows : List RowValue) (k : ℕ) → k < length rows
     → map later_of rows ≡ map later_of (take k rows) ++ later_of (row_at rows k) ∷ map later_of (drop (suc k) rows)
 split_at [] k lt = absurd (omega (arith, lt))
@@ -87,27 +87,27 @@ count_before rows zero lt = refl
 count_before [] (suc k) lt = absurd (omega (arith, lt))
 count_before (r ∷ rs) (suc k) lt = ap suc (count_before rs k (omega (arith, lt)))
 
-module _ (fields : FieldTable) (st : Held) (states : List ℕ) (left right : ℕ) (p q : Policy) (a : IsAutomatonOfBoth fields st states left right p q) (bad : List ℕ → List ℕ → List Out) (goal : IsOneSided st states left right (1 + dups_of p) bad) (ss : List (List ℕ)) (ascend : HasAscendingSets ss) (c : CertificateValue) (start : ℕ × ℕ) (entries told : List (ℕ × ℕ)) (s : IsStartEntryOf st ss (length states) c.start start) (es : AreEntriesOf st ss (length states) c.rows entries) (t : AreTold st ss (length states) entries told) where
+module _ (fields : FieldTable) (st : StoreState) (states : List ℕ) (left right : ℕ) (p q : Policy) (a : IsAutomatonOfBoth fields st states left right p q) (bad : List ℕ → List ℕ → List Out) (goal : IsOneSided st states left right (1 + dups_of p) bad) (ss : List (List ℕ)) (ascend : HasAscendingSets ss) (c : CertificateValue) (start : ℕ × ℕ) (entries told : List (ℕ × ℕ)) (s : IsStartEntryOf st ss (length states) c.start start) (es : AreEntriesOf st ss (length states) c.rows entries) (t : AreTold st ss (length states) entries told) where
   -- all dups have labels
-  label_is : (positions : List ℕ) → AreLabels (length states) positions ↔ IsPlaceOf p q (behind positions)
+  label_is : (positions : List ℕ) → AreLabels (length states) positions ↔ IsRowPositionOf p q (at_dups positions)
   label_is positions =
       let is = position_is fields st states left right p q a positions in (
         λ are. is.1 (λ l m. let w = are l m in (w.0, omega (arith, w.1, a.states_are.count))),
-        λ place l m. let w = is.0 place l m in (w.0, omega (arith, w.1, a.states_are.count)),
+        λ row_position l m. let w = is.0 row_position l m in (w.0, omega (arith, w.1, a.states_are.count)),
       )
 
   -- a row, its set of labels and its packets
-  module _ (row : CertRow) (set : List ℕ) (x : ℕ) (ok : MeetsPosition fields p q row) (begun : MeetsStart fields p q row) (same : IsSetAt row.place set) (places : HavePlaces (length states) set) (keeps : (pk : List ℕ) → IsPacket st pk → Holds row.predicate pk ↔ (is_in st x pk ≡ true)) where
-    -- no bad final at its packets
-    no_bad : PairNone st x (bad set) → HasNoBad st bad row set
-    no_bad none pk range holds = none pk range ((keeps pk range).0 holds)
+  module _ (row : CertRow) (set : List ℕ) (x : ℕ) (ok : MeetsPosition fields p q row) (begun : MeetsStart fields p q row) (same : IsSetAt row.row_position set) (places : AreLabelsBelow (length states) set) (keeps : (pk : List ℕ) → IsStorePacket st pk → Holds row.predicate pk ↔ (is_in st x pk ≡ true)) where
+    -- no violation at its packets
+    no_violation : PairHasNoViolation st x (bad set) → HasNoViolation st bad row set
+    no_violation none pk range holds = none pk range ((keeps pk range).0 holds)
 
     -- where steps lead to rows they stay
     steps_stay : StepsLeadToRows st states (certificate_rows c) row set → StepsStay st ss states bad told set x
     steps_stay h pk n range has step =
         let r = h pk n.1 n.0 range ((keeps pk range).1 has) step in
         let k = placed c.rows (later_row r.0 r.1) (later_in (later_row r.0 r.1) r.0 refl (in_from_contains (certificate_rows c) (later_row r.0 r.1) r.2)) in
-        let positions : (row_at c.rows k.0).positions ≡ r.0 = sym (ap (λ (z : CertRow). labels_at z.place) k.2) in
+        let positions : (row_at c.rows k.0).positions ≡ r.0 = sym (ap (λ (z : CertRow). labels_at z.row_position) k.2) in
         let predicate : (row_at c.rows k.0).predicate ≡ r.1 = sym (ap (λ (z : CertRow). z.predicate) k.2) in
         let entry = es.each k.0 k.1 in
         let inside = step_places st states (set, pk) n (are_states st states (either_of p q) a.states_are) places range step in
@@ -122,8 +122,8 @@ module _ (fields : FieldTable) (st : Held) (states : List ℕ) (left right : ℕ
         let under = under_at st entries k.0 (entry_at entries k.0) n.1 lt (get_or_same entries k.0 (0, 0) (entry_at entries k.0) lt) here in
         ((entry_at entries k.0).0, one, t.every (entry_at entries k.0).0 n.1 step.packet under)
       where
-        later_in : (z : CertRow) (positions : List ℕ) → z.place ≡ behind positions → In (certificate_rows c) z → In (map later_of c.rows) z
-        later_in z positions is (inl e) = let f : at_start ≡ behind positions = sym (ap (λ (y : CertRow). y.place) e) ∙ is in absurd cc
+        later_in : (z : CertRow) (positions : List ℕ) → z.row_position ≡ at_dups positions → In (certificate_rows c) z → In (map later_of c.rows) z
+        later_in z positions is (inl e) = let f : at_start ≡ at_dups positions = sym (ap (λ (y : CertRow). y.row_position) e) ∙ is in absurd cc
         later_in z positions is (inr i) = i
 
     -- where steps stay they lead to rows
@@ -149,10 +149,10 @@ module _ (fields : FieldTable) (st : Held) (states : List ℕ) (left right : ℕ
         (labels_decided (length states) (row_at c.rows k.0).positions)
 
     -- finals and hop
-    finals_met : PairNone st x (bad set) → MeetsFinals fields p q row
-    finals_met none = (finals_is fields st states left right p q a bad goal row ok set same).1 (no_bad none)
+    finals_met : PairHasNoViolation st x (bad set) → MeetsFinals fields p q row
+    finals_met none = (finals_is fields st states left right p q a bad goal row ok set same).1 (no_violation none)
 
-    row_meets : PairNone st x (bad set) → StepsStay st ss states bad told set x → MeetsAll fields p q (certificate_rows c) row
+    row_meets : PairHasNoViolation st x (bad set) → StepsStay st ss states bad told set x → MeetsAll fields p q (certificate_rows c) row
     row_meets none stay = record {
       position = ok;
       start = begun;
@@ -160,7 +160,7 @@ module _ (fields : FieldTable) (st : Held) (states : List ℕ) (left right : ℕ
       hop = (hop_is fields st states left right p q a (certificate_rows c) row ok set same).1 (steps_lead stay);
     }
 
-    row_ends : PairBad st x (bad set) → MeetsFinals fields p q row → ⊥
+    row_ends : PairHasViolation st x (bad set) → MeetsFinals fields p q row → ⊥
     row_ends m f =
         m.3 ((finals_is fields st states left right p q a bad goal row ok set same).0 f m.0 m.1 ((keeps m.0 m.1).1 m.2))
 
@@ -207,7 +207,7 @@ module _ (fields : FieldTable) (st : Held) (states : List ℕ) (left right : ℕ
 
   later_fails : (k : ℕ) → k < length c.rows → (in_part : CertPart) → IsRowJudged st ss states bad told (row_at c.rows k).positions (entry_at entries k) (Some in_part)
       → FailsIn fields p q (certificate_rows c) (later_of (row_at c.rows k)) (row_part in_part)
-  later_fails k lt Position j = λ place. j ((label_is (row_at c.rows k).positions).1 place)
+  later_fails k lt Position j = λ row_position. j ((label_is (row_at c.rows k).positions).1 row_position)
   later_fails k lt Start j = absurd j
   later_fails k lt Finals j =
       let e = es.each k lt in

@@ -16,18 +16,18 @@ use Rattle.nk_policy.proofs.PositionSteps.{one_set, start_of_two, left_gives, ri
 use Rattle.nk_policy.proofs.ListParts.{last_of_list}
 use Rattle.nk_store.specs.declared.node.Out.{Out}
 use Rattle.nk_store.specs.Nodes.{InRange}
-use Rattle.nk_store.specs.Held.{Held, IsPacket}
+use Rattle.nk_store.specs.StoreState.{StoreState, IsStorePacket}
 use Rattle.nk_store.proofs.InRange.{packet_in_range, packet_of_fields}
 use Rattle.nk_determ.specs.Exact.{Sends}
 use Rattle.nk_auto.specs.Automaton.{IsState, IsAutomaton}
 use Rattle.nk_auto.proofs.Stating.{label_within}
-use Rattle.nk_reach.specs.Pairs.{Node, HavePlaces}
+use Rattle.nk_reach.specs.Pairs.{Node, AreLabelsBelow}
 use Rattle.nk_reach.specs.Levels.{At, AreLevels}
-use Rattle.nk_reach.specs.Sides.{mark_of, MakesWithTarget, EndsAt}
+use Rattle.nk_reach.specs.Sides.{label_side, MakesWithTarget, EndsAt}
 use Rattle.nk_runs.proofs.Listings.{some_decided, sends_decided}
 use Rattle.nk_runs.proofs.Stands.{stands, packet_back}
 use Rattle.nk_runs.proofs.Labelled.{met_in_range, met_labels, labels_met}
-use Rattle.nk_runs.proofs.Ends.{never_bad, level_places}
+use Rattle.nk_runs.proofs.Ends.{never_violation, level_places}
 use Rattle.nk_cert.specs.Equality.{AreSame, on_left, on_right, HasOneAlone}
 use Rattle.nk_cert.specs.Together.{either_of, IsAtEither, EndsWithin, AgreeBySets}
 use Rattle.nk_cert.specs.Levelled.{IsAutomatonOfBoth, AreLevelsOfBoth}
@@ -38,20 +38,20 @@ abbrev mark_by : Bool → ℕ
 mark_by b = cond b 1 2
 
 -- labels below the bound have mark 1, and the others mark 2
-pub mark_below : (bound l : ℕ) → l < bound → mark_of bound l ≡ 1
+pub mark_below : (bound l : ℕ) → l < bound → label_side bound l ≡ 1
 mark_below bound l lt = ap mark_by (lt-ltb l bound lt)
 
-pub mark_above : (bound l : ℕ) → bound ≤ l → mark_of bound l ≡ 2
+pub mark_above : (bound l : ℕ) → bound ≤ l → label_side bound l ≡ 2
 mark_above bound l le = ap mark_by (le-ltb l bound le)
 
-pub below_from : (bound l : ℕ) → mark_of bound l ≡ 1 → l < bound
+pub below_from : (bound l : ℕ) → label_side bound l ≡ 1 → l < bound
 below_from bound l e = by (nat_lt l bound) refl
   where
     by : (b : Bool) → nat_lt l bound ≡ b → l < bound
     by true is = ltb-true l bound is
     by false is = let two : 2 ≡ 1 = sym (ap mark_by is) ∙ e in absurd (omega (arith, two))
 
-pub above_from : (bound l : ℕ) → mark_of bound l ≡ 2 → bound ≤ l
+pub above_from : (bound l : ℕ) → label_side bound l ≡ 2 → bound ≤ l
 above_from bound l e = by (nat_lt l bound) refl
   where
     by : (b : Bool) → nat_lt l bound ≡ b → bound ≤ l
@@ -93,23 +93,23 @@ first_of_some [] h = absurd (h refl)
 first_of_some (x ∷ xs) h = (x, contains_from_in (x ∷ xs) x (inl refl))
 
 -- whether a side ends at a packet is decided
-pub ends_decided : (st : Held) (states : List ℕ) (d bound k : ℕ) (s x y : List ℕ) → Decided (EndsAt st states d bound k s x y)
+pub ends_decided : (st : StoreState) (states : List ℕ) (d bound k : ℕ) (s x y : List ℕ) → Decided (EndsAt st states d bound k s x y)
 ends_decided st states d bound k s x y =
     either_decided
     (both_decided
     (decided_for (λ i. contains_from_in s 0 i) (λ c. in_from_contains s 0 c) (in_decided numbers_decided s 0))
     (sends_decided st d x y 0))
     (decided_for (λ h. (h.0, contains_from_in s h.0 h.1, h.2.0, h.2.1.0, h.2.1.1)) (λ h. (h.0, in_from_contains s h.0 h.1, (h.2, (h.3, h.4))))
-    (some_decided (λ l. (0 < l) × ((mark_of bound l ≡ k) × Sends st (slice_index states l) x y 0))
-    (λ l. both_decided (above_zero l) (both_decided (numbers_decided (mark_of bound l) k) (sends_decided st (slice_index states l) x y 0)))
+    (some_decided (λ l. (0 < l) × ((label_side bound l ≡ k) × Sends st (slice_index states l) x y 0))
+    (λ l. both_decided (above_zero l) (both_decided (numbers_decided (label_side bound l) k) (sends_decided st (slice_index states l) x y 0)))
     s))
 
 -- a side's marked ends at a set are the ends of its own members
-module _ (st : Held) (states : List ℕ) (d bound k : ℕ) (a : Policy) (start : IsState st d a)
+module _ (st : StoreState) (states : List ℕ) (d bound k : ℕ) (a : Policy) (start : IsState st d a)
     (state : (l : ℕ) → has_dup a l ≡ true → IsState st (slice_index states l) (after a l))
-    (own : (l : ℕ) → has_dup a l ≡ true → (0 < l) × (mark_of bound l ≡ k))
-    (s x : List ℕ) (range : IsPacket st x)
-    (is_own : (l : ℕ) → Contains s l → 0 < l → mark_of bound l ≡ k → has_dup a l ≡ true) where
+    (own : (l : ℕ) → has_dup a l ≡ true → (0 < l) × (label_side bound l ≡ k))
+    (s x : List ℕ) (range : IsStorePacket st x)
+    (is_own : (l : ℕ) → Contains s l → 0 < l → label_side bound l ≡ k → has_dup a l ≡ true) where
   pub side_ends : (y : List ℕ) → EndsAt st states d bound k s x y ↔ EndsWithin a s x y
   side_ends y = (
     λ e.
@@ -133,9 +133,9 @@ module _ (st : Held) (states : List ℕ) (d bound k : ℕ) (a : Policy) (start :
         e.2,
   )
 
-module _ (fields : FieldTable) (st : Held) (states : List ℕ) (left right : ℕ) (p q : Policy) (a : IsAutomatonOfBoth fields st states left right p q) where
+module _ (fields : FieldTable) (st : StoreState) (states : List ℕ) (left right : ℕ) (p q : Policy) (a : IsAutomatonOfBoth fields st states left right p q) where
   -- the left side's ends at the positions after some records
-  pub left_ends_at : (pk : Packet) (u : List Packet) (s x : List ℕ) → HasExactly (IsPositionOfEither p q pk u) s → IsPacket st x
+  pub left_ends_at : (pk : Packet) (u : List Packet) (s x : List ℕ) → HasExactly (IsPositionOfEither p q pk u) s → IsStorePacket st x
       → (y : Packet) → EndsAt st states left (1 + dups_of p) 1 s x y ↔ EndsWithin p s x y
   left_ends_at pk u s x h range y =
       side_ends st states left (1 + dups_of p) 1 p a.left_start
@@ -153,7 +153,7 @@ module _ (fields : FieldTable) (st : Held) (states : List ℕ) (left right : ℕ
       y
 
   -- and the right side's
-  pub right_ends_at : (pk : Packet) (u : List Packet) (s x : List ℕ) → HasExactly (IsPositionOfEither p q pk u) s → IsPacket st x
+  pub right_ends_at : (pk : Packet) (u : List Packet) (s x : List ℕ) → HasExactly (IsPositionOfEither p q pk u) s → IsStorePacket st x
       → (y : Packet) → EndsAt st states right (1 + dups_of p) 2 s x y ↔ EndsWithin q s x y
   right_ends_at pk u s x h range y =
       side_ends st states right (1 + dups_of p) 2 q a.right_start
@@ -173,15 +173,15 @@ module _ (fields : FieldTable) (st : Held) (states : List ℕ) (left right : ℕ
       y
 
 -- records that lead to a set at a packet
-record IsBehind (st : Held) (p q : Policy) (n : Node) : Type 0 where
+record IsAfter (st : StoreState) (p q : Policy) (n : Node) : Type 0 where
   start : Packet
   records : List Packet
-  in_range : IsPacket st start
+  in_range : IsStorePacket st start
   last : last_from start records ≡ n.1
   exactly : HasExactly (IsPositionOfEither p q start records) n.0
-  range : IsPacket st n.1
+  range : IsStorePacket st n.1
 
-module _ (fields : FieldTable) (p q : Policy) (states : List ℕ) (left right : ℕ) (first old new : Held) (ss : List (List ℕ)) (set start : ℕ) (bad : List ℕ → List ℕ → List Out) (ls : List (List (ℕ × ℕ))) (broken : Bool) (lv : AreLevelsOfBoth fields p q states left right first old new ss set start bad ls broken) where
+module _ (fields : FieldTable) (p q : Policy) (states : List ℕ) (left right : ℕ) (first old new : StoreState) (ss : List (List ℕ)) (set start : ℕ) (bad : List ℕ → List ℕ → List Out) (ls : List (List (ℕ × ℕ))) (broken : Bool) (lv : AreLevelsOfBoth fields p q states left right first old new ss set start bad ls broken) where
   -- what is known of both
 
   distinct : HasDistinct (either_of p q)
@@ -191,15 +191,15 @@ module _ (fields : FieldTable) (p q : Policy) (states : List ℕ) (left right : 
   auto = stands first old states 1 (either_of p q) lv.automaton.states_are lv.grown
 
   -- a packet of one store is one of the other
-  to_first : (pk : List ℕ) → IsPacket old pk → IsPacket first pk
+  to_first : (pk : List ℕ) → IsStorePacket old pk → IsStorePacket first pk
   to_first pk r = packet_back first old pk lv.grown r
 
-  to_old : (pk : List ℕ) → IsPacket first pk → IsPacket old pk
+  to_old : (pk : List ℕ) → IsStorePacket first pk → IsStorePacket old pk
   to_old pk r = subst (λ m. InRange m pk) (sym lv.grown.maxes) r
 
-  -- what is met has records behind it
-  behind_met : (i : ℕ) (n : Node) → At old states (0 ∷ []) start i n → IsBehind first p q n
-  behind_met zero n h = record {
+  -- what is met has records after it
+  after_met : (i : ℕ) (n : Node) → At old states (0 ∷ []) start i n → IsAfter first p q n
+  after_met zero n h = record {
     start = n.1;
     records = [];
     in_range = to_first n.1 h.packet;
@@ -207,7 +207,7 @@ module _ (fields : FieldTable) (p q : Policy) (states : List ℕ) (left right : 
     exactly = subst (λ s. HasExactly (IsPositionOfEither p q n.1 []) s) (sym h.set_is) (start_of_two p q (sides_of p q lv.automaton.numbered) n.1);
     range = to_first n.1 h.packet;
   }
-  behind_met (suc i) n h =
+  after_met (suc i) n h =
       let l = met_labels old states start (either_of p q) auto distinct lv.tidy (suc i) n h in
       record {
         start = l.0;
@@ -219,11 +219,11 @@ module _ (fields : FieldTable) (p q : Policy) (states : List ℕ) (left right : 
       }
 
   -- the positions after records are met at the packet recorded last
-  met_behind : (pk : Packet) (u : List Packet) (s : List ℕ) → IsPacket old pk → HasExactly (IsPositionOfEither p q pk u) s → (s ≡ [] → ⊥)
+  met_after : (pk : Packet) (u : List Packet) (s : List ℕ) → IsStorePacket old pk → HasExactly (IsPositionOfEither p q pk u) s → (s ≡ [] → ⊥)
       → (i : ℕ) × At old states (0 ∷ []) start i (s, last_from pk u)
-  met_behind pk [] s ok h some =
+  met_after pk [] s ok h some =
       (0, record { set_is = one_set (IsPositionOfEither p q pk []) s (0 ∷ []) h (start_of_two p q (sides_of p q lv.automaton.numbered) pk); packet = ok; has = lv.start_is pk ok })
-  met_behind pk (y ∷ u) s ok h some =
+  met_after pk (y ∷ u) s ok h some =
       let c = last_of_list y u in
       let h' : HasExactly (IsAtEither p q pk (c.0 ++ c.1 ∷ [])) s = subst (λ w. HasExactly (IsAtEither p q pk w) s) c.2 h in
       let e = either_at p q pk (c.0 ++ c.1 ∷ []) in
@@ -233,13 +233,13 @@ module _ (fields : FieldTable) (p q : Policy) (states : List ℕ) (left right : 
       let last : last_from pk (y ∷ u) ≡ c.1 = ap (λ w. last_from pk w) c.2 ∙ last_is_last pk c.0 c.1 in
       (suc (length c.0), subst (λ x. At old states (0 ∷ []) start (suc (length c.0)) (s, x)) (sym last) at)
 
-  -- where no level has a bad final, the set of some records has none
-  none_bad : AreLevels old new ss states set start bad ls false → (i : ℕ) (n : Node) → At old states (0 ∷ []) start i n
-      → (bad n.0 n.1 ≡ []) × HavePlaces (length states) n.0
-  none_bad levels i n at =
+  -- where no level has a violation, the set of some records has none
+  no_violation_at : AreLevels old new ss states set start bad ls false → (i : ℕ) (n : Node) → At old states (0 ∷ []) start i n
+      → (bad n.0 n.1 ≡ []) × AreLabelsBelow (length states) n.0
+  no_violation_at levels i n at =
       let good = met_in_range old states start (either_of p q) auto distinct lv.tidy i n at in
       let c = levels.complete refl i n (subst (λ t. At old states t start i n) (sym lv.set_is) at) in (
-        empty_from (bad n.0 n.1) (never_bad old new ss states set start bad ls (either_of p q) (λ y. Unit {0}) auto distinct lv.tidy lv.set_is levels c.0 n c.2 good c.3),
+        empty_from (bad n.0 n.1) (never_violation old new ss states set start bad ls (either_of p q) (λ y. Unit {0}) auto distinct lv.tidy lv.set_is levels c.0 n c.2 good c.3),
         level_places old new ss states set start bad ls (either_of p q) (λ y. Unit {0}) auto distinct lv.tidy lv.set_is false levels c.0 n c.2 c.3,
       )
 
@@ -247,7 +247,7 @@ module _ (fields : FieldTable) (p q : Policy) (states : List ℕ) (left right : 
   pub agree_by_levels : AreLevels old new ss states set start bad ls false → AgreeBySets fields p q
   agree_by_levels levels pk u s ok h y = (λ e. forth e, λ e. back e)
     where
-      ok_old : IsPacket old pk
+      ok_old : IsStorePacket old pk
       ok_old = to_old pk (packet_in_range fields first pk lv.automaton.over ok)
 
       x : List ℕ
@@ -258,9 +258,9 @@ module _ (fields : FieldTable) (p q : Policy) (states : List ℕ) (left right : 
 
       forth : EndsWithin p s (last_from pk u) y → EndsWithin q s (last_from pk u) y
       forth e =
-          let at = met_behind pk u s ok_old h (some e.0 e.1) in
-          let range = (behind_met at.0 (s, last_from pk u) at.1).range in
-          let none = none_bad levels at.0 (s, last_from pk u) at.1 in
+          let at = met_after pk u s ok_old h (some e.0 e.1) in
+          let range = (after_met at.0 (s, last_from pk u) at.1).range in
+          let none = no_violation_at levels at.0 (s, last_from pk u) at.1 in
           let sided = lv.goal.sides s (last_from pk u) none.1 range in
           let mine = (left_ends_at fields first states left right p q lv.automaton pk u s (last_from pk u) h range y).1 e in
           let its = stable (ends_decided first states right (1 + dups_of p) 2 s (last_from pk u) y) (λ other.
@@ -271,9 +271,9 @@ module _ (fields : FieldTable) (p q : Policy) (states : List ℕ) (left right : 
 
       back : EndsWithin q s (last_from pk u) y → EndsWithin p s (last_from pk u) y
       back e =
-          let at = met_behind pk u s ok_old h (some e.0 e.1) in
-          let range = (behind_met at.0 (s, last_from pk u) at.1).range in
-          let none = none_bad levels at.0 (s, last_from pk u) at.1 in
+          let at = met_after pk u s ok_old h (some e.0 e.1) in
+          let range = (after_met at.0 (s, last_from pk u) at.1).range in
+          let none = no_violation_at levels at.0 (s, last_from pk u) at.1 in
           let sided = lv.goal.sides s (last_from pk u) none.1 range in
           let mine = (right_ends_at fields first states left right p q lv.automaton pk u s (last_from pk u) h range y).1 e in
           let its = stable (ends_decided first states left (1 + dups_of p) 1 s (last_from pk u) y) (λ other.
@@ -288,14 +288,14 @@ module _ (fields : FieldTable) (p q : Policy) (states : List ℕ) (left right : 
       same_from p q (sides_of p q lv.automaton.numbered) fields (have_sets fields first states left right p q lv.automaton)
       (agree_by_levels levels)
 
-  -- a bad final is an end of a history of one side alone
+  -- a violation is an end of a history of one side alone
   pub differ_by_levels : AreLevels old new ss states set start bad ls true → HasOneAlone fields p q
   differ_by_levels levels =
       let b = levels.broken_at refl in
       let n = b.0 in
       let lt : length ls - 1 < length ls = omega (arith, levels.some) in
       let at = subst (λ t. At old states t start (length ls - 1) n) lv.set_is (levels.exact.sound (length ls - 1) n lt b.1 b.2) in
-      let r = behind_met (length ls - 1) n at in
+      let r = after_met (length ls - 1) n at in
       let places = level_places old new ss states set start bad ls (either_of p q) (λ y. Unit {0}) auto distinct lv.tidy lv.set_is true levels (length ls - 1) n lt b.2 in
       let sided = lv.goal.sides n.0 n.1 places r.range in
       let o = first_of_some (bad n.0 n.1) b.3 in

@@ -7,8 +7,8 @@ use Rattle.std.proofs.lemmas.List.Elements.{All-head, All-tail}
 use Rattle.nk_field.proofs.Lists.{contains_from_in}
 use Rattle.nk_field.proofs.Ascending.{all_from_members}
 use Rattle.nk_policy.specs.After.{id_policy}
-use Rattle.nk_store.specs.Held.{Held, IsPacket, Grows, HasLeaves}
-use Rattle.nk_sets.specs.PacketSets.{has_out, is_in, IsSet}
+use Rattle.nk_store.specs.StoreState.{StoreState, IsStorePacket, Grows, HasLeaves}
+use Rattle.nk_sets.specs.PacketSets.{has_some_out, is_in, IsSet}
 use Rattle.nk_reach.specs.Pairs.{Under, Named}
 use Rattle.nk_reach.specs.Rounds.{HaveSets, IsMerged}
 use Rattle.nk_reach.proofs.Kept.{packet_on}
@@ -21,7 +21,7 @@ use Rattle.nk_cert.specs.FromLevels.{HaveRows, IsRowOf, IsCertificateOf}
 use Rattle.nk_cert.specs.Later.{packets_at, IsRowBy, AreLaterPackets}
 
 -- no packets before any level
-pub none_later : (st : Held) (ls : List (List (ℕ × ℕ))) → AreLaterPackets st ls 0 st []
+pub none_later : (st : StoreState) (ls : List (List (ℕ × ℕ))) → AreLaterPackets st ls 0 st []
 none_later st ls = record {
   from = λ i x range u. absurd u;
   every = λ i j x range lt u. absurd (omega (arith, lt));
@@ -30,7 +30,7 @@ none_later st ls = record {
 }
 
 -- those of one level more
-pub later_more : (old st new : Held) (ls : List (List (ℕ × ℕ))) (n : ℕ) (met all level : List (ℕ × ℕ)) → Grows old st
+pub later_more : (old st new : StoreState) (ls : List (List (ℕ × ℕ))) (n : ℕ) (met all level : List (ℕ × ℕ)) → Grows old st
     → AreLaterPackets old ls n st met → HaveSets old level → level ≡ later_level ls n → IsMerged st met level new all
     → AreLaterPackets old ls (n + 1) new all
 later_more old st new ls n met all level g k sets is m = record {
@@ -49,8 +49,8 @@ later_more old st new ls n met all level g k sets is m = record {
   once = m.once;
 }
 
--- those of all levels, as many as there are behind the first one
-pub later_done : (old : Held) (ls : List (List (ℕ × ℕ))) (i : ℕ) (st : Held) (met : List (ℕ × ℕ)) → length ls ≤ i → AreLaterPackets old ls (i - 1) st met
+-- those of all levels, as many as there are after the first one
+pub later_done : (old : StoreState) (ls : List (List (ℕ × ℕ))) (i : ℕ) (st : StoreState) (met : List (ℕ × ℕ)) → length ls ≤ i → AreLaterPackets old ls (i - 1) st met
     → AreLaterPackets old ls (length ls - 1) st met
 later_done old ls i st met le k = record {
   from = λ s x range u.
@@ -63,7 +63,7 @@ later_done old ls i st met le k = record {
 }
 
 -- the set of the packets under a set
-pub packets_set : (st : Held) (met : List (ℕ × ℕ)) (none s : ℕ) → HaveSets st met → IsSet st none → IsSet st (packets_at met none s)
+pub packets_set : (st : StoreState) (met : List (ℕ × ℕ)) (none s : ℕ) → HaveSets st met → IsSet st none → IsSet st (packets_at met none s)
 packets_set st met none s h k = by (lookup (eqb s) met) refl
   where
     by : (o : Option ℕ) → lookup (eqb s) met ≡ o → IsSet st (unwrap_or o none)
@@ -71,11 +71,11 @@ packets_set st met none s h k = by (lookup (eqb s) met) refl
     by None e = k
 
 -- no packets in a store that grew
-pub none_on : (a b : Held) (d : ℕ) → Grows a b → HasLeaves a d (λ pk. []) → HasLeaves b d (λ pk. [])
+pub none_on : (a b : StoreState) (d : ℕ) → Grows a b → HasLeaves a d (λ pk. []) → HasLeaves b d (λ pk. [])
 none_on a b d g h = record { id = g.ids d h.id; leaf = λ pk w. g.leaves d pk h.id ∙ h.leaf pk w }
 
 -- packets of levels that were there in an older store
-pub later_of_old : (old st new : Held) (ls : List (List (ℕ × ℕ))) (met : List (ℕ × ℕ)) → Grows old st
+pub later_of_old : (old st new : StoreState) (ls : List (List (ℕ × ℕ))) (met : List (ℕ × ℕ)) → Grows old st
     → ((i : ℕ) → i < length ls → HaveSets old (slice_index_or ls i [])) → AreLaterPackets st ls (length ls - 1) new met
     → AreLaterPackets old ls (length ls - 1) new met
 later_of_old old st new ls met g sets k = record {
@@ -121,9 +121,9 @@ later_known ss ls sets entries k =
     let w = (k.exactly s).0 (contains_from_in sets s i) in
     named_known_of (later_level ls w.0) (length ss) s w.1 (entries (suc w.0) (named_within ls (suc w.0) s w.1)).0)
 
-module _ (old final : Held) (ss : List (List ℕ)) (ls : List (List (ℕ × ℕ))) (met : List (ℕ × ℕ)) (none : ℕ) (k : AreLaterPackets old ls (length ls - 1) final met) (leaves : HasLeaves final none (λ pk. [])) where
+module _ (old final : StoreState) (ss : List (List ℕ)) (ls : List (List (ℕ × ℕ))) (met : List (ℕ × ℕ)) (none : ℕ) (k : AreLaterPackets old ls (length ls - 1) final met) (leaves : HasLeaves final none (λ pk. [])) where
   -- the packets of a row are all those under its set
-  row_packets : (s : ℕ) (x : List ℕ) → IsPacket old x → (is_in final (packets_at met none s) x ≡ true) ↔ ((j : ℕ) × Under old (later_level ls j) s x)
+  row_packets : (s : ℕ) (x : List ℕ) → IsStorePacket old x → (is_in final (packets_at met none s) x ≡ true) ↔ ((j : ℕ) × Under old (later_level ls j) s x)
   row_packets s x range = by (lookup (eqb s) met) refl
     where
       under_some : (j : ℕ) → Under old (later_level ls j) s x → Under final met s x
@@ -137,7 +137,7 @@ module _ (old final : Held) (ss : List (List ℕ)) (ls : List (List (ℕ × ℕ)
         λ u. under_found final met s d x k.once e (under_some u.0 u.1),
       )
       by None e = (
-        λ h. let z : false ≡ true = sym (ap has_out (leaves.leaf x range.0)) ∙ h in absurd cc,
+        λ h. let z : false ≡ true = sym (ap has_some_out (leaves.leaf x range.0)) ∙ h in absurd cc,
         λ u. absurd (not_found met s e (under_named final met s x (under_some u.0 u.1))),
       )
 

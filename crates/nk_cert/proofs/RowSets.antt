@@ -14,14 +14,14 @@ use Rattle.nk_field.proofs.Ascending.{all_from_members}
 use Rattle.nk_policy.specs.Policy.{Policy}
 use Rattle.nk_policy.specs.Tree.{tree_of}
 use Rattle.nk_policy.specs.declared.policy.Pol.{Pol}
-use Rattle.nk_store.specs.Held.{Held, Grows}
+use Rattle.nk_store.specs.StoreState.{StoreState, Grows}
 use Rattle.nk_sets.proofs.SetLemmas.{set_grows}
 use Rattle.nk_determ.specs.Sets.{SetsGrow, IsSetOf}
-use Rattle.nk_reach.specs.Pairs.{HavePlaces, IsPair, EachPair}
+use Rattle.nk_reach.specs.Pairs.{AreLabelsBelow, IsPair, EachPair}
 use Rattle.nk_reach.specs.Rounds.{IsMerged}
 use Rattle.nk_reach.proofs.Kept.{packet_back, has_on, has_back}
 use Rattle.nk_reach.proofs.Growing.{sets_same, pair_on, packets_of, pairs_of, named_known, under_on, under_back}
-use Rattle.nk_cert.specs.Certificates.{behind, RowValue}
+use Rattle.nk_cert.specs.Certificates.{at_dups, RowValue}
 use Rattle.nk_cert.specs.Checked.{IsSetAt}
 use Rattle.nk_cert.specs.Values.{held_row_value, row_values}
 use Rattle.nk_cert.specs.Judged.{IsPacketsOf, AreLabels, IsEntryOf, AreEntriesOf, AreTold, row_at, entry_at}
@@ -50,26 +50,26 @@ pub label_at : (n : ℕ) (positions : List ℕ) (k : ℕ) → AreLabels n positi
 label_at n positions k are lt = are (get_or positions k 0) (k, lt, get_or_default positions k (get_or positions k 0) 0 lt)
 
 -- the entry of a row whose positions are labels
-pub entry_there : (st : Held) (ss : List (List ℕ)) (n s x : ℕ) (positions labels : List ℕ) (predicate : Policy) → AreLabels n positions
+pub entry_there : (st : StoreState) (ss : List (List ℕ)) (n s x : ℕ) (positions labels : List ℕ) (predicate : Policy) → AreLabels n positions
     → IsSetOf ss s labels → ((l : ℕ) → Contains labels l ↔ Contains positions l) → IsPacketsOf st predicate x
     → IsEntryOf st ss n (record { positions = positions; predicate = predicate }) (s, x)
 entry_there st ss n s x positions labels predicate are set same packets = record {
   pair = record {
     known = set.within;
-    places = subst (HavePlaces n) (sym set.members) (all_from_members (λ l. l < n) labels (λ l i. (are l ((same l).0 (contains_from_in labels l i))).1));
+    places = subst (AreLabelsBelow n) (sym set.members) (all_from_members (λ l. l < n) labels (λ l i. (are l ((same l).0 (contains_from_in labels l i))).1));
     packets = packets.set;
   };
-  members = λ k. subst (IsSetAt (behind positions)) (sym set.members) same;
+  members = λ k. subst (IsSetAt (at_dups positions)) (sym set.members) same;
   keeps = λ k. packets.keeps;
   none = λ other. absurd (other are);
 }
 
 -- an entry stays one as store and sets grow
-pub entry_on : (a b : Held) (ss nss : List (List ℕ)) (n : ℕ) (row : RowValue) (e : ℕ × ℕ) → Grows a b → SetsGrow ss nss
+pub entry_on : (a b : StoreState) (ss nss : List (List ℕ)) (n : ℕ) (row : RowValue) (e : ℕ × ℕ) → Grows a b → SetsGrow ss nss
     → IsEntryOf a ss n row e → IsEntryOf b nss n row e
 entry_on a b ss nss n row e g h k = record {
   pair = pair_on a b ss nss n e g h k.pair;
-  members = λ are. subst (IsSetAt (behind row.positions)) (sym (sets_same ss nss e.0 h k.pair.known)) (k.members are);
+  members = λ are. subst (IsSetAt (at_dups row.positions)) (sym (sets_same ss nss e.0 h k.pair.known)) (k.members are);
   keeps = λ are pk range.
       let was = k.keeps are pk (packet_back a b pk g range) in (
         λ keeps. has_on a b e.1 pk g k.pair.packets.id (was.0 keeps),
@@ -79,7 +79,7 @@ entry_on a b ss nss n row e g h k = record {
 }
 
 -- packets of a predicate stay so
-pub packets_on : (a b : Held) (predicate : Policy) (d : ℕ) → Grows a b → IsPacketsOf a predicate d → IsPacketsOf b predicate d
+pub packets_on : (a b : StoreState) (predicate : Policy) (d : ℕ) → Grows a b → IsPacketsOf a predicate d → IsPacketsOf b predicate d
 packets_on a b predicate d g k = record {
   set = set_grows a b d g k.set;
   keeps = λ pk range.
@@ -113,15 +113,15 @@ rows_count [] = refl
 rows_count (r ∷ rs) = ap suc (rows_count rs)
 
 -- the entries of the first i rows
-pub record AreEntriesUpTo (st : Held) (ss : List (List ℕ)) (n : ℕ) (rows : List RowValue) (i : ℕ) (entries : List (ℕ × ℕ)) : Type 0 where
+pub record AreEntriesUpTo (st : StoreState) (ss : List (List ℕ)) (n : ℕ) (rows : List RowValue) (i : ℕ) (entries : List (ℕ × ℕ)) : Type 0 where
   pub count : length entries ≡ i
   pub each : (k : ℕ) → k < i → IsEntryOf st ss n (row_at rows k) (entry_at entries k)
 
-pub no_entries : (st : Held) (ss : List (List ℕ)) (n : ℕ) (rows : List RowValue) → AreEntriesUpTo st ss n rows 0 []
+pub no_entries : (st : StoreState) (ss : List (List ℕ)) (n : ℕ) (rows : List RowValue) → AreEntriesUpTo st ss n rows 0 []
 no_entries st ss n rows = record { count = refl; each = λ k lt. absurd (omega (arith, lt)) }
 
 -- the entry of one row more
-pub one_entry_more : (a b : Held) (ss nss : List (List ℕ)) (n : ℕ) (rows : List RowValue) (i : ℕ) (entries more : List (ℕ × ℕ)) (e : ℕ × ℕ)
+pub one_entry_more : (a b : StoreState) (ss nss : List (List ℕ)) (n : ℕ) (rows : List RowValue) (i : ℕ) (entries more : List (ℕ × ℕ)) (e : ℕ × ℕ)
     → Grows a b → SetsGrow ss nss → AreEntriesUpTo a ss n rows i entries → IsEntryOf b nss n (row_at rows i) e → more ≡ entries ++ e ∷ []
     → AreEntriesUpTo b nss n rows (i + 1) more
 one_entry_more a b ss nss n rows i entries more e g h so_far now is = record {
@@ -150,12 +150,12 @@ one_entry_more a b ss nss n rows i entries more e g h so_far now is = record {
         at (x ∷ xs) (suc j) q = at xs j (omega (arith, q))
 
 -- all rows have their entries
-pub all_entries : (st : Held) (ss : List (List ℕ)) (n : ℕ) (rows : List RowValue) (i : ℕ) (entries : List (ℕ × ℕ)) → length rows ≡ i
+pub all_entries : (st : StoreState) (ss : List (List ℕ)) (n : ℕ) (rows : List RowValue) (i : ℕ) (entries : List (ℕ × ℕ)) → length rows ≡ i
     → AreEntriesUpTo st ss n rows i entries → AreEntriesOf st ss n rows entries
 all_entries st ss n rows i entries all k = record { count = k.count ∙ sym all; each = λ j lt. k.each j (omega (arith, lt, all)) }
 
 -- entries stay those of the rows
-pub entries_on : (a b : Held) (ss nss : List (List ℕ)) (n : ℕ) (rows : List RowValue) (entries : List (ℕ × ℕ)) → Grows a b → SetsGrow ss nss
+pub entries_on : (a b : StoreState) (ss nss : List (List ℕ)) (n : ℕ) (rows : List RowValue) (entries : List (ℕ × ℕ)) → Grows a b → SetsGrow ss nss
     → AreEntriesOf a ss n rows entries → AreEntriesOf b nss n rows entries
 entries_on a b ss nss n rows entries g h k = record {
   count = k.count;
@@ -163,7 +163,7 @@ entries_on a b ss nss n rows entries g h k = record {
 }
 
 -- rows' entries have sets of packets and known sets of labels
-pub entry_pairs : (st : Held) (ss : List (List ℕ)) (n : ℕ) (rows : List RowValue) (entries : List (ℕ × ℕ)) → AreEntriesOf st ss n rows entries
+pub entry_pairs : (st : StoreState) (ss : List (List ℕ)) (n : ℕ) (rows : List RowValue) (entries : List (ℕ × ℕ)) → AreEntriesOf st ss n rows entries
     → EachPair (IsPair st ss n) entries
 entry_pairs st ss n rows entries k = each entries (λ j lt. (k.each j (omega (arith, lt, k.count))).pair)
   where
@@ -172,7 +172,7 @@ entry_pairs st ss n rows entries k = each entries (λ j lt. (k.each j (omega (ar
     each (e ∷ es) h = (h 0 (omega arith), each es (λ j lt. h (suc j) (omega (arith, lt))))
 
 -- the packets of all entries by their sets, an entry for each set
-pub told_by_all : (a b : Held) (ss : List (List ℕ)) (n : ℕ) (rows : List RowValue) (entries told : List (ℕ × ℕ)) → Grows a b
+pub told_by_all : (a b : StoreState) (ss : List (List ℕ)) (n : ℕ) (rows : List RowValue) (entries told : List (ℕ × ℕ)) → Grows a b
     → AreEntriesOf a ss n rows entries → IsMerged a [] entries b told → AreTold b ss n entries told
 told_by_all a b ss n rows entries told g k m =
     let pairs = entry_pairs a ss n rows entries k in
@@ -188,6 +188,6 @@ told_by_all a b ss n rows entries told g k m =
     }
 
 -- the entry at a place is one
-pub entry_pair : (st : Held) (ss : List (List ℕ)) (n : ℕ) (rows : List (List ℕ × Pol)) (entries : List (ℕ × ℕ)) (k : ℕ) → k < length rows
+pub entry_pair : (st : StoreState) (ss : List (List ℕ)) (n : ℕ) (rows : List (List ℕ × Pol)) (entries : List (ℕ × ℕ)) (k : ℕ) → k < length rows
     → AreEntriesOf st ss n (row_values rows) entries → IsPair st ss n (entry_at entries k)
 entry_pair st ss n rows entries k lt h = let m = rows_count rows in (h.each k (omega (arith, m, lt))).pair

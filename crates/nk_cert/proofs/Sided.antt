@@ -4,10 +4,10 @@ use Rattle.std.specs.Prelude.{slice_index_or}
 use Rattle.nk_field.specs.Packet.{FieldTable}
 use Rattle.nk_policy.specs.Policy.{Policy, dups_of}
 use Rattle.nk_store.specs.declared.node.Out.{Out}
-use Rattle.nk_store.specs.Held.{Held, IsId, IsPacket, Grows, AreTidy}
+use Rattle.nk_store.specs.StoreState.{StoreState, IsId, IsStorePacket, Grows, AreTidy}
 use Rattle.nk_apply.specs.Unions.{AreIds}
 use Rattle.nk_auto.proofs.Sending.{sends_on, sends_back}
-use Rattle.nk_reach.specs.Pairs.{HavePlaces}
+use Rattle.nk_reach.specs.Pairs.{AreLabelsBelow}
 use Rattle.nk_reach.specs.Levels.{AreLevels}
 use Rattle.nk_reach.specs.Sides.{alone, alone_sided, ends_of, ends_same, EndsAt, AreOneSided}
 use Rattle.nk_reach.proofs.Growing.{place_of}
@@ -17,7 +17,7 @@ use Rattle.nk_cert.specs.Together.{either_of}
 use Rattle.nk_cert.specs.Levelled.{IsAutomatonOfBoth, HasEach, IsOneSided, AreLevelsOfBoth, AreSideLevels}
 use Rattle.nk_cert.proofs.CertRows.{goal_is_one_sided}
 
-module _ (old new : Held) (states : List ℕ) (d bound k : ℕ) (g : Grows old new) (id : IsId old d) (ids : AreIds old states) (set pk : List ℕ) (places : HavePlaces (length states) set) (y : List ℕ) where
+module _ (old new : StoreState) (states : List ℕ) (d bound k : ℕ) (g : Grows old new) (id : IsId old d) (ids : AreIds old states) (set pk : List ℕ) (places : AreLabelsBelow (length states) set) (y : List ℕ) where
   -- a side ends where it did
   ends_on : EndsAt old states d bound k set pk y → EndsAt new states d bound k set pk y
   ends_on e =
@@ -34,7 +34,7 @@ module _ (old new : Held) (states : List ℕ) (d bound k : ℕ) (g : Grows old n
       e
 
 -- what is one-sided stays so while the store grows
-pub one_sided_on : (old new : Held) (states : List ℕ) (left right bound : ℕ) (bad : List ℕ → List ℕ → List Out) → Grows old new
+pub one_sided_on : (old new : StoreState) (states : List ℕ) (left right bound : ℕ) (bad : List ℕ → List ℕ → List Out) → Grows old new
     → IsId old left → IsId old right → AreIds old states
     → IsOneSided old states left right bound bad → IsOneSided new states left right bound bad
 one_sided_on old new states left right bound bad g il ir ids h = record {
@@ -68,13 +68,13 @@ one_sided_on old new states left right bound bad g il ir ids h = record {
 }
 
 -- the levels up to the goal that was made of some states and both starts
-pub side_levels : (first made old new : Held) (states : List ℕ) (left right bound set start : ℕ) (ss : List (List ℕ)) (ends now : List ℕ) (ls : List (List (ℕ × ℕ))) (broken : Bool)
+pub side_levels : (first made old new : StoreState) (states : List ℕ) (left right bound set start : ℕ) (ss : List (List ℕ)) (ends now : List ℕ) (ls : List (List (ℕ × ℕ))) (broken : Bool)
     → Grows first made → Grows made old → Grows old new → AreTidy old
     → slice_index_or ss set [] ≡ 0 ∷ [] → IsId old start → HasEach old start
     → AreIds made ends → length ends ≡ length states
-    → ((s pk : List ℕ) → HavePlaces (length states) s → IsPacket first pk → AreOneSided first states left right bound s pk (alone (ends_of made ends s pk)))
+    → ((s pk : List ℕ) → AreLabelsBelow (length states) s → IsStorePacket first pk → AreOneSided first states left right bound s pk (alone (ends_of made ends s pk)))
     → AreIds new now → length now ≡ length ends
-    → ((st : Held) (s pk : List ℕ) → alone (ends_of st now s pk) ≡ alone (ends_of st ends s pk))
+    → ((st : StoreState) (s pk : List ℕ) → alone (ends_of st now s pk) ≡ alone (ends_of st ends s pk))
     → AreLevels old new ss states set start (λ s pk. alone (ends_of old ends s pk)) ls broken
     → AreSideLevels first states left right bound new ss now ls broken
 side_levels first made old new states left right bound set start ss ends now ls broken begun further grown tidy set_is id each ids count sided fits labels same levels = record {
@@ -92,14 +92,14 @@ side_levels first made old new states left right bound set start ss ends now ls 
   ids = fits;
   count = labels ∙ count;
   read = λ s pk places.
-      let p : HavePlaces (length ends) s = subst (λ n. HavePlaces n s) (sym count) places in
+      let p : AreLabelsBelow (length ends) s = subst (λ n. AreLabelsBelow n s) (sym count) places in
       let kept : AreIds old ends = λ k lt. further.ids (get_or ends k 0) (ids k lt) in
       same new s pk ∙ ap alone (ends_same old new ends s pk grown kept p);
   levels = levels;
 }
 
-module _ (fields : FieldTable) (first : Held) (states : List ℕ) (left right bound : ℕ) (p q : Policy) (a : IsAutomatonOfBoth fields first states left right p q) (is : bound ≡ 1 + dups_of p)
-    (new : Held) (ss : List (List ℕ)) (ends : List ℕ) (ls : List (List (ℕ × ℕ))) (broken : Bool) (lv : AreSideLevels first states left right bound new ss ends ls broken) where
+module _ (fields : FieldTable) (first : StoreState) (states : List ℕ) (left right bound : ℕ) (p q : Policy) (a : IsAutomatonOfBoth fields first states left right p q) (is : bound ≡ 1 + dups_of p)
+    (new : StoreState) (ss : List (List ℕ)) (ends : List ℕ) (ls : List (List (ℕ × ℕ))) (broken : Bool) (lv : AreSideLevels first states left right bound new ss ends ls broken) where
   -- they are levels of both policies
   pub levels_of_policies : AreLevelsOfBoth fields p q states left right first lv.old new ss lv.set lv.start lv.bad ls broken
   levels_of_policies = record {

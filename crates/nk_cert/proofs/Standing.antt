@@ -6,9 +6,9 @@ use Rattle.nk_field.proofs.Ascending.{all_from_members}
 use Rattle.nk_policy.specs.Policy.{Policy, is_predicate}
 use Rattle.nk_policy.specs.Tree.{tree_of}
 use Rattle.nk_policy.specs.declared.policy.Pol.{Pol}
-use Rattle.nk_store.specs.Held.{Held, Grows}
+use Rattle.nk_store.specs.StoreState.{StoreState, Grows}
 use Rattle.nk_determ.specs.Sets.{SetsGrow, IsSetOf}
-use Rattle.nk_reach.specs.Pairs.{HavePlaces}
+use Rattle.nk_reach.specs.Pairs.{AreLabelsBelow}
 use Rattle.nk_reach.proofs.Growing.{pair_on, sets_same}
 use Rattle.nk_cert.specs.Certificates.{at_start, RowValue, CertificateValue, CertRow, certificate_rows, later_row}
 use Rattle.nk_cert.specs.Verdicts.{HasPredicates}
@@ -17,12 +17,12 @@ use Rattle.nk_cert.specs.Judged.{IsPacketsOf, IsStartEntryOf}
 use Rattle.nk_cert.proofs.RowSets.{packets_on}
 
 -- the start row's entry
-pub start_there : (st : Held) (ss : List (List ℕ)) (n s x : ℕ) (labels : List ℕ) (predicate : Policy) → 0 < n → labels ≡ 0 ∷ [] → IsSetOf ss s labels
+pub start_there : (st : StoreState) (ss : List (List ℕ)) (n s x : ℕ) (labels : List ℕ) (predicate : Policy) → 0 < n → labels ≡ 0 ∷ [] → IsSetOf ss s labels
     → IsPacketsOf st predicate x → IsStartEntryOf st ss n predicate (s, x)
 start_there st ss n s x labels predicate some is set packets = record {
   pair = record {
     known = set.within;
-    places = subst (HavePlaces n) (sym (set.members ∙ is)) (all_from_members (λ l. l < n) (0 ∷ []) one);
+    places = subst (AreLabelsBelow n) (sym (set.members ∙ is)) (all_from_members (λ l. l < n) (0 ∷ []) one);
     packets = packets.set;
   };
   members = set.members ∙ is;
@@ -34,7 +34,7 @@ start_there st ss n s x labels predicate some is set packets = record {
     one l (inr z) = absurd z
 
 -- it stays as store and sets grow
-pub start_on : (a b : Held) (ss nss : List (List ℕ)) (n : ℕ) (predicate : Policy) (e : ℕ × ℕ) → Grows a b → SetsGrow ss nss
+pub start_on : (a b : StoreState) (ss nss : List (List ℕ)) (n : ℕ) (predicate : Policy) (e : ℕ × ℕ) → Grows a b → SetsGrow ss nss
     → IsStartEntryOf a ss n predicate e → IsStartEntryOf b nss n predicate e
 start_on a b ss nss n predicate e g h k = record {
   pair = pair_on a b ss nss n e g h k.pair;
@@ -45,7 +45,7 @@ start_on a b ss nss n predicate e g h k = record {
 -- the start row's predicate is one
 pub start_predicate : (c : CertificateValue) → HasPredicates c → is_predicate c.start ≡ true
 start_predicate c h =
-    let row : CertRow = record { place = at_start; predicate = c.start } in
+    let row : CertRow = record { row_position = at_start; predicate = c.start } in
     h row (contains_from_in (certificate_rows c) row (inl refl))
 
 -- and so are those of the rows that are held

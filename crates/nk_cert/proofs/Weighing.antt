@@ -2,12 +2,12 @@
 use Rattle.std.proofs.Common.{◌≡◌, ℕ, ◌+◌, List, length, subst}
 use Rattle.nk_field.specs.Packet.{FieldTable}
 use Rattle.nk_policy.specs.Policy.{Policy, dups_of}
-use Rattle.nk_store.specs.Held.{Held, IsPacket, Grows, AreTidy}
+use Rattle.nk_store.specs.StoreState.{StoreState, IsStorePacket, Grows, AreTidy}
 use Rattle.nk_store.proofs.Stores.{grows_on}
 use Rattle.nk_apply.specs.Unions.{AreIds}
 use Rattle.nk_determ.specs.Sets.{HasAscendingSets}
-use Rattle.nk_reach.specs.Pairs.{HavePlaces, ArePairs}
-use Rattle.nk_reach.specs.Sides.{alone, ends_of, AreMarked, AreOneSided, IsGoalOf, goal_on}
+use Rattle.nk_reach.specs.Pairs.{AreLabelsBelow, ArePairs}
+use Rattle.nk_reach.specs.Sides.{alone, ends_of, AreSideFinals, AreOneSided, IsPropertyOfEnds, property_grows}
 use Rattle.nk_reach.proofs.Growing.{states_grow}
 use Rattle.nk_runs.proofs.Stands.{are_states}
 use Rattle.nk_cert.specs.declared.certificate.Verdict.{Verdict}
@@ -21,21 +21,21 @@ use Rattle.nk_cert.proofs.CertRows.{both_stand, goal_is_one_sided}
 use Rattle.nk_cert.proofs.Sided.{one_sided_on}
 use Rattle.nk_cert.proofs.Finding.{found}
 
-module _ (fields : FieldTable) (first made now : Held) (states : List ℕ) (left right : ℕ) (p q : Policy) (a : IsAutomatonOfBoth fields first states left right p q) (bound : ℕ) (is : bound ≡ 1 + dups_of p) (ends : List ℕ) (g1 : Grows first made) (g2 : Grows made now) (ids : AreIds made ends) (marked : AreMarked first states left right bound (length states) made ends) where
+module _ (fields : FieldTable) (first made now : StoreState) (states : List ℕ) (left right : ℕ) (p q : Policy) (a : IsAutomatonOfBoth fields first states left right p q) (bound : ℕ) (is : bound ≡ 1 + dups_of p) (ends : List ℕ) (g1 : Grows first made) (g2 : Grows made now) (ids : AreIds made ends) (marked : AreSideFinals first states left right bound (length states) made ends) where
   -- states and ends are at hand
-  pub can_judge : (ss : List (List ℕ)) (pairs table : List (ℕ × ℕ)) → ArePairs now ss (length states) pairs → IsGoalOf made ends table → CanJudge now ss states pairs ends table
+  pub can_judge : (ss : List (List ℕ)) (pairs table : List (ℕ × ℕ)) → ArePairs now ss (length states) pairs → IsPropertyOfEnds made ends table → CanJudge now ss states pairs ends table
   can_judge ss pairs table t goal =
       let g = grows_on first made now g1 g2 in
       let r = are_states first states (either_of p q) a.states_are in
       record {
         states_are = states_grow first now states g r;
         told_are = t;
-        goal = goal_on made now ends table goal g2;
+        goal = property_grows made now ends table goal g2;
         labels = marked.count;
       }
 
   -- what is judged of all rows is what is found of the certificate
-  pub found_by : ((set pk : List ℕ) → HavePlaces (length states) set → IsPacket first pk → AreOneSided first states left right bound set pk (alone (ends_of made ends set pk)))
+  pub found_by : ((set pk : List ℕ) → AreLabelsBelow (length states) set → IsStorePacket first pk → AreOneSided first states left right bound set pk (alone (ends_of made ends set pk)))
       → AreTidy now → (ss : List (List ℕ)) → HasAscendingSets ss → (c : CertificateValue) (start : ℕ × ℕ) (entries told : List (ℕ × ℕ)) → IsJudge now ss (length states) c start entries told
       → (v : Verdict) → IsJudged now ss states (λ set pk. alone (ends_of now ends set pk)) told start c.rows entries v → IsFinding fields p q c (finding_of v)
   found_by sided tidy ss ascend c start entries told j v judged =

@@ -16,7 +16,7 @@ pub record AreWrittenTogether (program : Program) (left right : List ℕ) (p q :
   pub on_left : policy_named program left ≡ Some p
   pub on_right : (r : Policy) × (policy_named program right ≡ Some r) × (q ≡ marked_from r (1 + dups_of p))
   pub numbered : marked_from p 1 ≡ p
-  pub behind : marked_from q (1 + dups_of p) ≡ q
+  pub following : marked_from q (1 + dups_of p) ≡ q
   pub few : 1 + dups_of p + dups_of q < 2 ^ 32
   pub left_complements : NegatesPredicates p
   pub right_complements : NegatesPredicates q

@@ -2,13 +2,13 @@
 use nk_field::List;
 use nk_policy::Pol;
 
-/// A certificate that two policies do the same: rows of packets at which both can be at their starts, or behind the
+/// A certificate that two policies do the same: rows of packets at which both can be at their starts, or after the
 /// same dups. Where each row meets its four parts, the policies give the same histories on every packet.
 pub struct Certificate {
     /// The predicate of the start row: at these packets both policies stand at their starts.
     pub start: Pol,
     /// The later rows: the numbers of dups of either policy, in any order and any number of times, with the predicate
-    /// of the packets at which runs of both can be behind these dups. A row may have no number, and several rows may have
+    /// of the packets at which runs of both can be after these dups. A row may have no number, and several rows may have
     /// the same numbers.
     pub rows: List<(List<u64>, Pol)>,
 }

@@ -4,7 +4,7 @@ ghost use Rattle.nk_field.specs.Packet.{FieldTable};
 ghost use Rattle.nk_policy.specs.Policy.{Policy, is_predicate, dups_of};
 ghost use Rattle.nk_policy.specs.Ranges.{IsInRange};
 ghost use Rattle.nk_policy.specs.Tree.{tree_of};
-ghost use Rattle.nk_store.specs.Held.{IsOver, Grows};
+ghost use Rattle.nk_store.specs.StoreState.{IsOver, Grows};
 ghost use Rattle.nk_determ.specs.Sets.{SetsGrow};
 ghost use Rattle.nk_names.specs.Complements.{NegatesPredicates};
 ghost use Rattle.nk_auto.specs.Continued.{IsFit};
@@ -17,12 +17,12 @@ ghost use Rattle.nk_cert.specs.Judged.{IsJudge};
 use crate::certificate::{Certificate, Verdict};
 use crate::entries::{row_entries, start_entry};
 use crate::judge::{Judge, judge_rows};
-use crate::pairing::{Both, automaton_of_both, number_behind};
+use crate::pairing::{Both, automaton_of_both, number_after};
 use indexmap::IndexMap;
 use nk_determ::Sets;
 use nk_field::Fields;
 use nk_policy::Pol;
-use nk_reach::{OneSide, merge};
+use nk_reach::{OneSide, add_level};
 use nk_store::Store;
 use std::alloc::{AllocError, Global};
 
@@ -69,7 +69,7 @@ fn verdict_in(
     ensures { IfOk result (λ v. IsFinding fields.now (tree_of left.now) (tree_of right.now) (certificate_value certificate.now) (finding_of v)) }
 {
     let both = automaton_of_both(st, left, right)?;
-    let bound = number_behind(left) as usize;
+    let bound = number_after(left) as usize;
     verdict_by(st, ss, both, bound, certificate)
 }
 
@@ -114,7 +114,7 @@ fn judge_of(
     let start = start_entry(st, ss, &certificate.start, states.len())?;
     let entries = row_entries(st, ss, certificate.rows.as_slice(), states.len())?;
     let mut told = IndexMap::new(st.alloc());
-    merge(st, &mut told, &entries)?;
+    add_level(st, &mut told, &entries)?;
     Ok(Judge {
         states,
         start,

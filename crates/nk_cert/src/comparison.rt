@@ -1,7 +1,7 @@
 //! Two policies compared.
 ghost use Rattle.std.specs.Prelude.{◌≡◌, ◌+◌, ◌<◌, ◌^◌, IfOk};
 ghost use Rattle.nk_field.specs.Packet.{FieldTable};
-ghost use Rattle.nk_store.specs.Held.{IsOver};
+ghost use Rattle.nk_store.specs.StoreState.{IsOver};
 ghost use Rattle.nk_auto.specs.Continued.{IsFit};
 ghost use Rattle.nk_policy.specs.Policy.{Policy, marked_from, dups_of};
 ghost use Rattle.nk_policy.specs.Tree.{tree_of};
@@ -12,7 +12,7 @@ ghost use Rattle.nk_cert.specs.Comparison.{IsComparison};
 
 use crate::compared::Compared;
 use crate::leveling::levels_of_both;
-use crate::pairing::{Both, automaton_of_both, number_behind};
+use crate::pairing::{Both, automaton_of_both, number_after};
 use crate::printed::certificate_of;
 use nk_determ::Sets;
 use nk_field::Fields;
@@ -41,7 +41,7 @@ pub fn compare_policies(
     requires right_over { IsOverFields fields.now (tree_of q.now) }
     ensures { IfOk result (IsComparison fields.now (tree_of p.now) (tree_of q.now)) }
 {
-    let bound = number_behind(p);
+    let bound = number_after(p);
     let mut st = Store::new(alloc, fields)?;
     let both = numbered_automaton(&mut st, p, q, bound)?;
     compare_by_levels(&mut st, &both, bound as usize)
@@ -51,7 +51,7 @@ pub fn compare_policies(
 /// already, and the answer is that of each policy that is the right one once it is so numbered.
 pub fn compare_owned(alloc: Global, fields: &Fields, p: Pol, q: Pol) -> Result<Compared, AllocError>
     requires numbered { marked_from (tree_of p) 1 ≡ tree_of p }
-    requires behind { marked_from (tree_of q) (1 + dups_of (tree_of p)) ≡ tree_of q }
+    requires following { marked_from (tree_of q) (1 + dups_of (tree_of p)) ≡ tree_of q }
     requires few { 1 + dups_of (tree_of p) + dups_of (tree_of q) < 2 ^ 32 }
     requires left_complements { NegatesPredicates (tree_of p) }
     requires right_complements { NegatesPredicates (tree_of q) }
@@ -59,7 +59,7 @@ pub fn compare_owned(alloc: Global, fields: &Fields, p: Pol, q: Pol) -> Result<C
     requires right_over { IsOverFields fields.now (tree_of q) }
     ensures { IfOk result (λ c. (r : Policy) → marked_from r (1 + dups_of (tree_of p)) ≡ tree_of q → IsComparison fields.now (tree_of p) r c) }
 {
-    let bound = number_behind(&p);
+    let bound = number_after(&p);
     let mut st = Store::new(alloc, fields)?;
     let both = owned_automaton(&mut st, p, q)?;
     compare_by_levels(&mut st, &both, bound as usize)

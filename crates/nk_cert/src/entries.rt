@@ -3,7 +3,7 @@ ghost use Rattle.std.specs.Prelude.{◌≡◌, ◌↔◌, ◌<◌, ℕ, true, fa
 ghost use Rattle.std.specs.List.Sorted.{IsStrictlyIncreasing};
 ghost use Rattle.nk_policy.specs.Policy.{is_predicate};
 ghost use Rattle.nk_policy.specs.Tree.{tree_of};
-ghost use Rattle.nk_store.specs.Held.{Grows};
+ghost use Rattle.nk_store.specs.StoreState.{Grows};
 ghost use Rattle.nk_determ.specs.Sets.{SetsGrow};
 ghost use Rattle.nk_cert.specs.Values.{row_values};
 ghost use Rattle.nk_cert.specs.Judged.{AreLabels, IsEntryOf, IsStartEntryOf, AreEntriesOf};

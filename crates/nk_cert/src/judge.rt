@@ -1,6 +1,6 @@
 //! Which part of which row fails first.
 ghost use Rattle.std.specs.Prelude.{◌≡◌, ◌<◌, ◌∷◌, [], ℕ, true, false, IfOk, OnOk, length, List as Items};
-ghost use Rattle.nk_store.specs.Held.{Held, Grows};
+ghost use Rattle.nk_store.specs.StoreState.{StoreState, Grows};
 ghost use Rattle.nk_determ.specs.Sets.{SetsGrow};
 ghost use Rattle.nk_reach.specs.Pairs.{IsPair};
 ghost use Rattle.nk_reach.specs.Sides.{alone, ends_of};
@@ -14,7 +14,7 @@ use indexmap::IndexMap;
 use nk_determ::{SetId, Sets};
 use nk_field::List;
 use nk_policy::Pol;
-use nk_reach::{OneSide, any_bad, next_level};
+use nk_reach::{OneSide, any_violation, next_level};
 use nk_store::{Id, Store};
 use std::alloc::{AllocError, Global};
 
@@ -83,7 +83,7 @@ fn judge_start(
     ensures grows { Grows st.old st.new }
     ensures sets { SetsGrow ss.old ss.new }
     ensures can { OnOk result (CanJudge st.new ss.new judge.now.states judge.now.told.entries goal.new.ends goal.new.seen.entries) }
-    ensures same { OnOk result ((st : Held) (set pk : Items ℕ) → alone (ends_of st goal.new.ends set pk) ≡ alone (ends_of st goal.old.ends set pk)) }
+    ensures same { OnOk result ((st : StoreState) (set pk : Items ℕ) → alone (ends_of st goal.new.ends set pk) ≡ alone (ends_of st goal.old.ends set pk)) }
     ensures ok { IfOk result (λ o. IsStartJudged st.old ss.old judge.now.states (λ set pk. alone (ends_of st.old goal.old.ends set pk)) judge.now.told.entries judge.now.start o) }
 {
     if !has_each(st, judge.start.1)? {
@@ -107,7 +107,7 @@ fn judge_row(
     ensures grows { Grows st.old st.new }
     ensures sets { SetsGrow ss.old ss.new }
     ensures can { OnOk result (CanJudge st.new ss.new judge.now.states judge.now.told.entries goal.new.ends goal.new.seen.entries) }
-    ensures same { OnOk result ((st : Held) (set pk : Items ℕ) → alone (ends_of st goal.new.ends set pk) ≡ alone (ends_of st goal.old.ends set pk)) }
+    ensures same { OnOk result ((st : StoreState) (set pk : Items ℕ) → alone (ends_of st goal.new.ends set pk) ≡ alone (ends_of st goal.old.ends set pk)) }
     ensures ok { IfOk result (λ o. IsRowJudged st.old ss.old judge.now.states (λ set pk. alone (ends_of st.old goal.old.ends set pk)) judge.now.told.entries (row_at (row_values later.now) i).positions (entry_at judge.now.entries i) o) }
 {
     if !has_labels(later, i, judge.states.len()) {
@@ -147,11 +147,11 @@ fn judge_set(
     ensures grows { Grows st.old st.new }
     ensures sets { SetsGrow ss.old ss.new }
     ensures can { OnOk result (CanJudge st.new ss.new judge.now.states judge.now.told.entries goal.new.ends goal.new.seen.entries) }
-    ensures same { OnOk result ((st : Held) (set pk : Items ℕ) → alone (ends_of st goal.new.ends set pk) ≡ alone (ends_of st goal.old.ends set pk)) }
+    ensures same { OnOk result ((st : StoreState) (set pk : Items ℕ) → alone (ends_of st goal.new.ends set pk) ≡ alone (ends_of st goal.old.ends set pk)) }
     ensures ok { IfOk result (λ o. IsSetJudged st.old ss.old judge.now.states (λ set pk. alone (ends_of st.old goal.old.ends set pk)) judge.now.told.entries entry o) }
 {
     let level = level_of(st.alloc(), entry)?;
-    if any_bad(st, ss, &level, goal)? {
+    if any_violation(st, ss, &level, goal)? {
         return Ok(Some(CertPart::Finals));
     }
     let elsewhere = next_level(st, ss, judge.states.as_slice(), &judge.told, &level)?;

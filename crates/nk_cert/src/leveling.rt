@@ -1,9 +1,9 @@
 //! The levels of two policies together.
 ghost use Rattle.std.specs.Prelude.{◌≡◌, ◌<◌, ◌∷◌, [], IfOk, length};
-ghost use Rattle.nk_store.specs.Held.{IsId, Grows};
+ghost use Rattle.nk_store.specs.StoreState.{IsId, Grows};
 ghost use Rattle.nk_determ.specs.Sets.{SetsGrow};
 ghost use Rattle.nk_reach.specs.Pairs.{AreStates};
-ghost use Rattle.nk_reach.specs.Sides.{IsGoalOf};
+ghost use Rattle.nk_reach.specs.Sides.{IsPropertyOfEnds};
 ghost use Rattle.nk_cert.specs.Levelled.{AreSideLevels};
 
 use crate::pairing::Both;
@@ -43,7 +43,7 @@ pub fn levels_of_both(
     ensures grows { Grows st.old st.new }
     ensures sets { SetsGrow ss.old ss.new }
     ensures ok { IfOk result (λ l. AreSideLevels st.old both.now.states both.now.left both.now.right bound st.new ss.new l.goal.ends l.levels.levels l.levels.broken) }
-    ensures goal { IfOk result (λ l. IsGoalOf st.new l.goal.ends l.goal.seen.entries) }
+    ensures goal { IfOk result (λ l. IsPropertyOfEnds st.new l.goal.ends l.goal.seen.entries) }
 {
     levels_of_states(st, ss, both.states.as_slice(), both.left, both.right, bound)
 }
@@ -64,7 +64,7 @@ fn levels_of_states(
     ensures grows { Grows st.old st.new }
     ensures sets { SetsGrow ss.old ss.new }
     ensures ok { IfOk result (λ l. AreSideLevels st.old states.now left right bound st.new ss.new l.goal.ends l.levels.levels l.levels.broken) }
-    ensures goal { IfOk result (λ l. IsGoalOf st.new l.goal.ends l.goal.seen.entries) }
+    ensures goal { IfOk result (λ l. IsPropertyOfEnds st.new l.goal.ends l.goal.seen.entries) }
 {
     let mut goal = OneSide::new(st, states, left, right, bound)?;
     let from = identity(st)?;

@@ -15,7 +15,7 @@ use crate::checking::verdict_by;
 use crate::comparison::owned_automaton;
 use crate::error::CheckError;
 use crate::laws::a_certificate_shows_equality;
-use crate::pairing::number_behind;
+use crate::pairing::number_after;
 use nk_determ::Sets;
 use nk_field::Fields;
 use nk_names::Program;
@@ -85,7 +85,7 @@ pub fn both_written(
         return Ok(None);
     };
     let p = on_left.written(alloc)?;
-    let q = on_right.written_from(alloc, number_behind(&p))?;
+    let q = on_right.written_from(alloc, number_after(&p))?;
     Ok(Some((p, q)))
 }
 
@@ -99,7 +99,7 @@ fn check_both(
     certificate: &Certificate,
 ) -> Result<Verdict, AllocError>
     requires numbered { marked_from (tree_of p) 1 ≡ tree_of p }
-    requires behind { marked_from (tree_of q) (1 + dups_of (tree_of p)) ≡ tree_of q }
+    requires following { marked_from (tree_of q) (1 + dups_of (tree_of p)) ≡ tree_of q }
     requires few { 1 + dups_of (tree_of p) + dups_of (tree_of q) < 2 ^ 32 }
     requires left_complements { NegatesPredicates (tree_of p) }
     requires left_over { IsOverFields fields.now (tree_of p) }
@@ -111,7 +111,7 @@ fn check_both(
 {
     // This is a law: policies with a certificate give the same histories.
     a_certificate_shows_equality();
-    let bound = number_behind(&p);
+    let bound = number_after(&p);
     let mut st = Store::new(alloc, fields)?;
     let both = owned_automaton(&mut st, p, q)?;
     let mut ss = Sets::new(alloc);

@@ -2,7 +2,7 @@
 ghost use Rattle.std.specs.Prelude.{◌≡◌, true, false, IfOk};
 ghost use Rattle.nk_policy.specs.Policy.{is_predicate};
 ghost use Rattle.nk_policy.specs.Tree.{tree_of};
-ghost use Rattle.nk_store.specs.Held.{IsId, Grows};
+ghost use Rattle.nk_store.specs.StoreState.{IsId, Grows};
 ghost use Rattle.nk_cert.specs.Levelled.{HasEach};
 ghost use Rattle.nk_cert.specs.Judged.{IsPacketsOf};
 

@@ -3,7 +3,7 @@ ghost use Rattle.std.specs.Prelude.{◌≡◌, ◌+◌, ◌<◌, ◌^◌, ◌++�
 ghost use Rattle.nk_field.specs.Packet.{FieldTable};
 ghost use Rattle.nk_policy.specs.Policy.{marked_from, dups_of};
 ghost use Rattle.nk_policy.specs.Tree.{tree_of};
-ghost use Rattle.nk_store.specs.Held.{IsOver, Grows};
+ghost use Rattle.nk_store.specs.StoreState.{IsOver, Grows};
 ghost use Rattle.nk_auto.specs.Continued.{IsFit};
 ghost use Rattle.nk_cert.specs.Levelled.{IsAutomatonOfBoth};
 
@@ -52,15 +52,15 @@ pub fn automaton_of_both(st: &mut Store, p: &Pol, q: &Pol) -> Result<Both, Alloc
     })
 }
 
-/// The number behind those of a policy's dups, which are numbered from 1 on.
-pub(crate) fn number_behind(p: &Pol) -> u32
+/// The number after those of a policy's dups, which are numbered from 1 on.
+pub(crate) fn number_after(p: &Pol) -> u32
     requires { 1 + dups_of (tree_of p.now) < 2 ^ 32 }
     ensures { result ≡ 1 + dups_of (tree_of p.now) }
 {
     1 + dups(p) as u32
 }
 
-/// Puts all states but the first behind others.
+/// Puts all states but the first after others.
 fn push_rest(states: &mut List<Id>, others: &[Id]) -> Result<(), AllocError>
     requires { 0 < length others.now }
     ensures { OnOk result (states.new ≡ states.old ++ drop 1 others.now) }
@@ -68,7 +68,7 @@ fn push_rest(states: &mut List<Id>, others: &[Id]) -> Result<(), AllocError>
     push_all(states, &others[1..])
 }
 
-/// Puts states behind others.
+/// Puts states after others.
 fn push_all(states: &mut List<Id>, more: &[Id]) -> Result<(), AllocError>
     ensures { OnOk result (states.new ≡ states.old ++ more.now) }
 {

@@ -2,7 +2,7 @@
 ghost use Rattle.std.specs.Prelude.{◌≡◌, ◌<◌, ◌-◌, ℕ, [], IfOk, All, length, slice_index_or};
 ghost use Rattle.nk_policy.specs.After.{id_policy};
 ghost use Rattle.nk_policy.specs.Tree.{tree_of};
-ghost use Rattle.nk_store.specs.Held.{Grows};
+ghost use Rattle.nk_store.specs.StoreState.{Grows};
 ghost use Rattle.nk_sets.specs.PacketSets.{IsSet};
 ghost use Rattle.nk_reach.specs.Rounds.{HaveSets};
 ghost use Rattle.nk_tag.specs.Numbers.{AreEntries};
@@ -16,13 +16,13 @@ use nk_apply::empty;
 use nk_determ::{SetId, Sets};
 use nk_field::List;
 use nk_policy::{Pol, Pols};
-use nk_reach::{Levels, merge, under};
+use nk_reach::{Levels, add_level, under};
 use nk_sets::set_pol;
 use nk_store::{Id, Store};
 use nk_tag::later_sets;
 use std::alloc::{AllocError, Global};
 
-/// The certificate that levels make: the start row has all packets; then there is a row for each set that a level behind
+/// The certificate that levels make: the start row has all packets; then there is a row for each set that a level after
 /// the first one names, by the first of these levels that does and inside a level by its members in dictionary order, with
 /// the predicate of all packets that stand under it on these levels. Of levels of two policies from all packets, without an end
 /// of one of them alone, this is the printed certificate. The only error is that memory ran out.
@@ -42,7 +42,7 @@ pub fn certificate_of(st: &mut Store, ss: &Sets, lv: &Levels) -> Result<Certific
     })
 }
 
-/// All packets under sets of the levels behind the first one.
+/// All packets under sets of the levels after the first one.
 fn later_packets(st: &mut Store, lv: &Levels) -> Result<IndexMap<SetId, Id>, AllocError>
     requires { (i : ℕ) → i < length lv.now.levels → HaveSets st.old (slice_index_or lv.now.levels i []) }
     ensures grows { Grows st.old st.new }
@@ -51,7 +51,7 @@ fn later_packets(st: &mut Store, lv: &Levels) -> Result<IndexMap<SetId, Id>, All
     let mut met = IndexMap::new(st.alloc());
     for i in 1..lv.levels.len() {
         let level = lv.levels.at(i);
-        merge(st, &mut met, level)?;
+        add_level(st, &mut met, level)?;
     }
     Ok(met)
 }

@@ -3,7 +3,7 @@ use Rattle.std.proofs.Common.{◌≡◌, ◌⊎◌, ℕ, Bool, true, false, cond
 use Rattle.std.specs.Prelude.{⊤, fold, nat_le}
 use Rattle.std.proofs.lemmas.List.Sums.{fold-append}
 use Rattle.nk_lex.specs.declared.token.Token.{Token}
-use Rattle.nk_lex.specs.declared.word.Number.{Number}
+use Rattle.nk_lex.specs.declared.ident.Number.{Number}
 use Rattle.nk_grammar.specs.declared.decl.GrammarError.TheVariants as error
 use Rattle.nk_grammar.specs.Terminal.{Terminal, terminal_of}
 use Rattle.nk_grammar.specs.Tree.{Tree}
@@ -16,26 +16,26 @@ use Rattle.nk_grammar.specs.Terminal.{is_colon_terminal}
 use Rattle.nk_grammar.specs.CertifiedProgress.{CertifiedProgress, Going, Stopped, bare, done_declarations, SoFar, so_far, nothing_so_far, so_far_judged, so_far_after, IsRead}
 
 -- the certificate has begun
-abbrev IsBehind : CertifiedPhase → Type 0
-IsBehind (declaring r) = ⊥
-IsBehind p = ⊤
+abbrev IsAfter : CertifiedPhase → Type 0
+IsAfter (declaring r) = ⊥
+IsAfter p = ⊤
 
 -- before it there is no row
 abbrev HasNoRow : CertifiedPhase → List Row → Type 0
 HasNoRow (declaring r) rs = rs ≡ []
 HasNoRow p rs = ⊤
 
-abbrev AreBehind : CertifiedProgress → List Row → Type 0
-AreBehind (Going p line) rs = HasNoRow p rs
-AreBehind (Stopped e) rs = ⊤
+abbrev AreAfter : CertifiedProgress → List Row → Type 0
+AreAfter (Going p line) rs = HasNoRow p rs
+AreAfter (Stopped e) rs = ⊤
 
 abbrev IsOrdered : SoFar → Type 0
-IsOrdered s = AreBehind s.progress s.rows
+IsOrdered s = AreAfter s.progress s.rows
 
--- a state behind the word `certificate` has these declarations
+-- a state after the word `certificate` has these declarations
 abbrev Keeps : List Declaration → Option Certifying → Type 0
 Keeps ds None = ⊤
-Keeps ds (Some c) = IsBehind c.phase × (c.declarations ≡ ds)
+Keeps ds (Some c) = IsAfter c.phase × (c.declarations ≡ ds)
 
 abbrev HaveNoRow : Option Certifying → Type 0
 HaveNoRow None = ⊤
@@ -59,8 +59,8 @@ module _ (ds : List Declaration) where
   on_row rs ns line None None t = tt
   on_row rs ns line None (Some p) t = on_line (row_in t) _ (λ l. (tt, refl))
 
-  -- one more token behind the word `certificate`
-  next_keeps : (p : CertifiedPhase) (rs : List Row) (t : Terminal) → IsBehind p → Keeps ds (next_certifying p ds rs t)
+  -- one more token after the word `certificate`
+  next_keeps : (p : CertifiedPhase) (rs : List Row) (t : Terminal) → IsAfter p → Keeps ds (next_certifying p ds rs t)
   next_keeps (declaring r) rs t b = absurd b
   next_keeps row_wanted rs t b = on_line (row_in t) _ (λ l. (tt, refl))
   next_keeps (start_wanted line) rs t b = on_test (is_start_word t) _ None (tt, refl) tt
@@ -85,14 +85,14 @@ next_declaring r rs t h = by (is_certificate t)
     by true = begins (declarations_at_end r)
     by false = still (read_one r t)
 
-behind_no_row : (p : CertifiedPhase) (rs : List Row) → IsBehind p → HasNoRow p rs
-behind_no_row (declaring r) rs b = absurd b
-behind_no_row row_wanted rs b = tt
-behind_no_row (start_wanted line) rs b = tt
-behind_no_row (start_read line) rs b = tt
-behind_no_row (number_wanted line) rs b = tt
-behind_no_row (numbers_read line ns) rs b = tt
-behind_no_row (in_row line ns s) rs b = tt
+after_no_row : (p : CertifiedPhase) (rs : List Row) → IsAfter p → HasNoRow p rs
+after_no_row (declaring r) rs b = absurd b
+after_no_row row_wanted rs b = tt
+after_no_row (start_wanted line) rs b = tt
+after_no_row (start_read line) rs b = tt
+after_no_row (number_wanted line) rs b = tt
+after_no_row (numbers_read line ns) rs b = tt
+after_no_row (in_row line ns s) rs b = tt
 
 bare_no_row : (p : CertifiedPhase) (rs : List Row) → HasNoRow p rs → HasNoRow (bare p) rs
 bare_no_row (declaring r) rs h = h
@@ -103,14 +103,14 @@ bare_no_row (number_wanted line) rs h = tt
 bare_no_row (numbers_read line ns) rs h = tt
 bare_no_row (in_row line ns s) rs h = tt
 
-done_behind : (p : CertifiedPhase) (ds : List Declaration) → IsBehind p → done_declarations p ds ≡ ds
-done_behind (declaring r) ds b = absurd b
-done_behind row_wanted ds b = refl
-done_behind (start_wanted line) ds b = refl
-done_behind (start_read line) ds b = refl
-done_behind (number_wanted line) ds b = refl
-done_behind (numbers_read line ns) ds b = refl
-done_behind (in_row line ns s) ds b = refl
+done_after : (p : CertifiedPhase) (ds : List Declaration) → IsAfter p → done_declarations p ds ≡ ds
+done_after (declaring r) ds b = absurd b
+done_after row_wanted ds b = refl
+done_after (start_wanted line) ds b = refl
+done_after (start_read line) ds b = refl
+done_after (number_wanted line) ds b = refl
+done_after (numbers_read line ns) ds b = refl
+done_after (in_row line ns s) ds b = refl
 
 -- the state that a token leads to
 judged_ordered : (o : Option Certifying) (s : SoFar) (line : ℕ) → HaveNoRow o → IsOrdered (so_far_judged (judged_certified line o) s line)
@@ -127,39 +127,39 @@ judged_keeps ds None s line is h = is
 judged_keeps ds (Some c) s line is h = by (nat_le (open_certified c) 256)
   where
     by : (b : Bool) → (so_far_judged (cond b (Ok c) (Err (error.TooDeep line))) s line).declarations ≡ ds
-    by true = done_behind c.phase c.declarations h.0 ∙ h.1
+    by true = done_after c.phase c.declarations h.0 ∙ h.1
     by false = is
 
 keeps_no_row : (ds : List Declaration) (o : Option Certifying) → Keeps ds o → HaveNoRow o
 keeps_no_row ds None h = tt
-keeps_no_row ds (Some c) h = behind_no_row c.phase c.rows h.0
+keeps_no_row ds (Some c) h = after_no_row c.phase c.rows h.0
 
 -- what a token changes: there is no row so far, or the declarations stay
 abbrev IsOrderedOn : List Declaration → List Row → SoFar → Type 0
 IsOrderedOn ds rs s = IsOrdered s × ((rs ≡ []) ⊎ (s.declarations ≡ ds))
 
-behind_ordered : (p : CertifiedPhase) (line : ℕ) (ds : List Declaration) (rs : List Row) (t : Token) → IsBehind p
+after_ordered : (p : CertifiedPhase) (line : ℕ) (ds : List Declaration) (rs : List Row) (t : Token) → IsAfter p
     → IsOrderedOn ds rs (so_far_judged (judged_certified t.line (next_certifying p ds rs (terminal_of t))) (so_far (Going p line) ds rs) t.line)
-behind_ordered p line ds rs t b =
+after_ordered p line ds rs t b =
     let o = next_certifying p ds rs (terminal_of t) in
     let keeps : Keeps ds o = next_keeps ds p rs (terminal_of t) b in (
       judged_ordered o (so_far (Going p line) ds rs) t.line (keeps_no_row ds o keeps),
       inr (judged_keeps ds o (so_far (Going p line) ds rs) t.line refl keeps),
     )
 
-one_ordered : (p : CertifiedProgress) (ds : List Declaration) (rs : List Row) (t : Token) → AreBehind p rs
+one_ordered : (p : CertifiedProgress) (ds : List Declaration) (rs : List Row) (t : Token) → AreAfter p rs
     → IsOrderedOn ds rs (so_far_after (so_far p ds rs) t)
 one_ordered (Stopped e) ds rs t h = (tt, inr refl)
 one_ordered (Going (declaring r) line) ds rs t h = (
   judged_ordered _ (so_far (Going (declaring r) line) ds rs) t.line (next_declaring (reading r.phase ds) rs (terminal_of t) h),
   inl h,
 )
-one_ordered (Going row_wanted line) ds rs t h = behind_ordered row_wanted line ds rs t tt
-one_ordered (Going (start_wanted l) line) ds rs t h = behind_ordered (start_wanted l) line ds rs t tt
-one_ordered (Going (start_read l) line) ds rs t h = behind_ordered (start_read l) line ds rs t tt
-one_ordered (Going (number_wanted l) line) ds rs t h = behind_ordered (number_wanted l) line ds rs t tt
-one_ordered (Going (numbers_read l ns) line) ds rs t h = behind_ordered (numbers_read l ns) line ds rs t tt
-one_ordered (Going (in_row l ns s) line) ds rs t h = behind_ordered (in_row l ns s) line ds rs t tt
+one_ordered (Going row_wanted line) ds rs t h = after_ordered row_wanted line ds rs t tt
+one_ordered (Going (start_wanted l) line) ds rs t h = after_ordered (start_wanted l) line ds rs t tt
+one_ordered (Going (start_read l) line) ds rs t h = after_ordered (start_read l) line ds rs t tt
+one_ordered (Going (number_wanted l) line) ds rs t h = after_ordered (number_wanted l) line ds rs t tt
+one_ordered (Going (numbers_read l ns) line) ds rs t h = after_ordered (numbers_read l ns) line ds rs t tt
+one_ordered (Going (in_row l ns s) line) ds rs t h = after_ordered (in_row l ns s) line ds rs t tt
 
 all_ordered : (ts : List Token) (s : SoFar) → IsOrdered s → IsOrdered (fold so_far_after s ts)
 all_ordered [] s h = h

@@ -11,7 +11,7 @@ use Rattle.nk_store.specs.declared.node.Out.{Out}
 use Rattle.nk_store.specs.Diagram.{Branches, leaf, case, no_branch, branch, IsReduced, AreReduced}
 use Rattle.nk_store.specs.Intervals.{same_tree, with_most, values_with}
 use Rattle.nk_names.specs.ReadBack.{IsReadablePredicate, HasNoLonePart, HaveNoLonePart}
-use Rattle.nk_sets.specs.Predicate.{SetTree, SetInterval, same_outs, is_empty_set, is_full_set, parts_of, sum_of_terms, guarded, part_of, parts_outside, terms_of, conditions_of, else_condition, else_terms, predicate_at, predicate_of, intervals_of}
+use Rattle.nk_sets.specs.Predicate.{SetTree, SetInterval, same_outs, is_empty_set, is_full_set, parts_of, sum_of_terms, guarded_predicate, part_of, parts_outside, terms_of, conditions_of, else_condition, else_terms, predicate_at, predicate_of, intervals_of}
 
 -- a predicate over the fields, at most so deep, with no sum or sequence of one part
 record IsGood (fields : FieldTable) (most : ℕ) (p : Policy) : Type 0 where
@@ -75,7 +75,7 @@ sum_good fields most (p ∷ q ∷ ps) g =
 -- a guarded predicate is one deeper than its condition and the child's
 guarded_good :
     (fields : FieldTable) (most : ℕ) (c rest : Policy) (child : SetTree) → IsGood fields most c → IsGood fields most rest
-    → IsGood fields (1 + most) (guarded c child rest)
+    → IsGood fields (1 + most) (guarded_predicate c child rest)
 guarded_good fields most c rest child g h = by (is_full_set child)
   where
     both : IsGood fields (1 + most) (seq_of (part c (part rest no_part)))
@@ -145,7 +145,7 @@ terms_good :
     → IsGoodInterval fields f most i → AreGood fields (1 + most) (terms_of f other i)
 terms_good fields f most other i lt le g = by (same_tree other same_outs i.child) (is_empty_set i.child)
   where
-    by : (b n : Bool) → AreGood fields (1 + most) (cond b [] (cond n [] (guarded (part_of f i) i.child i.made ∷ [])))
+    by : (b n : Bool) → AreGood fields (1 + most) (cond b [] (cond n [] (guarded_predicate (part_of f i) i.child i.made ∷ [])))
     by true n = tt
     by false true = tt
     by false false = (
@@ -192,7 +192,7 @@ else_good fields f most other is lt le o g = by (is_empty_set other.child)
         deeper fields (1 + (1 + 1)) 3 (not_of (sum_of_terms parts)) (omega arith)
         (not_good fields (1 + 1) (sum_of_terms parts) (sum_good fields 1 parts (conditions_good fields f most other.child is lt g)))
 
-    by : (b : Bool) → AreGood fields (1 + most) (cond b [] (guarded (else_condition f other is) other.child other.made ∷ []))
+    by : (b : Bool) → AreGood fields (1 + most) (cond b [] (guarded_predicate (else_condition f other is) other.child other.made ∷ []))
     by true = tt
     by false = (
       guarded_good fields most (else_condition f other is) other.made other.child
@@ -238,7 +238,7 @@ abbrev BeginsIn : ℕ → Branches (List Out) → Type 0
 BeginsIn from no_branch = Unit {0}
 BeginsIn from (branch end d bs) = from ≤ end
 
--- the next branch ends past the value behind one's end
+-- the next branch ends past the value after one's end
 begins_next : (maxima : List ℕ) (f end : ℕ) (d : SetTree) (bs : Branches (List Out)) → AreReduced (branch end d bs) maxima f → BeginsIn (end + 1) bs
 begins_next maxima f end d no_branch r = tt
 begins_next maxima f end d (branch next e bs) r = let lt = r.0 in omega (arith, lt)

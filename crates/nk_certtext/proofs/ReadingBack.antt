@@ -16,7 +16,7 @@ use Rattle.nk_lex.specs.Spans.{line_feeds}
 use Rattle.nk_lex.specs.Spelling.{Lexeme, text_of}
 use Rattle.nk_policy.specs.Policy.{Policy}
 use Rattle.nk_policy.specs.Text.{pol_bytes}
-use Rattle.nk_lex.specs.declared.word.Number.{Number}
+use Rattle.nk_lex.specs.declared.ident.Number.{Number}
 use Rattle.nk_lex.specs.Faults.{and_then}
 use Rattle.nk_grammar.specs.Grammar.{Pol, pol_tree}
 use Rattle.nk_grammar.specs.Text.{lexemes_of_pol, IsNumberOn}
@@ -25,7 +25,7 @@ use Rattle.nk_grammar.specs.FileMachine.{file_of}
 use Rattle.nk_grammar.specs.Certified.{row, WrittenRow, written_row, number_value, row_of, rows_said}
 use Rattle.nk_grammar.specs.CertifiedText.{lexemes_of_numbers, lexemes_of_predicate, lexemes_of_rows, lexemes_of_certificate, AreRowsOn, ReadsCertificateTexts}
 use Rattle.nk_grammar.specs.Moved.{tree_moved, row_moved, nesting_of_row, ReadsTogether}
-use Rattle.nk_names.specs.ProgramOf.{Said, program_of, row_policy}
+use Rattle.nk_names.specs.ProgramOf.{DeclaredProgram, program_of, row_policy}
 use Rattle.nk_names.specs.ReadBack.{IsWritable, DeclaresWritable, IsPredicateReadBack, ReadsPrintedPredicates}
 use Rattle.nk_names.proofs.Printed.{text_append}
 use Rattle.nk_cert.specs.Certificates.{RowValue, CertificateValue}
@@ -99,7 +99,7 @@ numbers_on line (n ∷ ns) h =
     All-cons (IsNumberOn line) (number_on line n) (map (number_on line) ns) (All-head (λ n. n ≤ largest) n ns h, refl)
     (numbers_on line ns (All-tail (λ n. n ≤ largest) n ns h))
 
--- the text of numbers, each behind a space
+-- the text of numbers, each after a space
 numbers_text : (ns : List Number) → text_of (lexemes_of_numbers ns) ≡ flat_map position_bytes (map number_value ns)
 numbers_text [] = refl
 numbers_text (n ∷ ns) = ap (λ l. codes " " ++ (decimal n.value ++ l)) (numbers_text ns)
@@ -170,12 +170,12 @@ module _ (reads : ReadsPrintedPredicates) (fields : FieldTable) (writable : IsWr
           → text_of (lexemes_of_rows (written_row line one.first one.more one.predicate.written ∷ rest.written)) ≡ flat_map (row_bytes fields) (r ∷ rs)
       text_of_one one =
           let numbers = one.first ∷ one.more in
-          let behind = lexemes_of_predicate one.predicate.written (lexemes_of_rows rest.written) in
+          let following = lexemes_of_predicate one.predicate.written (lexemes_of_rows rest.written) in
           let positions = flat_map position_bytes r.positions in
           let predicate = predicate_bytes fields r.predicate in
           ap (λ l. codes "row" ++ l)
-          (text_append (lexemes_of_numbers numbers) behind
-          ∙ ap (λ l. l ++ text_of behind) (numbers_text numbers ∙ ap (flat_map position_bytes) one.positions)
+          (text_append (lexemes_of_numbers numbers) following
+          ∙ ap (λ l. l ++ text_of following) (numbers_text numbers ∙ ap (flat_map position_bytes) one.positions)
           ∙ ap (λ l. positions ++ l)
           (predicate_text fields r.predicate one.predicate.written (lexemes_of_rows rest.written) one.predicate.text
           ∙ ap (λ l. predicate ++ l) rest.text)
@@ -209,7 +209,7 @@ module _ (reads : ReadsPrintedPredicates) (fields : FieldTable) (writable : IsWr
 -- ---- the certificate
 
 pub certificates_back : DeclaresWritable → ReadsPrintedPredicates → ReadsCertificateTexts → ReadsTogether
-    → (text : List ℕ) (ts : List Token) (ds : List Declaration) (s : Said) (c : CertificateValue)
+    → (text : List ℕ) (ts : List Token) (ds : List Declaration) (s : DeclaredProgram) (c : CertificateValue)
     → tokens_of text ≡ Ok ts → file_of ts ≡ Ok ds → program_of ds ≡ Ok s → IsPrintableCertificate s.fields c
     → IsCertificateReadBack s.fields text ds c
 certificates_back declares reads texts together text ts ds s c cut read said h =

@@ -24,7 +24,7 @@ use Rattle.nk_cert.specs.Values.{held_row_value, row_values, certificate_value}
 use Rattle.nk_cert.specs.Verdicts.{HasPredicates}
 use Rattle.nk_certtext.specs.declared.error.CertError.TheVariants.{CertFault}
 use Rattle.nk_certtext.specs.declared.error.CertError.{CertError}
-use Rattle.nk_certtext.specs.Rows.{have_positions, is_misplaced, fault_of_predicate, with_predicate, placed_row, with_written_row, with_later_rows, with_rows, from_start, certificate_of, starts, with_later_row, with_next_row, made_of, certificate_at_end, RowsValue, IsFault, Returns}
+use Rattle.nk_certtext.specs.Rows.{have_positions, is_misplaced, fault_of_predicate, with_predicate, placed_row, with_written_row, with_later_rows, with_rows, from_start, certificate_of, starts, with_later_row, with_next_row, made_of, certificate_at_end, RowsValue, IsCertFault, CertReturns}
 use Rattle.nk_certtext.proofs.Predicates.{of_certificate}
 
 -- the positions are found where a row has them
@@ -64,8 +64,8 @@ module _ (before : List RowValue) (ns : List ℕ) (line : ℕ) (wanted : Result 
   placed h = ap (λ b. cond b (Err (CertFault line)) (with_predicate before ns wanted)) h
 
   -- a predicate's fault is the row's
-  pub row_refused : (e : NamesError) → is_misplaced before ns ≡ false → program.IsFault e wanted
-      → IsFault (fault_of_predicate e) (placed_row before ns line wanted)
+  pub row_refused : (e : NamesError) → is_misplaced before ns ≡ false → program.IsNamesFault e wanted
+      → IsCertFault (fault_of_predicate e) (placed_row before ns line wanted)
   row_refused names.NoMemory h f = tt
   row_refused (names.Fault kind at) h f = placed h ∙ ap (with_predicate before ns) f
 
@@ -74,7 +74,7 @@ module _ (before : List RowValue) (ns : List ℕ) (line : ℕ) (wanted : Result 
       → with_predicate before ns (Ok p) ≡ Ok after → placed_row before ns line wanted ≡ Ok after
   row_read p after h f e = placed h ∙ ap (with_predicate before ns) f ∙ e
 
--- rows behind others are read one more at a time
+-- rows after others are read one more at a time
 rows_more : (fields : FieldTable) (rs : List Row) (r : Row) (before : List RowValue)
     → with_later_rows fields (rs ++ r ∷ []) before ≡ and_then (with_later_rows fields rs before) (λ b. with_written_row fields b r)
 rows_more fields [] r before = alone (with_written_row fields before r)
@@ -131,7 +131,7 @@ made_next fields rows i r before after lt is h e =
 
 -- so the certificate of all rows has predicates
 pub finished_predicates : (fields : FieldTable) (rs : List Row) (b : RowsValue) (r : Result Certificate CertError) → b ≡ made_of fields rs
-    → Returns certificate_value r (certificate_at_end b) → IfOk r (λ c. HasPredicates (certificate_value c))
+    → CertReturns certificate_value r (certificate_at_end b) → IfOk r (λ c. HasPredicates (certificate_value c))
 finished_predicates fields rs b (Ok c) is h =
     of_certificate fields rs (certificate_value c) (sym (made_all fields rs) ∙ sym (ap certificate_at_end is) ∙ h)
 finished_predicates fields rs b (Err e) is h = tt

@@ -6,7 +6,7 @@ use Rattle.nk_lex.specs.Lex.{tokens_of}
 use Rattle.nk_grammar.specs.File.{Declaration}
 use Rattle.nk_grammar.specs.FileMachine.{file_of}
 use Rattle.nk_policy.specs.Policy.{Policy, dups_of}
-use Rattle.nk_names.specs.ProgramOf.{Said, program_of}
+use Rattle.nk_names.specs.ProgramOf.{DeclaredProgram, program_of}
 use Rattle.nk_cert.specs.Certificates.{CertificateValue}
 use Rattle.nk_cert.specs.Together.{AreNumbered}
 use Rattle.nk_cert.specs.Printed.{IsPrinted}
@@ -28,8 +28,8 @@ abbrev pub PrintsPredicates : Type 0
 PrintsPredicates = (fields : FieldTable) → IsFieldTable fields → (p q : Policy) → AreCompared p q → (c : CertificateValue)
     → IsPrinted fields p q c → HasPredicates c
 
--- behind the text of each program with its fields it is read as itself
+-- after the text of each program with its fields it is read as itself
 abbrev pub ReadsPrintedFor : Type 0
-ReadsPrintedFor = (text : List ℕ) (ts : List Token) (ds : List Declaration) (s : Said) (p q : Policy) (c : CertificateValue)
+ReadsPrintedFor = (text : List ℕ) (ts : List Token) (ds : List Declaration) (s : DeclaredProgram) (p q : Policy) (c : CertificateValue)
     → tokens_of text ≡ Ok ts → file_of ts ≡ Ok ds → program_of ds ≡ Ok s → AreCompared p q → IsPrinted s.fields p q c
     → IsCertificateReadBack s.fields text ds c

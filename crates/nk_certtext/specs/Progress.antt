@@ -12,8 +12,8 @@ use Rattle.nk_grammar.specs.File.{Declaration, declaration_of}
 use Rattle.nk_grammar.specs.Certified.{Row, row, row_value}
 use Rattle.nk_grammar.specs.CertifiedProgress.{CertifiedProgress, IsRead, IsStopped, declarations_by, rows_by}
 use Rattle.nk_names.specs.declared.fault.NamesError.{NamesError}
-use Rattle.nk_names.specs.Declaring.{said_on}
-use Rattle.nk_names.specs.ProgramOf.{Said, program_of, row_policy}
+use Rattle.nk_names.specs.Declaring.{program_on}
+use Rattle.nk_names.specs.ProgramOf.{DeclaredProgram, program_of, row_policy}
 use Rattle.nk_cert.specs.Certificates.{CertificateValue}
 use Rattle.nk_certtext.specs.declared.error.TextError.{TextError}
 use Rattle.nk_certtext.specs.Rows.{RowsValue, fault_of_predicate, with_next_row, made_of, certificate_at_end}
@@ -21,11 +21,11 @@ use Rattle.nk_certtext.specs.Whole.{names_fault, with_certificate}
 
 -- what the declarations so far say, and what the rows so far make
 pub record PartsValue : Type 0 where
-  pub said : Result Said NamesError
+  pub said : Result DeclaredProgram NamesError
   pub rows : RowsValue
 
 -- the predicate of a row over what is declared; a fault of the declarations is the row's
-abbrev pub predicate_over : Result Said NamesError → Tree → (line : ℕ) → Result Policy NamesError
+abbrev pub predicate_over : Result DeclaredProgram NamesError → Tree → (line : ℕ) → Result Policy NamesError
 predicate_over said t line = and_then said (λ s. row_policy s.fields t line)
 
 -- one more row
@@ -34,7 +34,7 @@ with_row_part p (row ns t line) = record p { rows = with_next_row p.rows ns line
 
 -- one more declaration or row
 abbrev pub with_next_part : PartsValue → Completed → PartsValue
-with_next_part p (completed.Declaration d) = record p { said = said_on p.said (declaration_of d) }
+with_next_part p (completed.Declaration d) = record p { said = program_on p.said (declaration_of d) }
 with_next_part p (completed.Row r) = with_row_part p (row_value r)
 
 -- the same of what a token completes, if it does
@@ -48,7 +48,7 @@ pub record CertProgress : Type 0 where
   pub parts : PartsValue
 
 -- what rows make over what is declared; a fault of the declarations is that of the first row, if there is one
-abbrev pub made_by : Result Said NamesError → List Row → RowsValue
+abbrev pub made_by : Result DeclaredProgram NamesError → List Row → RowsValue
 made_by (Ok s) rs = made_of s.fields rs
 made_by (Err e) [] = None
 made_by (Err e) (r ∷ rs) = Some (Err (fault_of_predicate e))
@@ -75,9 +75,9 @@ abbrev pub HasStopped : CertProgress → Type 0
 HasStopped p = IsStopped p.grammar
 
 -- the program and the certificate, where no further declaration and no further row comes
-abbrev pub text_by : Result Said NamesError → RowsValue → Result (Said × CertificateValue) TextError
+abbrev pub text_by : Result DeclaredProgram NamesError → RowsValue → Result (DeclaredProgram × CertificateValue) TextError
 text_by (Ok s) rows = with_certificate s (certificate_at_end rows)
 text_by (Err e) rows = Err (names_fault e)
 
-abbrev pub text_at_end : PartsValue → Result (Said × CertificateValue) TextError
+abbrev pub text_at_end : PartsValue → Result (DeclaredProgram × CertificateValue) TextError
 text_at_end p = text_by p.said p.rows

@@ -1,4 +1,4 @@
--- Certificates of the kind that a text has: what is printed of them, behind the text of their program, is read as them.
+-- Certificates of the kind that a text has: what is printed of them, after the text of their program, is read as them.
 use Rattle.std.specs.Prelude.{◌≡◌, ◌≢◌, ◌≤◌, ℕ, List, [], ◌∷◌, Ok, All, AllPairs, length, codes}
 use Rattle.std.specs.List.Sorted.{IsStrictlyIncreasing}
 use Rattle.nk_field.specs.Packet.{FieldTable, built_in}
@@ -10,7 +10,7 @@ use Rattle.nk_grammar.specs.FileMachine.{file_of}
 use Rattle.nk_policy.specs.Policy.{Policy, test, range, seq_of, not_of, no_part, part}
 use Rattle.nk_grammar.specs.Certified.{Row, Certified, certified}
 use Rattle.nk_grammar.specs.CertifiedMachine.{certified_of}
-use Rattle.nk_names.specs.ProgramOf.{Said, program_of}
+use Rattle.nk_names.specs.ProgramOf.{DeclaredProgram, program_of}
 use Rattle.nk_names.specs.ReadBack.{IsReadablePredicate}
 use Rattle.nk_cert.specs.Certificates.{RowValue, CertificateValue}
 use Rattle.nk_certtext.specs.Text.{cert_bytes}
@@ -40,10 +40,10 @@ pub record IsCertificateReadBack (fields : FieldTable) (text : List ℕ) (ds : L
   pub started : HasStartRow rows
   pub made : certificate_of fields rows ≡ Ok c
 
--- what is printed of such a certificate is read as it behind the text of each program with its fields, and that text as its
+-- what is printed of such a certificate is read as it after the text of each program with its fields, and that text as its
 -- own declarations
 abbrev pub ReadsPrintedCertificates : Type 0
-ReadsPrintedCertificates = (text : List ℕ) (ts : List Token) (ds : List Declaration) (s : Said) (c : CertificateValue)
+ReadsPrintedCertificates = (text : List ℕ) (ts : List Token) (ds : List Declaration) (s : DeclaredProgram) (c : CertificateValue)
     → tokens_of text ≡ Ok ts → file_of ts ≡ Ok ds → program_of ds ≡ Ok s → IsPrintableCertificate s.fields c
     → IsCertificateReadBack s.fields text ds c
 

@@ -54,7 +54,7 @@ placed_row before ns line predicate = if is_misplaced before ns then Err (CertFa
 abbrev pub with_written_row : FieldTable → (before : List RowValue) → Row → Result (List RowValue) CertError
 with_written_row fields before (row ns t line) = placed_row before ns line (row_policy fields t line)
 
--- the rows behind those that were read before
+-- the rows after those that were read before
 abbrev pub with_later_rows : FieldTable → List Row → (before : List RowValue) → Result (List RowValue) CertError
 with_later_rows fields [] before = Ok before
 with_later_rows fields (r ∷ rs) before = and_then (with_written_row fields before r) (with_later_rows fields rs)
@@ -113,12 +113,12 @@ HasStartRow [] = ⊥
 HasStartRow (row ns t line ∷ later) = ns ≡ []
 
 -- this is the fault of what is wanted; want of memory may come at any
-abbrev pub IsFault : {X : Type 0} → CertError → Result X CertError → Type 0
-IsFault NoMemory wanted = ⊤
-IsFault (CertFault line) wanted = wanted ≡ Err (CertFault line)
-IsFault (Fault kind line) wanted = wanted ≡ Err (Fault kind line)
+abbrev pub IsCertFault : {X : Type 0} → CertError → Result X CertError → Type 0
+IsCertFault NoMemory wanted = ⊤
+IsCertFault (CertFault line) wanted = wanted ≡ Err (CertFault line)
+IsCertFault (Fault kind line) wanted = wanted ≡ Err (Fault kind line)
 
 -- what is returned is what is wanted, seen so, or want of memory
-abbrev pub Returns : {X Y : Type 0} → (X → Y) → Result X CertError → Result Y CertError → Type 0
-Returns view (Ok x) wanted = wanted ≡ Ok (view x)
-Returns view (Err e) wanted = IsFault e wanted
+abbrev pub CertReturns : {X Y : Type 0} → (X → Y) → Result X CertError → Result Y CertError → Type 0
+CertReturns view (Ok x) wanted = wanted ≡ Ok (view x)
+CertReturns view (Err e) wanted = IsCertFault e wanted

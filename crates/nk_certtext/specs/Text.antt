@@ -7,7 +7,7 @@ use Rattle.nk_policy.specs.Policy.{Policy}
 use Rattle.nk_policy.specs.Text.{pol_bytes}
 use Rattle.nk_cert.specs.Certificates.{RowValue, CertificateValue}
 
--- a number behind a space
+-- a number after a space
 abbrev pub position_bytes : ℕ → List ℕ
 position_bytes n = codes " " ++ decimal n
 

@@ -9,7 +9,7 @@ use Rattle.nk_grammar.specs.Certified.{Certified, Row}
 use Rattle.nk_grammar.specs.CertifiedMachine.{certified_of}
 use Rattle.nk_names.specs.declared.fault.NamesError.{NamesError}
 use Rattle.nk_names.specs.declared.fault.NamesError.TheVariants as names
-use Rattle.nk_names.specs.ProgramOf.{Said, program_of}
+use Rattle.nk_names.specs.ProgramOf.{DeclaredProgram, program_of}
 use Rattle.nk_cert.specs.Certificates.{CertificateValue}
 use Rattle.nk_certtext.specs.declared.error.CertError.{CertError}
 use Rattle.nk_certtext.specs.declared.error.CertError.TheVariants as rows
@@ -33,22 +33,22 @@ rows_fault (rows.CertFault line) = CertFault line
 rows_fault (rows.Fault kind line) = Fault kind line
 
 -- a program and a certificate, or the certificate's fault
-abbrev pub with_certificate : Said → Result CertificateValue CertError → Result (Said × CertificateValue) TextError
+abbrev pub with_certificate : DeclaredProgram → Result CertificateValue CertError → Result (DeclaredProgram × CertificateValue) TextError
 with_certificate s (Ok c) = Ok (s, c)
 with_certificate s (Err e) = Err (rows_fault e)
 
 -- of what the declarations say, and of the rows
-abbrev pub text_of_said : Result Said NamesError → List Row → Result (Said × CertificateValue) TextError
-text_of_said (Ok s) rs = with_certificate s (certificate_of s.fields rs)
-text_of_said (Err e) rs = Err (names_fault e)
+abbrev pub text_of_program : Result DeclaredProgram NamesError → List Row → Result (DeclaredProgram × CertificateValue) TextError
+text_of_program (Ok s) rs = with_certificate s (certificate_of s.fields rs)
+text_of_program (Err e) rs = Err (names_fault e)
 
 -- of declarations and rows
-abbrev pub text_of_written : Result Certified GrammarError → Result (Said × CertificateValue) TextError
-text_of_written (Ok w) = text_of_said (program_of w.declarations) w.rows
+abbrev pub text_of_written : Result Certified GrammarError → Result (DeclaredProgram × CertificateValue) TextError
+text_of_written (Ok w) = text_of_program (program_of w.declarations) w.rows
 text_of_written (Err e) = Err (grammar_fault e)
 
 -- of tokens
-abbrev pub text_of_tokens : List Token → Result (Said × CertificateValue) TextError
+abbrev pub text_of_tokens : List Token → Result (DeclaredProgram × CertificateValue) TextError
 text_of_tokens ts = text_of_written (certified_of ts)
 
 -- this is the fault of what is wanted; want of memory may come at any

@@ -8,7 +8,7 @@ use nk_grammar::{
 };
 use nk_names::laws::{declared_fields_are_writable, printed_predicates_are_read_back};
 
-/// What is printed of a certificate, behind the text of any program and a line feed, is read as that program's
+/// What is printed of a certificate, after the text of any program and a line feed, is read as that program's
 /// declarations and as rows that make that certificate. This holds for each certificate over the program's fields whose
 /// predicates have values in range, are at most 256 deep and have no sum or sequence of exactly one part, of any size;
 /// its later rows have at least one position, strictly ascending ones, and no two rows the same.
@@ -22,7 +22,7 @@ pub fn printed_certificates_are_read()
 }
 
 /// The certificate that is printed for two policies is one whose text is read back, and its rows have predicates, as
-/// `nk_cert::check` asks. What is printed of it, behind the text of any program with their fields and a line feed, is read as that
+/// `nk_cert::check` asks. What is printed of it, after the text of any program with their fields and a line feed, is read as that
 /// program's declarations and as rows that make that certificate. The policies are numbered one after the other and have fewer
 /// than 2 ^ 32 dups.
 pub fn certificates_of_policies_are_read()

@@ -6,7 +6,7 @@ ghost use Rattle.nk_grammar.specs.Answer.{terminals};
 ghost use Rattle.nk_grammar.specs.Certified.{CertifiedGoesOn, Row, row_value};
 ghost use Rattle.nk_grammar.specs.File.{Declaration, IsWritten};
 ghost use Rattle.nk_names.specs.Declaring.{IsDeclared};
-ghost use Rattle.nk_names.specs.ProgramOf.{said_by};
+ghost use Rattle.nk_names.specs.ProgramOf.{program_by};
 ghost use Rattle.nk_cert.specs.Values.{certificate_value};
 ghost use Rattle.nk_cert.specs.Verdicts.{HasPredicates};
 ghost use Rattle.nk_certtext.specs.InMemory.{parts_in};
@@ -17,8 +17,8 @@ use crate::error::TextError;
 use crate::rows::RowsRead;
 use nk_cert::Certificate;
 use nk_grammar::{
-    CertRow, CertifiedReader, Completed, GrammarError, a_certified_reader_stops_at_the_first_fault,
-    what_is_completed_is_written,
+    CertRow, CertificateParser, Completed, GrammarError,
+    a_certified_reader_stops_at_the_first_fault, what_is_completed_is_written,
 };
 use nk_lex::Token;
 use nk_names::{Program, ProgramReader};
@@ -90,7 +90,7 @@ impl Parts {
         Ok(())
     }
 
-    /// The last row, behind what the last token completed. It is refused with the grammar's fault, where the tokens have one.
+    /// The last row, after what the last token completed. It is refused with the grammar's fault, where the tokens have one.
     fn put_last(
         &mut self,
         alloc: Global,
@@ -115,7 +115,7 @@ impl Parts {
     /// The program and the certificate, or their first fault.
     fn finish(self, alloc: Global) -> Result<(Program, Certificate), TextError>
         requires written { (ds : List Declaration) × IsDeclared ds self.program × All IsWritten ds }
-        ensures { ReturnsText (λ r. (said_by r.0, certificate_value r.1)) result (text_at_end (parts_in self)) }
+        ensures { ReturnsText (λ r. (program_by r.0, certificate_value r.1)) result (text_at_end (parts_in self)) }
     {
         let Parts { program, rows } = self;
         let program = program.finish()?;
@@ -138,7 +138,7 @@ fn keep_part(pending: &mut Option<Completed>, part: Option<Completed>)
 /// the tokens nor the declarations and rows are kept, but for the last one that is complete. After a fault of the grammar nothing
 /// more is taken in. A fault of the declarations stands in place of the program, and one of the rows in place of the certificate.
 pub struct CertReader {
-    grammar: CertifiedReader,
+    grammar: CertificateParser,
     parts: Parts,
     /// What the last token completed. It counts as put in.
     pending: Option<Completed>,
@@ -174,7 +174,7 @@ impl CertReader {
         ensures { IfOk result (IsTaken []) }
     {
         Ok(CertReader {
-            grammar: CertifiedReader::new(alloc),
+            grammar: CertificateParser::new(alloc),
             parts: Parts {
                 program: ProgramReader::new(alloc)?,
                 rows: RowsRead::Nothing,
@@ -220,7 +220,7 @@ impl CertReader {
     pub fn end(self, alloc: Global) -> Result<(Program, Certificate), TextError>
         requires small { (ts : List Token) × IsTaken ts self × All (λ t. t.value ≤ largest) ts }
         ensures read { (ts : List Token) → IsTaken ts self
-            → ReturnsText (λ r. (said_by r.0, certificate_value r.1)) result (text_of_tokens ts) }
+            → ReturnsText (λ r. (program_by r.0, certificate_value r.1)) result (text_of_tokens ts) }
         ensures predicates { IfOk result (λ r. HasPredicates (certificate_value r.1)) }
     {
         // This is a law: what is complete has numbers of a text.

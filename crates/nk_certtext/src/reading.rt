@@ -3,7 +3,7 @@ ghost use Rattle.std.specs.Prelude.{map, IfOk};
 ghost use Rattle.nk_grammar.specs.Certified.{row_value as written_row};
 ghost use Rattle.nk_cert.specs.Verdicts.{HasPredicates};
 ghost use Rattle.nk_cert.specs.Values.{certificate_value};
-ghost use Rattle.nk_certtext.specs.Rows.{HasStartRow, Returns, certificate_of};
+ghost use Rattle.nk_certtext.specs.Rows.{HasStartRow, CertReturns, certificate_of};
 
 use crate::error::CertError;
 use crate::rows::RowsRead;
@@ -20,7 +20,7 @@ use std::alloc::Global;
 /// have any size. Each row that is read has a predicate, as `nk_cert::check` asks.
 pub fn read_cert(alloc: Global, program: &Program, file: &File) -> Result<Certificate, CertError>
     requires start { HasStartRow (map written_row file.now.rows) }
-    ensures read { Returns certificate_value result
+    ensures read { CertReturns certificate_value result
         (certificate_of program.now.fields (map written_row file.now.rows)) }
     ensures predicates { IfOk result (λ c. HasPredicates (certificate_value c)) }
 {

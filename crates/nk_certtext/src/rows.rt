@@ -6,7 +6,7 @@ ghost use Rattle.nk_names.specs.declared.fault.NamesError.{NamesError};
 ghost use Rattle.nk_names.specs.ProgramOf as program;
 ghost use Rattle.nk_cert.specs.Values.{certificate_value, row_values};
 ghost use Rattle.nk_certtext.specs.InMemory.{MakesKnown, becomes, rows_in};
-ghost use Rattle.nk_certtext.specs.Rows.{ascend, certificate_at_end, have_positions, is_misplaced, placed_row, with_next_row, starts, Returns, with_predicate};
+ghost use Rattle.nk_certtext.specs.Rows.{ascend, certificate_at_end, have_positions, is_misplaced, placed_row, with_next_row, starts, CertReturns, with_predicate};
 
 use crate::error::CertError;
 use indexmap::IndexMap;
@@ -73,8 +73,8 @@ fn add_row(
     row: &CertRow,
     predicate: Result<Pol, NamesError>,
 ) -> Result<(), CertError>
-    ensures row { (wanted : Result Policy NamesError) → program.Returns tree_of predicate wanted
-        → Returns (λ _. row_values rows.new.entries) result
+    ensures row { (wanted : Result Policy NamesError) → program.NamesReturns tree_of predicate wanted
+        → CertReturns (λ _. row_values rows.new.entries) result
         (placed_row (row_values rows.old.entries) row.now.positions row.now.line wanted) }
     ensures kept { OnErr result (rows.new.entries ≡ rows.old.entries) }
 {
@@ -102,7 +102,7 @@ fn listed(alloc: Global, rows: Rows) -> Result<Vec<(List<u64>, Pol)>, AllocError
 pub(crate) enum RowsRead {
     /// There is none.
     Nothing,
-    /// The start row's predicate, and the rows behind it.
+    /// The start row's predicate, and the rows after it.
     Sound(Pol, Rows),
     /// Their first fault.
     Faulty(CertError),
@@ -110,7 +110,7 @@ pub(crate) enum RowsRead {
 
 /// What is known of a start row with this predicate.
 fn begun(alloc: Global, predicate: Result<Pol, NamesError>) -> Result<RowsRead, AllocError>
-    ensures { (wanted : Result Policy NamesError) → program.Returns tree_of predicate wanted
+    ensures { (wanted : Result Policy NamesError) → program.NamesReturns tree_of predicate wanted
         → IfOk result (λ r. rows_in r ≡ Some (starts wanted)) }
 {
     match predicate {
@@ -140,14 +140,14 @@ fn after_adding(added: Result<(), CertError>) -> Result<Option<RowsRead>, AllocE
 
 impl RowsRead {
     /// One more row, of this predicate: what becomes known in place of what was known, where that is more than one more row
-    /// behind the others. Where memory ran out, nothing changed.
+    /// after the others. Where memory ran out, nothing changed.
     fn tell(
         &mut self,
         alloc: Global,
         row: &CertRow,
         predicate: Result<Pol, NamesError>,
     ) -> Result<Option<RowsRead>, AllocError>
-        ensures told { (wanted : Result Policy NamesError) → program.Returns tree_of predicate wanted
+        ensures told { (wanted : Result Policy NamesError) → program.NamesReturns tree_of predicate wanted
             → IfOk result (λ next. becomes next (rows_in self.new)
             ≡ with_next_row (rows_in self.old) row.now.positions row.now.line wanted) }
         ensures kept { OnErr result (rows_in self.new ≡ rows_in self.old) }
@@ -177,7 +177,7 @@ impl RowsRead {
         row: &CertRow,
         predicate: Result<Pol, NamesError>,
     ) -> Result<(), AllocError>
-        ensures ok { (wanted : Result Policy NamesError) → program.Returns tree_of predicate wanted
+        ensures ok { (wanted : Result Policy NamesError) → program.NamesReturns tree_of predicate wanted
             → OnOk result (rows_in self.new ≡ with_next_row (rows_in self.old) row.now.positions row.now.line wanted) }
         ensures kept { OnErr result (rows_in self.new ≡ rows_in self.old) }
     {
@@ -188,7 +188,7 @@ impl RowsRead {
 
     /// The certificate of the rows, or their first fault.
     pub(crate) fn finish(self, alloc: Global) -> Result<Certificate, CertError>
-        ensures { Returns certificate_value result (certificate_at_end (rows_in self)) }
+        ensures { CertReturns certificate_value result (certificate_at_end (rows_in self)) }
     {
         match self {
             RowsRead::Nothing => Err(CertError::CertFault { line: 1 }),

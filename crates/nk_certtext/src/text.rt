@@ -66,7 +66,7 @@ fn push_row(
     push_predicate(alloc, out, fields, &row.1)
 }
 
-/// Appends positions, each behind a space.
+/// Appends positions, each after a space.
 fn push_positions(out: &mut Vec<u8>, positions: &[u64]) -> Result<(), AllocError>
     ensures { OnOk result (out.new.items ≡ out.old.items ++ flat_map position_bytes positions.now) }
 {
@@ -86,7 +86,7 @@ fn push_position(out: &mut Vec<u8>, n: u64) -> Result<(), AllocError>
     Ok(())
 }
 
-/// Appends ` : ` and a predicate, with the line feed behind it.
+/// Appends ` : ` and a predicate, with the line feed after it.
 fn push_predicate(
     alloc: Global,
     out: &mut Vec<u8>,

@@ -6,7 +6,7 @@ use Rattle.std.proofs.lemmas.List.{take_more}
 use Rattle.std.proofs.lemmas.Bool.Decides.{nat_tests}
 use Rattle.nk_field.proofs.Lists.{In, in_either, in_left, in_right, in_mapped, from_mapped, map_joined}
 use Rattle.nk_field.proofs.Ascending.{Rising}
-use Rattle.nk_store.specs.Held.{Held}
+use Rattle.nk_store.specs.StoreState.{StoreState}
 use Rattle.nk_apply.specs.PacketSets.{is_in}
 use Rattle.nk_switches.specs.declared.stop.ActingTag.{ActingTag}
 use Rattle.nk_switches.specs.declared.stop.ClassHere.{ClassHere}
@@ -14,7 +14,7 @@ use Rattle.nk_switches.specs.Classed.{acting_tag}
 use Rattle.nk_compact.specs.ClassStops.{is_of_class, packets_of, acting_of, class_among, classes_among}
 
 module _ (classes met : List ℕ) (c : ℕ) where
-  -- of tags behind others
+  -- of tags after others
   acting_append : (xs ys : List ℕ) → acting_of classes met c (xs ++ ys) ≡ acting_of classes met c xs ++ acting_of classes met c ys
   acting_append [] ys = refl
   acting_append (x ∷ xs) ys = by (is_of_class classes c x) (acting_append xs ys)
@@ -60,7 +60,7 @@ module _ (classes met : List ℕ) (c : ℕ) where
           (λ k. more k n)
           h
 
-  module _ (st : Held) (tag other : ℕ) (pk : List ℕ) where
+  module _ (st : StoreState) (tag other : ℕ) (pk : List ℕ) where
     -- the packet is met under the tag at the place
     abbrev IsMetAt : ℕ → Type 0
     IsMetAt i = is_in st (slice_index met i) (slice_set pk tag 0) ≡ true

@@ -1,4 +1,4 @@
--- What states of tag sets give is what is left of the policy behind them: their classes and what tells these apart, in the words of
+-- What states of tag sets give is what is left of the policy after them: their classes and what tells these apart, in the words of
 -- policies.
 use Rattle.std.proofs.Common.{◌≡◌, ℕ, zero, suc, ◌+◌, ◌<◌, ◌≤◌, ◌↔◌, ◌⊎◌, inl, inr, ⊎_elim, Bool, true, false, Some, List, [], ◌∷◌, ◌++◌, length, get_or, refl, sym, ap, subst, ◌∙◌, arith}
 use Rattle.std.specs.Prelude.{AllPairs, Contains, map, slice_index, slice_index_or, ltb, cond}
@@ -15,7 +15,7 @@ use Rattle.nk_policy.specs.Policy.{Policy}
 use Rattle.nk_policy.specs.Meaning.{Gives}
 use Rattle.nk_policy.specs.After.{has_dup, after}
 use Rattle.nk_policy.specs.Distinct.{HasDistinct}
-use Rattle.nk_store.specs.Held.{Held, AreTidy, IsOver}
+use Rattle.nk_store.specs.StoreState.{StoreState, AreTidy, IsOver}
 use Rattle.nk_store.proofs.InRange.{packet_in_range, packet_of_fields}
 use Rattle.nk_determ.specs.Automaton.{IsAutomaton}
 use Rattle.nk_reach.specs.declared.found.Side.{Side}
@@ -23,8 +23,8 @@ use Rattle.nk_reach.specs.declared.found.Side.TheVariants.{Left, Right}
 use Rattle.nk_switches.specs.Matched.{Matched}
 use Rattle.nk_switches.specs.Tagged.{set_of_tag}
 use Rattle.nk_switches.proofs.Matching.{of_second, matched_maps}
-use Rattle.nk_merge.specs.Alike.{SetGives, AreAlike, AreTagsAlike, labels_behind}
-use Rattle.nk_merge.specs.Apart.{IsOfFirst, IsOfOne, IsLeastOfOne}
+use Rattle.nk_merge.specs.Alike.{SetGives, AreAlike, AreTagsAlike, labels_after}
+use Rattle.nk_merge.specs.Distinguish.{IsOfFirst, IsOfOne, IsLeastOfOne}
 use Rattle.nk_merge.specs.Classes.{AreClasses, AreFirsts}
 use Rattle.nk_merge.specs.SumsAfter.{sum_after}
 use Rattle.nk_merge.proofs.Policies.{set_gives}
@@ -33,36 +33,36 @@ use Rattle.nk_compile.specs.Refusals.{found_from}
 use Rattle.nk_compile.proofs.Results.{set_there}
 use Rattle.nk_compact.specs.declared.compact.Apart.{Apart}
 use Rattle.nk_compact.specs.Compacted.{IsOfFirstSetAlone, IsLeastAlone, IsClass, IsFirstSet, IsApartIn, classes_apart, AreAparts}
-use Rattle.nk_compact.specs.MergedTable.{GivesBehind, AreSetsAlike, AreTagClasses, IsOfClass}
-use Rattle.nk_compact.specs.Told.{number_on_side, IsToldApart, pairs_behind, first_pairs, AreToldApart}
+use Rattle.nk_compact.specs.MergedTable.{GivesAfter, AreSetsAlike, AreTagClasses, IsOfClass}
+use Rattle.nk_compact.specs.Told.{number_on_side, IsDistinguished, pairs_after, first_pairs, AreDistinguished}
 use Rattle.nk_compact.proofs.Merging.{get_index, index_get}
 
--- what is left behind the labels of a set, as a sum
-sum_behind : (p : Policy) (s : List ℕ) (x : Packet) (w : List Packet) (y : Packet) → Gives (sum_after p (labels_behind s)) x w y ↔ GivesBehind p s x w y
-sum_behind p s x w y = (λ g. let h = from s g in (h.0, contains_from_in s h.0 h.1, h.2), λ h. there s h.0 (in_from_contains s h.0 h.1) h.2)
+-- what is left after the labels of a set, as a sum
+sum_following : (p : Policy) (s : List ℕ) (x : Packet) (w : List Packet) (y : Packet) → Gives (sum_after p (labels_after s)) x w y ↔ GivesAfter p s x w y
+sum_following p s x w y = (λ g. let h = from s g in (h.0, contains_from_in s h.0 h.1, h.2), λ h. there s h.0 (in_from_contains s h.0 h.1) h.2)
   where
-    from : (ls : List ℕ) → Gives (sum_after p (labels_behind ls)) x w y → (l : ℕ) × In ls l × Gives (after p (l + 1)) x w y
+    from : (ls : List ℕ) → Gives (sum_after p (labels_after ls)) x w y → (l : ℕ) × In ls l × Gives (after p (l + 1)) x w y
     from [] g = absurd g
     from (l ∷ ls) g = ⊎_elim (λ a. (l, inl refl, a)) (λ b. let h = from ls b in (h.0, inr h.1, h.2)) g
 
-    there : (ls : List ℕ) (l : ℕ) → In ls l → Gives (after p (l + 1)) x w y → Gives (sum_after p (labels_behind ls)) x w y
+    there : (ls : List ℕ) (l : ℕ) → In ls l → Gives (after p (l + 1)) x w y → Gives (sum_after p (labels_after ls)) x w y
     there [] l i g = absurd i
     there (k ∷ ls) l i g = ⊎_elim (λ e. inl (subst (λ n. Gives (after p (n + 1)) x w y) e g)) (λ m. inr (there ls l m g)) i
 
--- the labels behind a set are dups of the policy
+-- the labels after a set are dups of the policy
 abbrev pub AreDups : Policy → List ℕ → Type 0
-AreDups p s = (l : ℕ) → Contains (labels_behind s) l → has_dup p l ≡ true
+AreDups p s = (l : ℕ) → Contains (labels_after s) l → has_dup p l ≡ true
 
-module _ (fields : FieldTable) (p : Policy) (distinct : HasDistinct p) (st : Held) (states : List ℕ) (over : IsOver fields st) (auto : IsAutomaton st states 1 p) (tidy : AreTidy st) where
+module _ (fields : FieldTable) (p : Policy) (distinct : HasDistinct p) (st : StoreState) (states : List ℕ) (over : IsOver fields st) (auto : IsAutomaton st states 1 p) (tidy : AreTidy st) where
   -- what a set's states give
-  gives_is : (s : List ℕ) → AreDups p s → (x : Packet) (w : List Packet) (y : Packet) → IsPacket fields x → SetGives st states (labels_behind s) x w y ↔ GivesBehind p s x w y
+  gives_is : (s : List ℕ) → AreDups p s → (x : Packet) (w : List Packet) (y : Packet) → IsPacket fields x → SetGives st states (labels_after s) x w y ↔ GivesAfter p s x w y
   gives_is s dups x w y packet =
-      let e = set_gives p distinct st states auto tidy (labels_behind s) dups x w y (packet_in_range fields st x over packet) in
-      let f = sum_behind p s x w y in
+      let e = set_gives p distinct st states auto tidy (labels_after s) dups x w y (packet_in_range fields st x over packet) in
+      let f = sum_following p s x w y in
       (λ g. f.0 (e.0 g), λ g. e.1 (f.1 g))
 
   -- two sets are alike
-  pub alike_is : (s t : List ℕ) → AreDups p s → AreDups p t → AreAlike st states (labels_behind s) (labels_behind t) ↔ AreSetsAlike fields p s t
+  pub alike_is : (s t : List ℕ) → AreDups p s → AreDups p t → AreAlike st states (labels_after s) (labels_after t) ↔ AreSetsAlike fields p s t
   alike_is s t sd td = (
     λ h x w y packet.
         let a = gives_is s sd x w y packet in
@@ -78,7 +78,7 @@ module _ (fields : FieldTable) (p : Policy) (distinct : HasDistinct p) (st : Hel
   )
 
   -- a history of the first set alone
-  first_is : (s t : List ℕ) → AreDups p s → AreDups p t → (f : Found) → IsOfFirst st states (labels_behind s) (labels_behind t) f ↔ IsOfFirstSetAlone fields p s t f
+  first_is : (s t : List ℕ) → AreDups p s → AreDups p t → (f : Found) → IsOfFirst st states (labels_after s) (labels_after t) f ↔ IsOfFirstSetAlone fields p s t f
   first_is s t sd td f = (
     λ h.
         let packet = packet_of_fields fields st f.start over h.0 in
@@ -87,12 +87,12 @@ module _ (fields : FieldTable) (p : Policy) (distinct : HasDistinct p) (st : Hel
   )
 
   -- of one of both
-  one_from : (s t : List ℕ) → AreDups p s → AreDups p t → (f : Found) → IsOfFirstSetAlone fields p s t f ⊎ IsOfFirstSetAlone fields p t s f → (k : Side) × IsOfOne st states (labels_behind s) (labels_behind t) k f
+  one_from : (s t : List ℕ) → AreDups p s → AreDups p t → (f : Found) → IsOfFirstSetAlone fields p s t f ⊎ IsOfFirstSetAlone fields p t s f → (k : Side) × IsOfOne st states (labels_after s) (labels_after t) k f
   one_from s t sd td f (inl h) = (Left, (first_is s t sd td f).1 h)
   one_from s t sd td f (inr h) = (Right, (first_is t s td sd f).1 h)
 
   -- the least one
-  least_is : (s t : List ℕ) → AreDups p s → AreDups p t → (side : Side) (f : Found) (first second alone : ℕ) → alone ≡ number_on_side side first second → IsLeastOfOne st states (labels_behind s) (labels_behind t) side f →
+  least_is : (s t : List ℕ) → AreDups p s → AreDups p t → (side : Side) (f : Found) (first second alone : ℕ) → alone ≡ number_on_side side first second → IsLeastOfOne st states (labels_after s) (labels_after t) side f →
       ((alone ≡ first) × IsLeastAlone fields p s t f) ⊎ ((alone ≡ second) × IsLeastAlone fields p t s f)
   least_is s t sd td Left f first second alone is h =
       let own = (first_is s t sd td f).0 h.0 in
@@ -137,7 +137,7 @@ module _ (fields : FieldTable) (p : Policy) (distinct : HasDistinct p) (st : Hel
           )
 
       -- what is told of two classes tells them apart
-      told_is : (i j : ℕ) → i < length firsts → j < length firsts → (a : Apart) → IsToldApart st states ss tags firsts i j a → IsApartIn fields p (sets_of ss tags) classes a
+      told_is : (i j : ℕ) → i < length firsts → j < length firsts → (a : Apart) → IsDistinguished st states ss tags firsts i j a → IsApartIn fields p (sets_of ss tags) classes a
       told_is i j li lj a k =
           let inside : (c : ℕ) → c < length firsts → slice_index firsts c < length tags = λ c lt. subst (λ n. slice_index firsts c < n) count (fm.member c lt).0 in
           record {
@@ -171,12 +171,12 @@ module _ (fields : FieldTable) (p : Policy) (distinct : HasDistinct p) (st : Hel
 abbrev IsBefore : ℕ × ℕ → ℕ × ℕ → Type 0
 IsBefore a b = (a.0 < b.0) ⊎ ((a.0 ≡ b.0) × (a.1 < b.1))
 
--- each element comes before all that stand behind it
+-- each element comes before all that stand after it
 abbrev InTurn : List (ℕ × ℕ) → Type 0
 InTurn [] = Unit {0}
 InTurn (q ∷ qs) = ((r : ℕ × ℕ) → In qs r → IsBefore q r) × InTurn qs
 
--- lists in turn, one behind the other
+-- lists in turn, one after the other
 turn_append : (xs ys : List (ℕ × ℕ)) → InTurn xs → InTurn ys → ((x y : ℕ × ℕ) → In xs x → In ys y → IsBefore x y) → InTurn (xs ++ ys)
 turn_append [] ys a b h = b
 turn_append (x ∷ xs) ys a b h = (λ r i. ⊎_elim (λ l. a.0 r l) (λ m. h x r (inl refl) m) (in_either xs ys r i), turn_append xs ys a.1 b (λ q r i j. h q r (inr i) j))
@@ -202,16 +202,16 @@ spot_turn i j = by (ltb i j)
     by true = ((λ r k. absurd k), tt)
     by false = tt
 
--- a row has the places behind i
-row_from : (i n : ℕ) (q : ℕ × ℕ) → In (pairs_behind i n) q → (q.0 ≡ i) × (i < q.1) × (q.1 < n)
+-- a row has the places after i
+row_from : (i n : ℕ) (q : ℕ × ℕ) → In (pairs_after i n) q → (q.0 ≡ i) × (i < q.1) × (q.1 < n)
 row_from i zero q h = absurd h
 row_from i (suc n) q h =
     ⊎_elim
     (λ a. let r = row_from i n q a in (r.0, r.1, let lt = r.2 in omega (arith, lt)))
     (λ b. let s = spot_from i n q b in (ap (λ (k : ℕ × ℕ). k.0) s.0, let e = ap (λ (k : ℕ × ℕ). k.1) s.0 in omega (arith, e, s.1), let e = ap (λ (k : ℕ × ℕ). k.1) s.0 in omega (arith, e)))
-    (in_either (pairs_behind i n) (spot i n) q h)
+    (in_either (pairs_after i n) (spot i n) q h)
 
-row_there : (i n j : ℕ) → i < j → j < n → In {X = ℕ × ℕ} (pairs_behind i n) (i, j)
+row_there : (i n j : ℕ) → i < j → j < n → In {X = ℕ × ℕ} (pairs_after i n) (i, j)
 row_there i zero j a b = absurd (omega (arith, b))
 row_there i (suc n) j a b = by (row_there i n j a) (either j n b)
   where
@@ -221,14 +221,14 @@ row_there i (suc n) j a b = by (row_there i n j a) (either j n b)
     either (suc k) zero l = absurd (omega (arith, l))
     either (suc k) (suc m) l = ⊎_elim (λ x. inl (omega (arith, x))) (λ x. inr (ap suc x)) (either k m (omega (arith, l)))
 
-    by : (j < n → In {X = ℕ × ℕ} (pairs_behind i n) (i, j)) → (j < n) ⊎ (j ≡ n) → In {X = ℕ × ℕ} (pairs_behind i n ++ spot i n) (i, j)
-    by f (inl l) = in_left (pairs_behind i n) (spot i n) (i, j) (f l)
-    by f (inr e) = in_right (pairs_behind i n) (spot i n) (i, j) (subst (λ m. In {X = ℕ × ℕ} (spot i m) (i, j)) e (spot_there i j a))
+    by : (j < n → In {X = ℕ × ℕ} (pairs_after i n) (i, j)) → (j < n) ⊎ (j ≡ n) → In {X = ℕ × ℕ} (pairs_after i n ++ spot i n) (i, j)
+    by f (inl l) = in_left (pairs_after i n) (spot i n) (i, j) (f l)
+    by f (inr e) = in_right (pairs_after i n) (spot i n) (i, j) (subst (λ m. In {X = ℕ × ℕ} (spot i m) (i, j)) e (spot_there i j a))
 
-row_turn : (i n : ℕ) → InTurn (pairs_behind i n)
+row_turn : (i n : ℕ) → InTurn (pairs_after i n)
 row_turn i zero = tt
 row_turn i (suc n) =
-    turn_append (pairs_behind i n) (spot i n) (row_turn i n) (spot_turn i n) (λ x y a b.
+    turn_append (pairs_after i n) (spot i n) (row_turn i n) (spot_turn i n) (λ x y a b.
     let r = row_from i n x a in
     let s = spot_from i n y b in
     inr (r.0 ∙ sym (ap (λ (k : ℕ × ℕ). k.0) s.0), let e = ap (λ (k : ℕ × ℕ). k.1) s.0 in omega (arith, e, r.2)))
@@ -240,7 +240,7 @@ rows_from n (suc m) q h =
     ⊎_elim
     (λ a. let r = rows_from n m q a in (let lt = r.0 in omega (arith, lt), r.1, r.2))
     (λ b. let r = row_from m n q b in (let e = r.0 in omega (arith, e), omega (arith, r.0, r.1), r.2))
-    (in_either (first_pairs n m) (pairs_behind m n) q h)
+    (in_either (first_pairs n m) (pairs_after m n) q h)
 
 rows_there : (n m i j : ℕ) → i < m → i < j → j < n → In {X = ℕ × ℕ} (first_pairs n m) (i, j)
 rows_there n zero i j a b c = absurd (omega (arith, a))
@@ -252,14 +252,14 @@ rows_there n (suc m) i j a b c = by (λ l. rows_there n m i j l b c) (either i m
     either (suc k) zero l = absurd (omega (arith, l))
     either (suc k) (suc m) l = ⊎_elim (λ x. inl (omega (arith, x))) (λ x. inr (ap suc x)) (either k m (omega (arith, l)))
 
-    by : (i < m → In {X = ℕ × ℕ} (first_pairs n m) (i, j)) → (i < m) ⊎ (i ≡ m) → In {X = ℕ × ℕ} (first_pairs n m ++ pairs_behind m n) (i, j)
-    by f (inl l) = in_left (first_pairs n m) (pairs_behind m n) (i, j) (f l)
-    by f (inr e) = in_right (first_pairs n m) (pairs_behind m n) (i, j) (subst (λ k. In {X = ℕ × ℕ} (pairs_behind k n) (i, j)) e (row_there i n j b c))
+    by : (i < m → In {X = ℕ × ℕ} (first_pairs n m) (i, j)) → (i < m) ⊎ (i ≡ m) → In {X = ℕ × ℕ} (first_pairs n m ++ pairs_after m n) (i, j)
+    by f (inl l) = in_left (first_pairs n m) (pairs_after m n) (i, j) (f l)
+    by f (inr e) = in_right (first_pairs n m) (pairs_after m n) (i, j) (subst (λ k. In {X = ℕ × ℕ} (pairs_after k n) (i, j)) e (row_there i n j b c))
 
 rows_turn : (n m : ℕ) → InTurn (first_pairs n m)
 rows_turn n zero = tt
 rows_turn n (suc m) =
-    turn_append (first_pairs n m) (pairs_behind m n) (rows_turn n m) (row_turn m n) (λ x y a b.
+    turn_append (first_pairs n m) (pairs_after m n) (rows_turn n m) (row_turn m n) (λ x y a b.
     let r = rows_from n m x a in
     let s = row_from m n y b in
     inl (let lt = r.0 in let e = s.0 in omega (arith, lt, e)))
@@ -286,15 +286,15 @@ told_turn P h (q ∷ qs) (a ∷ more) t m =
 abbrev raised : ℕ × ℕ → ℕ × ℕ
 raised q = (suc q.0, suc q.1)
 
-module _ (fields : FieldTable) (p : Policy) (distinct : HasDistinct p) (st : Held) (states : List ℕ) (over : IsOver fields st) (auto : IsAutomaton st states 1 p) (tidy : AreTidy st)
+module _ (fields : FieldTable) (p : Policy) (distinct : HasDistinct p) (st : StoreState) (states : List ℕ) (over : IsOver fields st) (auto : IsAutomaton st states 1 p) (tidy : AreTidy st)
     (ss : List (List ℕ)) (tags classes firsts : List ℕ) (dups : (i : ℕ) → i < length tags → AreDups p (set_of_tag ss tags i))
     (count : length classes ≡ length tags) (from_one : (i : ℕ) → i < length tags → 1 ≤ slice_index classes i) (fm : AreFirsts classes firsts) where
   -- what is told of any two classes in turn tells any two apart
-  pub told_all : (aparts : List Apart) → AreToldApart st states ss tags firsts (first_pairs (length firsts) (length firsts)) aparts → AreAparts fields p (sets_of ss tags) classes aparts
+  pub told_all : (aparts : List Apart) → AreDistinguished st states ss tags firsts (first_pairs (length firsts) (length firsts)) aparts → AreAparts fields p (sets_of ss tags) classes aparts
   told_all aparts k =
       let n = length firsts in
       let numbers : map classes_apart aparts ≡ map raised (first_pairs n n) =
-      matched_maps (λ (q : ℕ × ℕ) (a : Apart). IsToldApart st states ss tags firsts q.0 q.1 a) raised classes_apart (λ q a t. ap (λ x. (x, a.second)) t.first_is ∙ ap (λ y. (suc q.0, y)) t.second_is) (first_pairs n n) aparts k in
+      matched_maps (λ (q : ℕ × ℕ) (a : Apart). IsDistinguished st states ss tags firsts q.0 q.1 a) raised classes_apart (λ q a t. ap (λ x. (x, a.second)) t.first_is ∙ ap (λ y. (suc q.0, y)) t.second_is) (first_pairs n n) aparts k in
       record {
         exactly = λ i j. (
           λ c.
@@ -315,9 +315,9 @@ module _ (fields : FieldTable) (p : Policy) (distinct : HasDistinct p) (st : Hel
               let same : (suc a.0, suc b.0) ≡ (i, j) = ap (λ x. (x, suc b.0)) (sym a.2) ∙ ap (λ y. (i, y)) (sym b.2) in
               subst (λ (l : List (ℕ × ℕ)). Contains l (i, j)) (sym numbers) (contains_from_in (map raised (first_pairs n n)) (i, j) (subst (λ (q : ℕ × ℕ). In (map raised (first_pairs n n)) q) same there)),
         );
-        in_order = told_turn (λ (q : ℕ × ℕ) (a : Apart). IsToldApart st states ss tags firsts q.0 q.1 a) (λ q a t. (t.first_is, t.second_is)) (first_pairs n n) aparts (rows_turn n n) k;
+        in_order = told_turn (λ (q : ℕ × ℕ) (a : Apart). IsDistinguished st states ss tags firsts q.0 q.1 a) (λ q a t. (t.first_is, t.second_is)) (first_pairs n n) aparts (rows_turn n n) k;
         each = all_from_members (IsApartIn fields p (sets_of ss tags) classes) aparts (λ a i.
-            let s = of_second (λ (q : ℕ × ℕ) (a : Apart). IsToldApart st states ss tags firsts q.0 q.1 a) (first_pairs n n) aparts a k i in
+            let s = of_second (λ (q : ℕ × ℕ) (a : Apart). IsDistinguished st states ss tags firsts q.0 q.1 a) (first_pairs n n) aparts a k i in
             let r = rows_from n n s.0 s.1 in
             told_is fields p distinct st states over auto tidy ss tags classes firsts dups count from_one fm s.0.0 s.0.1 r.0 r.2 a s.2);
       }

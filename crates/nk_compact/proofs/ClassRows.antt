@@ -13,7 +13,7 @@ use Rattle.nk_policy.specs.Tags.{AreTags}
 use Rattle.nk_policy.proofs.Numbering.{numbered_distinct}
 use Rattle.nk_names.specs.Accepted.{IsStartPacket}
 use Rattle.nk_store.specs.Diagram.{IsReduced, leaf_at}
-use Rattle.nk_store.specs.Held.{Held, IsId, IsPacket as IsPacketOf}
+use Rattle.nk_store.specs.StoreState.{StoreState, IsId, IsStorePacket as IsPacketOf}
 use Rattle.nk_store.proofs.InRange.{packet_in_range}
 use Rattle.nk_apply.specs.PacketSets.{is_in}
 use Rattle.nk_extract.specs.Buckets.{bucket_of, AreBuckets}
@@ -73,7 +73,7 @@ untagged_in_range fields pk tag k = record {
     index_after (x ∷ xs) (suc i) zero = inr refl
     index_after (x ∷ xs) (suc i) (suc f) = index_after xs i f
 
-module _ (fields : FieldTable) (topo : Topology) (tag : ℕ) (p : Policy) (st : Held) (ss : List (List ℕ)) (states tags classes firsts met : List ℕ) (m : IsMergeable fields topo tag p st ss states tags classes firsts met)
+module _ (fields : FieldTable) (topo : Topology) (tag : ℕ) (p : Policy) (st : StoreState) (ss : List (List ℕ)) (states tags classes firsts met : List ℕ) (m : IsMergeable fields topo tag p st ss states tags classes firsts met)
     (ends : List (Option ℕ)) (each_end : (l : ℕ) → l < length states → get_or ends l None ≡ link_end p l) where
   -- shorter names
   abbrev Start : Packet → Type 0

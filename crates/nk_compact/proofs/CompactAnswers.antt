@@ -12,7 +12,7 @@ use Rattle.nk_compile.specs.declared.refusal.Refusal.TheVariants.{NoPolicy, NoTa
 use Rattle.nk_compile.specs.declared.refusal.CompileError.{CompileError}
 use Rattle.nk_compile.specs.declared.refusal.CompileError.TheVariants.{NoMemory, Refused}
 use Rattle.nk_compile.specs.Preparing.{IsEarlyError}
-use Rattle.nk_compile.proofs.Making.{seen_named}
+use Rattle.nk_compile.proofs.Making.{static_refusal_named}
 use Rattle.nk_compact.specs.declared.compact.Compact.{Compact}
 use Rattle.nk_compact.specs.Compacted.{IsCompactOf, IsCompactReason, IsCompactError, IsCompactRefused, AnswersCompact}
 use Rattle.nk_compact.proofs.Merging.{named_merged_carries}
@@ -32,7 +32,7 @@ early_compact_error fields topo p (Refused (TooManyTags found)) h = absurd h
 -- the reason for the policy is that for its name
 compact_reason_named : (program : Program) (name : List ℕ) (p : Policy) → policy_named program name ≡ Some p →
     (r : Refusal) → IsCompactReason program.fields program.topo p r → IsCompactRefused program name r
-compact_reason_named program name p named NoPolicy e = absurd (seen_named program.fields.tag program.topo p e)
+compact_reason_named program name p named NoPolicy e = absurd (static_refusal_named program.fields.tag program.topo p e)
 compact_reason_named program name p named NoTag e = (p, named, e)
 compact_reason_named program name p named TagUsed e = (p, named, e)
 compact_reason_named program name p named LooseDup e = (p, named, e)

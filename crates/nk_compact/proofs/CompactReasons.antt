@@ -6,7 +6,7 @@ use Rattle.nk_topo.specs.Topology.{Topology}
 use Rattle.nk_policy.specs.Policy.{Policy}
 use Rattle.nk_policy.specs.Tags.{AreTags}
 use Rattle.nk_names.specs.declared.Program.{Program}
-use Rattle.nk_names.specs.ProgramOf.{said_by}
+use Rattle.nk_names.specs.ProgramOf.{program_by}
 use Rattle.nk_names.specs.Accepted.{IsStartPacket, IsCompilable, most_tags}
 use Rattle.nk_names.specs.Named.{policy_named}
 use Rattle.nk_names.proofs.Alike.{fields_alike, topo_alike, named_alike, one_policy}
@@ -91,7 +91,7 @@ why_compact program name NoSuchLink h = inr h
 why_compact program name (OffEdge start history) h = inr h
 why_compact program name (TooManyTags found) h = inr h
 
-module _ (program other : Program) (same : said_by program ≡ said_by other) (name : List ℕ) where
+module _ (program other : Program) (same : program_by program ≡ program_by other) (name : List ℕ) where
   -- the same reason of the other program's policy
   moved : (r : Refusal) (v w : Policy) → policy_named program name ≡ Some v → policy_named other name ≡ Some w → IsCompactReason other.fields other.topo w r → IsCompactReason program.fields program.topo v r
   moved r v w h k c =

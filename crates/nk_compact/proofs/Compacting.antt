@@ -19,21 +19,21 @@ use Rattle.nk_policy.proofs.LinkStructure.{holds_first, holds_second}
 use Rattle.nk_policy.proofs.Numbering.{number_within, numbered_distinct}
 use Rattle.nk_names.specs.Accepted.{IsStartPacket}
 use Rattle.nk_store.specs.Nodes.{InRange}
-use Rattle.nk_store.specs.Held.{Held, IsId, IsWhole, Grows, IsOver, HasFields, AreTidy, IsPacket as IsPacketOf}
+use Rattle.nk_store.specs.StoreState.{StoreState, IsId, IsWhole, Grows, IsOver, HasFields, AreTidy, IsStorePacket as IsPacketOf}
 use Rattle.nk_store.proofs.InRange.{packet_in_range, over_grown}
 use Rattle.nk_store.proofs.Stores.{grows_same, grows_on}
-use Rattle.nk_apply.specs.PacketSets.{has_out, is_in}
+use Rattle.nk_apply.specs.PacketSets.{has_some_out, is_in}
 use Rattle.nk_determ.specs.Automaton.{IsAutomaton}
 use Rattle.nk_determ.specs.InOrder.{AreNumbers}
 use Rattle.nk_determ.specs.Levels.{AreLevels, InLevel}
-use Rattle.nk_determ.specs.Pairs.{AreStates, EachPair, HavePlaces, IsPair, Named, Under}
+use Rattle.nk_determ.specs.Pairs.{AreStates, EachPair, AreLabelsBelow, IsPair, Named, Under}
 use Rattle.nk_determ.specs.Sets.{SetsGrow, HasAscendingSets}
 use Rattle.nk_determ.proofs.Naming.{named_within}
 use Rattle.nk_runs.specs.Labels.{IsAmong}
 use Rattle.nk_runs.proofs.Stands.{stands, are_states}
 use Rattle.nk_switches.specs.Tagged.{set_of_tag}
 use Rattle.nk_switches.proofs.Growing.{set_kept, known_kept, tag_set_kept}
-use Rattle.nk_merge.specs.Alike.{labels_behind, AreAlike, AreTagsAlike}
+use Rattle.nk_merge.specs.Alike.{labels_after, AreAlike, AreTagsAlike}
 use Rattle.nk_merge.specs.Classes.{AreClasses, AreFirsts}
 use Rattle.nk_compile.specs.declared.prepared.Prepared.{Prepared}
 use Rattle.nk_compile.specs.MetUnder.{IsMetUnder}
@@ -48,7 +48,7 @@ use Rattle.nk_compact.specs.MetPackets.{HaveIds, AreMet}
 use Rattle.nk_compact.specs.Told.{first_member_set, IsBase}
 use Rattle.nk_compact.proofs.AlikeTags.{AreDups, tag_classes}
 use Rattle.nk_compact.proofs.MetUnder.{level_of, under_of}
-use Rattle.nk_compact.proofs.TellingApart.{alike_then, firsts_differ}
+use Rattle.nk_compact.proofs.Distinguishing.{alike_then, firsts_differ}
 
 -- what holds of each entry holds of each in another form
 each_weaker : (P Q : ℕ × ℕ → Type 0) → ((e : ℕ × ℕ) → P e → Q e) → (xs : List (ℕ × ℕ)) → EachPair P xs → EachPair Q xs
@@ -56,7 +56,7 @@ each_weaker P Q h [] k = tt
 each_weaker P Q h (x ∷ xs) k = (h x k.0, each_weaker P Q h xs k.1)
 
 -- what stands under a set is of an entry that names it
-under_named : (st : Held) (ps : List (ℕ × ℕ)) (s : ℕ) (x : Packet) → Under st ps s x → Named ps s
+under_named : (st : StoreState) (ps : List (ℕ × ℕ)) (s : ℕ) (x : Packet) → Under st ps s x → Named ps s
 under_named st [] s x h = h
 under_named st (q ∷ ps) s x (inl h) = inl h.0
 under_named st (q ∷ ps) s x (inr h) = inr (under_named st ps s x h)
@@ -79,7 +79,7 @@ pub firsts_in : (classes firsts : List ℕ) (count : ℕ) → AreFirsts classes 
 firsts_in classes firsts count k many i d lt = subst (λ n. n < count) (get_or_default firsts i 0 d lt) (subst (λ n. slice_index firsts i < n) many (k.member i lt).0)
 
 -- the first members of two classes are not alike, also where the store and the sets have grown
-pub classes_differ : (st new : Held) (ss more : List (List ℕ)) (states tags classes firsts : List ℕ) → IsBase st ss new more states tags firsts → AreClasses (AreTagsAlike st states ss tags) (length tags) classes → AreFirsts classes firsts →
+pub classes_differ : (st new : StoreState) (ss more : List (List ℕ)) (states tags classes firsts : List ℕ) → IsBase st ss new more states tags firsts → AreClasses (AreTagsAlike st states ss tags) (length tags) classes → AreFirsts classes firsts →
     (i j : ℕ) → i < j → j < length firsts → AreAlike new states (first_member_set more tags firsts i) (first_member_set more tags firsts j) → ⊥
 classes_differ st new ss more states tags classes firsts base c fm i j lt inside k =
     let li : i < length firsts = omega (arith, lt, inside) in
@@ -112,10 +112,10 @@ module _ (fields : FieldTable) (topo : Topology) (tag : ℕ) (p : Policy) (b : P
   dup_place : (l : ℕ) → has_dup p l ≡ true → l < 1 + dups_of p
   dup_place l h = (number_within p 1 l (ap (λ q. has_dup q l) k.begun.clear.numbered ∙ h)).1
 
-  -- the labels behind them are dups
-  dups_behind : (i : ℕ) → i < length tags → AreDups p (set_of_tag b.sets tags i)
-  dups_behind i lt l c =
-      let m = from_mapped (λ n. n + 1) (set_of_tag b.sets tags i) l (in_from_contains (labels_behind (set_of_tag b.sets tags i)) l c) in
+  -- the labels after them are dups
+  dups_after : (i : ℕ) → i < length tags → AreDups p (set_of_tag b.sets tags i)
+  dups_after i lt l c =
+      let m = from_mapped (λ n. n + 1) (set_of_tag b.sets tags i) l (in_from_contains (labels_after (set_of_tag b.sets tags i)) l c) in
       let j = literal i lt m.0 (contains_from_in (set_of_tag b.sets tags i) m.0 m.1) in
       subst (λ n. has_dup p n ≡ true) (ap (λ n. n + 1) j.2 ∙ sym m.2) (holds_second p j.0 j.1)
 
@@ -139,8 +139,8 @@ module _ (fields : FieldTable) (topo : Topology) (tag : ℕ) (p : Policy) (b : P
   level_sets i d lt =
       subst (λ l. All (λ (e : ℕ × ℕ). e.0 < length b.sets) l) (get_or_default b.levels.levels i [] d lt) (prepared_entries fields topo tag p b k i lt).0
 
-  -- the packets of levels under the labels behind a tag set are met under it
-  met_is : (i : ℕ) → i < length tags → (x : Packet) → IsPacketOf b.store x → ((j : ℕ) × InLevel b.store b.sets b.levels.levels j (labels_behind (set_of_tag b.sets tags i), x)) ↔ IsMetUnder p (IsStartPacket fields topo) (set_of_tag b.sets tags i) x
+  -- the packets of levels under the labels after a tag set are met under it
+  met_is : (i : ℕ) → i < length tags → (x : Packet) → IsPacketOf b.store x → ((j : ℕ) × InLevel b.store b.sets b.levels.levels j (labels_after (set_of_tag b.sets tags i), x)) ↔ IsMetUnder p (IsStartPacket fields topo) (set_of_tag b.sets tags i) x
   met_is i lt x r =
       let lv = k.levelled in
       let first = lv.first in
@@ -160,7 +160,7 @@ module _ (fields : FieldTable) (topo : Topology) (tag : ℕ) (p : Policy) (b : P
             s x (u.0, u.1, u.2, back u.0 u.3, u.4, u.5, u.6, u.7),
       )
 
-  module _ (st : Held) (ss : List (List ℕ)) (g : Grows b.store st) (s : SetsGrow b.sets ss) where
+  module _ (st : StoreState) (ss : List (List ℕ)) (g : Grows b.store st) (s : SetsGrow b.sets ss) where
     -- the automaton's states there
     pub auto_there : IsAutomaton st b.states 1 p
     auto_there = stands k.before st b.states 1 p k.begun.automaton (grows_on k.before k.levelled.first st k.levelled.grew (grows_on k.levelled.first b.store st k.levelled.grows g))
@@ -185,16 +185,16 @@ module _ (fields : FieldTable) (topo : Topology) (tag : ℕ) (p : Policy) (b : P
         by [] h = refl
         by (t ∷ ts) h = ap (λ x. x ∷ sets_of ss ts) (h t (inl refl)) ∙ ap (λ l. get_or b.sets t [] ∷ l) (by ts (λ n i. h n (inr i)))
 
-    -- the labels behind them are dups there too
+    -- the labels after them are dups there too
     pub dups_there : (i : ℕ) → i < length tags → AreDups p (set_of_tag ss tags i)
-    dups_there i lt = subst (AreDups p) (sym (set_there_is i lt)) (dups_behind i lt)
+    dups_there i lt = subst (AreDups p) (sym (set_there_is i lt)) (dups_after i lt)
 
     -- and places of states
-    pub places_there : All (λ n. HavePlaces (length b.states) (labels_behind (slice_index_or ss n []))) tags
+    pub places_there : All (λ n. AreLabelsBelow (length b.states) (labels_after (slice_index_or ss n []))) tags
     places_there i d lt =
-        subst (λ n. HavePlaces (length b.states) (labels_behind (slice_index_or ss n []))) (get_or_default tags i 0 d lt)
-        (all_from_members (λ l. l < length b.states) (labels_behind (set_of_tag ss tags i)) (λ l m.
-        let c = contains_from_in (labels_behind (set_of_tag ss tags i)) l m in
+        subst (λ n. AreLabelsBelow (length b.states) (labels_after (slice_index_or ss n []))) (get_or_default tags i 0 d lt)
+        (all_from_members (λ l. l < length b.states) (labels_after (set_of_tag ss tags i)) (λ l m.
+        let c = contains_from_in (labels_after (set_of_tag ss tags i)) l m in
         let lt' = dup_place l (dups_there i lt l c) in
         let n = k.begun.automaton.count in
         omega (arith, lt', n)))
@@ -229,13 +229,13 @@ module _ (fields : FieldTable) (topo : Topology) (tag : ℕ) (p : Policy) (b : P
         subst (λ l. AreTagClasses fields p l classes) sets_there (tag_classes fields p distinct st b.states over_there auto_there tidy ss tags classes [] dups_there c)
 
     -- what is met in a store before is met there
-    pub met_there : (mid : Held) (d i : ℕ) → Grows b.store mid → Grows mid st → i < length tags → AreMet b.store b.sets b.levels.levels (labels_behind (set_of_tag b.sets tags i)) mid d →
+    pub met_there : (mid : StoreState) (d i : ℕ) → Grows b.store mid → Grows mid st → i < length tags → AreMet b.store b.sets b.levels.levels (labels_after (set_of_tag b.sets tags i)) mid d →
         IsMetPackets fields topo p (set_of_tag ss tags i) st d
     met_there mid d i early late lt m = record {
       id = late.ids d m.id;
       met = λ x packet.
           let whole : IsWhole x = packet.places in
-          let same : is_in st d x ≡ is_in mid d x = ap has_out (late.leaves d x m.id) in
+          let same : is_in st d x ≡ is_in mid d x = ap has_some_out (late.leaves d x m.id) in
           let r : IsPacketOf b.store x = subst (λ q. InRange q x) g.maxes (packet_in_range fields st x over_there packet) in
           let e = m.met x whole in
           let u = met_is i lt x r in

@@ -7,4 +7,4 @@ pub mod Compacting
 pub mod Merging
 pub mod MetSets
 pub mod MetUnder
-pub mod TellingApart
+pub mod Distinguishing

@@ -31,7 +31,7 @@ use Rattle.nk_compile.proofs.Emitted.{acts_for}
 use Rattle.nk_compile.proofs.Reached.{Setting, Under, come, erases, same_some}
 use Rattle.nk_compile.proofs.RowsFor.{table_for, sent_by_leaf}
 use Rattle.nk_compile.proofs.TagPlaces.{tags_stand}
-use Rattle.nk_compact.specs.MergedTable.{GivesBehind, AreSetsAlike, AreTagClasses, IsOfClass, ActsFor, IsClassTree, HasClassRowsAt, IsClassTable, IsMergedTable}
+use Rattle.nk_compact.specs.MergedTable.{GivesAfter, AreSetsAlike, AreTagClasses, IsOfClass, ActsFor, IsClassTree, HasClassRowsAt, IsClassTable, IsMergedTable}
 
 -- what stands at a place is what the list has there
 pub get_index : (xs : List ℕ) (i : ℕ) → i < length xs → slice_get xs i ≡ Some (slice_index xs i)
@@ -106,10 +106,10 @@ module _ (t : Tables) (p : Policy) (tag : ℕ) (tags : List (List ℕ)) (classes
       let packet = (come t p tag tags g (suc i) x under).reached.at.packet in
       let of = h.1 in
       let member : Contains under.0 of.1 = subst (λ ls. Contains ls of.1) (same_some of.0 under.0 (sym of.2 ∙ under.1)) of.3 in
-      let behind : GivesBehind p under.0 x w last = (of.1, member, subst (λ s. Gives s x w last) of.4 h.2) in
+      let following : GivesAfter p under.0 x w last = (of.1, member, subst (λ s. Gives s x w last) of.4 h.2) in
       let same = (are.same i j (slice_get_within tags i under.0 under.1) (slice_get_within tags j under'.0 under'.1)).0 e in
       let alike : AreSetsAlike t.fields p under.0 under'.0 = subst (λ s. AreSetsAlike t.fields p under.0 s) (set_get tags j under'.0 under'.1) (subst (λ s. AreSetsAlike t.fields p s (slice_index_or tags j [])) (set_get tags i under.0 under.1) same) in
-      let other = (alike x w last packet).0 behind in
+      let other = (alike x w last packet).0 following in
       (after p (other.0 + 1), (under'.0, other.0, under'.1, other.1, refl), other.2)
 
   module _ (switches : map (λ (s : Table). s.switch) t.tables ≡ map (λ (s : SwitchPorts). s.switch) t.topo.switches) (each : All (IsClassTable t.fields tag Start p tags classes) t.tables) where

@@ -1,4 +1,4 @@
--- The packets that levels have under the labels behind a tag set are those that are met under the tag set.
+-- The packets that levels have under the labels after a tag set are those that are met under the tag set.
 use Rattle.std.proofs.Common.{◌≡◌, ◌≢◌, ℕ, zero, suc, ◌+◌, ◌*◌, ◌<◌, ◌≤◌, ◌↔◌, ◌⊎◌, inl, inr, ⊎_elim, Some, false, List, [], ◌∷◌, ◌++◌, length, refl, sym, ap, subst, ◌∙◌, arith, length-append}
 use Rattle.std.specs.Prelude.{Contains, slice_index, slice_index_or}
 use Rattle.nk_field.specs.declared.packet.Packet.{Packet}
@@ -19,13 +19,13 @@ use Rattle.nk_policy.proofs.Parity.{bound_of, dups_below, odd_at}
 use Rattle.nk_names.specs.Accepted.{is_link_outside}
 use Rattle.nk_names.proofs.Declared.{link_at_source}
 use Rattle.nk_store.specs.declared.node.Out.{Out}
-use Rattle.nk_store.specs.Held.{Held, IsPacket, AreTidy}
+use Rattle.nk_store.specs.StoreState.{StoreState, IsStorePacket, AreTidy}
 use Rattle.nk_table.specs.Hops.{moved_to}
 use Rattle.nk_determ.specs.Automaton.{IsAutomaton}
 use Rattle.nk_determ.specs.Levels.{At, InLevel, AreLevels}
 use Rattle.nk_runs.specs.Labels.{IsAmong}
 use Rattle.nk_runs.proofs.Labelled.{met_labels, labels_met}
-use Rattle.nk_merge.specs.Alike.{labels_behind}
+use Rattle.nk_merge.specs.Alike.{labels_after}
 use Rattle.nk_compile.specs.MetUnder.{IsMetUnder}
 use Rattle.nk_compile.proofs.Reached.{same_some}
 use Rattle.nk_compile.proofs.TagSets.{literal_of}
@@ -45,18 +45,18 @@ halves (suc i) = by (halves i)
     by (inl r) = inr (r.0, omega (arith, r.1))
     by (inr r) = inl (r.0 + 1, omega (arith, r.1))
 
--- a label stands behind one of a set exactly where it is one more than it
-behind_has : (s : List ℕ) (l : ℕ) → Contains s l ↔ Contains (labels_behind s) (l + 1)
-behind_has s l = (
-  λ c. contains_from_in (labels_behind s) (l + 1) (in_mapped (λ n. n + 1) s l (in_from_contains s l c)),
+-- a label stands after one of a set exactly where it is one more than it
+after_has : (s : List ℕ) (l : ℕ) → Contains s l ↔ Contains (labels_after s) (l + 1)
+after_has s l = (
+  λ c. contains_from_in (labels_after s) (l + 1) (in_mapped (λ n. n + 1) s l (in_from_contains s l c)),
   λ c.
-      let m = from_mapped (λ n. n + 1) s (l + 1) (in_from_contains (labels_behind s) (l + 1) c) in
+      let m = from_mapped (λ n. n + 1) s (l + 1) (in_from_contains (labels_after s) (l + 1) c) in
       let same : m.0 ≡ l = omega (arith, m.2) in
       contains_from_in s l (subst (λ n. In s n) same m.1),
 )
 
 module _ (topo : Topology) (links : AreLinks topo) (p : Policy) (distinct : HasDistinct p) (no_dup : has_leaf is_dup p ≡ false) (declared : has_leaf (is_link_outside topo.links) p ≡ false) where
-  -- the second dup of a literal isn't the first of another one: else the dups behind it would go on without end
+  -- the second dup of a literal isn't the first of another one: else the dups after it would go on without end
   climbs : (n : ℕ) (j k : Literal) → HoldsLiteral p j → HoldsLiteral p k → k.mark ≡ j.mark + 1 → bound_of p ≤ k.mark + n → ⊥
   climbs zero j k hj hk e most = let lt = dups_below p k.mark (holds_first p k hk) in omega (arith, lt, most)
   climbs (suc n) j k hj hk e most =
@@ -77,7 +77,7 @@ module _ (topo : Topology) (links : AreLinks topo) (p : Policy) (distinct : HasD
         (q.0, q.1, q.2, link_at_source topo links p declared q.0 q.1 z here)
 
     module _ (x : Packet) (l0 : ℕ) (at : HasRecorded p pk ((front ++ z ∷ []) ++ x ∷ []) l0) where
-      -- each label at which it is leads to x, at the label behind it
+      -- each label at which it is leads to x, at the label after it
       crossed : (l : ℕ) → HasRecorded p pk (front ++ z ∷ []) l → HasRecorded p pk ((front ++ z ∷ []) ++ x ∷ []) (l + 1)
       crossed l a =
           let c = (at_next p distinct pk front z x l0).0 at in
@@ -96,50 +96,50 @@ module _ (topo : Topology) (links : AreLinks topo) (p : Policy) (distinct : HasD
           let k = source c.0 c.1 in
           (c.0, c.1, ((on_link p distinct k.0 k.1).only z x l' (subst (λ j. RecordsAt (after p j) z [] x l') (sym k.2) c.2)).0 ∙ ap (λ j. j + 1) k.2)
 
-      -- so the label sets are one behind the other
-      set_on : (s : List ℕ) → IsLabelSet p pk (front ++ z ∷ []) s → IsLabelSet p pk ((front ++ z ∷ []) ++ x ∷ []) (labels_behind s)
+      -- so the label sets are one after the other
+      set_on : (s : List ℕ) → IsLabelSet p pk (front ++ z ∷ []) s → IsLabelSet p pk ((front ++ z ∷ []) ++ x ∷ []) (labels_after s)
       set_on s h = (
-        λ e. let m = some_label s h.0 in let c = (behind_has s m.0).0 m.1 in in_from_contains [] (m.0 + 1) (subst (λ q. Contains q (m.0 + 1)) e c),
+        λ e. let m = some_label s h.0 in let c = (after_has s m.0).0 m.1 in in_from_contains [] (m.0 + 1) (subst (λ q. Contains q (m.0 + 1)) e c),
         (
-          increasing_from (labels_behind s) (rising_raised s (rising_from s h.1.0)),
+          increasing_from (labels_after s) (rising_raised s (rising_from s h.1.0)),
           λ l'. (
             λ c.
-                let m = from_mapped (λ n. n + 1) s l' (in_from_contains (labels_behind s) l' c) in
+                let m = from_mapped (λ n. n + 1) s l' (in_from_contains (labels_after s) l' c) in
                 subst (λ n. HasRecorded p pk ((front ++ z ∷ []) ++ x ∷ []) n) (sym m.2) (crossed m.0 ((h.1.1 m.0).0 (contains_from_in s m.0 m.1))),
             λ a.
                 let m = came l' a in
-                subst (λ n. Contains (labels_behind s) n) (sym m.2) ((behind_has s m.0).0 ((h.1.1 m.0).1 m.1)),
+                subst (λ n. Contains (labels_after s) n) (sym m.2) ((after_has s m.0).0 ((h.1.1 m.0).1 m.1)),
           ),
         ),
       )
 
       -- and back
-      set_back : (s : List ℕ) → s ≢ [] → HasExactly (λ l. Contains s l) s → IsLabelSet p pk ((front ++ z ∷ []) ++ x ∷ []) (labels_behind s) → IsLabelSet p pk (front ++ z ∷ []) s
+      set_back : (s : List ℕ) → s ≢ [] → HasExactly (λ l. Contains s l) s → IsLabelSet p pk ((front ++ z ∷ []) ++ x ∷ []) (labels_after s) → IsLabelSet p pk (front ++ z ∷ []) s
       set_back s some rise h = (
         some,
         (
           rise.0,
           λ l. (
             λ c.
-                let m = came (l + 1) ((h.1.1 (l + 1)).0 ((behind_has s l).0 c)) in
+                let m = came (l + 1) ((h.1.1 (l + 1)).0 ((after_has s l).0 c)) in
                 let same : m.0 ≡ l = omega (arith, m.2) in
                 subst (λ n. HasRecorded p pk (front ++ z ∷ []) n) same m.1,
-            λ a. (behind_has s l).1 ((h.1.1 (l + 1)).1 (crossed l a)),
+            λ a. (after_has s l).1 ((h.1.1 (l + 1)).1 (crossed l a)),
           ),
         ),
       )
 
-  module _ (old new : Held) (ss : List (List ℕ)) (states : List ℕ) (set start : ℕ) (bad : List ℕ → List ℕ → List Out) (ls : List (List (ℕ × ℕ))) (a : IsAutomaton old states 1 p) (tidy : AreTidy old) (from : slice_index_or ss set [] ≡ 0 ∷ [])
+  module _ (old new : StoreState) (ss : List (List ℕ)) (states : List ℕ) (set start : ℕ) (bad : List ℕ → List ℕ → List Out) (ls : List (List (ℕ × ℕ))) (a : IsAutomaton old states 1 p) (tidy : AreTidy old) (from : slice_index_or ss set [] ≡ 0 ∷ [])
       (levels : AreLevels old new ss states set start bad ls false) where
     -- a shorter name
     abbrev Start : Packet → Type 0
     Start = IsAmong old start
 
-    -- what is met under a tag set some level has under the labels behind it
-    pub level_of : (s : List ℕ) (x : Packet) → IsMetUnder p Start s x → (j : ℕ) × InLevel new ss ls j (labels_behind s, x)
+    -- what is met under a tag set some level has under the labels after it
+    pub level_of : (s : List ℕ) (x : Packet) → IsMetUnder p Start s x → (j : ℕ) × InLevel new ss ls j (labels_after s, x)
     level_of s x h = by h.1 h.4 h.5 h.7
       where
-        by : (u : List Packet) → length u ≡ 2 * h.2 + 1 → IsLabelSet p h.0 u s → HasRecorded p h.0 (u ++ x ∷ []) h.6 → (j : ℕ) × InLevel new ss ls j (labels_behind s, x)
+        by : (u : List Packet) → length u ≡ 2 * h.2 + 1 → IsLabelSet p h.0 u s → HasRecorded p h.0 (u ++ x ∷ []) h.6 → (j : ℕ) × InLevel new ss ls j (labels_after s, x)
         by [] odd set at = absurd (omega (arith, odd))
         by (y ∷ u) odd set at =
             let c = last_of_list y u in
@@ -147,14 +147,14 @@ module _ (topo : Topology) (links : AreLinks topo) (p : Policy) (distinct : HasD
             let set' = subst (λ v. IsLabelSet p h.0 v s) c.2 set in
             let at' = subst (λ v. HasRecorded p h.0 (v ++ x ∷ []) h.6) c.2 at in
             let label = set_on h.0 h.2 c.0 c.1 odd' x h.6 at' s set' in
-            let met = labels_met old states start p a distinct tidy (suc (length (c.0 ++ c.1 ∷ []))) (labels_behind s, x) (h.0, c.0 ++ c.1 ∷ [], h.3, refl, label) in
-            let l = levels.complete refl (suc (length (c.0 ++ c.1 ∷ []))) (labels_behind s, x) (subst (λ q. At old states q start (suc (length (c.0 ++ c.1 ∷ []))) (labels_behind s, x)) (sym from) met) in
+            let met = labels_met old states start p a distinct tidy (suc (length (c.0 ++ c.1 ∷ []))) (labels_after s, x) (h.0, c.0 ++ c.1 ∷ [], h.3, refl, label) in
+            let l = levels.complete refl (suc (length (c.0 ++ c.1 ∷ []))) (labels_after s, x) (subst (λ q. At old states q start (suc (length (c.0 ++ c.1 ∷ []))) (labels_after s, x)) (sym from) met) in
             (l.0, l.3)
 
     -- and the other way
-    pub under_of : (s : List ℕ) → IsTagSet p Start s → (x : Packet) → IsPacket old x → (j : ℕ) → j < length ls → InLevel new ss ls j (labels_behind s, x) → IsMetUnder p Start s x
+    pub under_of : (s : List ℕ) → IsTagSet p Start s → (x : Packet) → IsStorePacket old x → (j : ℕ) → j < length ls → InLevel new ss ls j (labels_after s, x) → IsMetUnder p Start s x
     under_of s tag_set x good j lt h =
-        by j (subst (λ q. At old states q start j (labels_behind s, x)) from (levels.exact.sound j (labels_behind s, x) lt good h))
+        by j (subst (λ q. At old states q start j (labels_after s, x)) from (levels.exact.sound j (labels_after s, x) lt good h))
       where
         set_is : IsLabelSet p tag_set.0 tag_set.1 s
         set_is = tag_set.5
@@ -162,32 +162,32 @@ module _ (topo : Topology) (links : AreLinks topo) (p : Policy) (distinct : HasD
         first : (l : ℕ) → Contains s l → (k : Literal) × HoldsLiteral p k × (k.mark ≡ l)
         first = literal_of topo links p distinct no_dup declared Start s tag_set
 
-        odd_never : (pk : Packet) (u : List Packet) (k : ℕ) → length u ≡ 2 * k + 1 → IsLabelSet p pk u (labels_behind s) → ⊥
+        odd_never : (pk : Packet) (u : List Packet) (k : ℕ) → length u ≡ 2 * k + 1 → IsLabelSet p pk u (labels_after s) → ⊥
         odd_never pk u k odd label =
             let m = some_label s set_is.0 in
-            let c = (behind_has s m.0).0 m.1 in
+            let c = (after_has s m.0).0 m.1 in
             let q = odd_at p distinct no_dup k pk u (m.0 + 1) odd ((label.1.1 (m.0 + 1)).0 c) in
             let f = first m.0 m.1 in
             climbs (bound_of p) f.0 q.0 f.1 q.1 (q.2 ∙ ap (λ n. n + 1) (sym f.2)) (omega arith)
 
-        even : (pk : Packet) → Start pk → (v : List Packet) (k : ℕ) → length v ≡ 2 * k + 1 → IsLabelSet p pk (v ++ x ∷ []) (labels_behind s) → IsMetUnder p Start s x
+        even : (pk : Packet) → Start pk → (v : List Packet) (k : ℕ) → length v ≡ 2 * k + 1 → IsLabelSet p pk (v ++ x ∷ []) (labels_after s) → IsMetUnder p Start s x
         even pk start_pk [] k odd label = absurd (omega (arith, odd))
         even pk start_pk (y ∷ v) k odd label =
             let c = last_of_list y v in
             let odd' : length (c.0 ++ c.1 ∷ []) ≡ 2 * k + 1 = sym (ap length c.2) ∙ odd in
-            let label' = subst (λ w. IsLabelSet p pk (w ++ x ∷ []) (labels_behind s)) c.2 label in
+            let label' = subst (λ w. IsLabelSet p pk (w ++ x ∷ []) (labels_after s)) c.2 label in
             let m = some_label s set_is.0 in
-            let at = (label'.1.1 (m.0 + 1)).0 ((behind_has s m.0).0 m.1) in
+            let at = (label'.1.1 (m.0 + 1)).0 ((after_has s m.0).0 m.1) in
             let back = set_back pk k c.0 c.1 odd' x (m.0 + 1) at s set_is.0 (set_is.1.0, λ l. (λ q. q, λ q. q)) label' in
             (pk, c.0 ++ c.1 ∷ [], k, start_pk, odd', back, m.0 + 1, at)
 
-        by : (i : ℕ) → At old states (0 ∷ []) start i (labels_behind s, x) → IsMetUnder p Start s x
+        by : (i : ℕ) → At old states (0 ∷ []) start i (labels_after s, x) → IsMetUnder p Start s x
         by zero h =
             let m = some_label s set_is.0 in
-            let c = (behind_has s m.0).0 m.1 in
+            let c = (after_has s m.0).0 m.1 in
             absurd (⊎_elim (λ e. let z : m.0 + 1 ≡ 0 = e in omega (arith, z)) (λ n. n) (in_from_contains (0 ∷ []) (m.0 + 1) (subst (λ q. Contains q (m.0 + 1)) h.set_is c)))
         by (suc i) h =
-            let l = met_labels old states start p a distinct tidy (suc i) (labels_behind s, x) h in
+            let l = met_labels old states start p a distinct tidy (suc i) (labels_after s, x) h in
             ⊎_elim
             (λ k. absurd (odd_never l.0 (l.1 ++ x ∷ []) k.0 (omega (arith, l.3, k.1, length-append l.1 (x ∷ []))) l.4))
             (λ k. even l.0 l.2 l.1 k.0 (l.3 ∙ k.1) l.4)

@@ -14,15 +14,15 @@ use Rattle.nk_compile.specs.declared.refusal.Refusal.{Refusal}
 use Rattle.nk_compile.specs.declared.refusal.Refusal.TheVariants.{NoPolicy, TooManyTags}
 use Rattle.nk_compile.specs.Carries.{Carries}
 use Rattle.nk_compile.specs.OffEdge.{EndsOnEdges}
-use Rattle.nk_compile.specs.Refusals.{seen, found_from, IsReason}
+use Rattle.nk_compile.specs.Refusals.{static_refusal, found_from, IsReason}
 use Rattle.nk_compact.specs.declared.compact.Apart.{Apart}
 use Rattle.nk_compact.specs.declared.compact.Compact.{Compact}
-use Rattle.nk_compact.specs.MergedTable.{GivesBehind, AreTagClasses, IsOfClass, IsFirstPlace, IsMergedTable}
+use Rattle.nk_compact.specs.MergedTable.{GivesAfter, AreTagClasses, IsOfClass, IsFirstPlace, IsMergedTable}
 
 -- from a packet in range the state of the first tag set gives the history, and that of the second one doesn't
 abbrev pub IsOfFirstSetAlone : FieldTable → Policy → List ℕ → List ℕ → Found → Type 0
 IsOfFirstSetAlone fields p s t f =
-    IsPacket fields f.start × GivesBehind p s f.start f.records f.last × (GivesBehind p t f.start f.records f.last → ⊥)
+    IsPacket fields f.start × GivesAfter p s f.start f.records f.last × (GivesAfter p t f.start f.records f.last → ⊥)
 
 -- so it is, and it is the least of all histories that the state of one of both gives alone
 abbrev pub IsLeastAlone : FieldTable → Policy → List ℕ → List ℕ → Found → Type 0
@@ -73,7 +73,7 @@ HaveTagClasses fields topo p n =
 -- why a policy is refused: as where nothing is merged, but for the number of tags, which are those of classes
 abbrev pub IsCompactReason : FieldTable → Topology → Policy → Refusal → Type 0
 IsCompactReason fields topo p (TooManyTags found) =
-    (seen fields topo p ≡ None) × EndsOnEdges fields topo p × (found ≡ most_tags fields fields.tag + 1) × HaveTagClasses fields topo p found
+    (static_refusal fields topo p ≡ None) × EndsOnEdges fields topo p × (found ≡ most_tags fields fields.tag + 1) × HaveTagClasses fields topo p found
 IsCompactReason fields topo p r = IsReason fields topo p r
 
 -- the reason for which a policy is refused; want of memory says nothing

@@ -23,13 +23,13 @@ use Rattle.nk_compile.specs.WholeTable.{TagTree, rows_of_trees, HasRowsAt}
 -- ---- alike tag sets and their classes
 
 -- what is left after the second dups of these literals, of one of them, gives the history
-abbrev pub GivesBehind : Policy → List ℕ → Packet → List Packet → Packet → Type 0
-GivesBehind p labels x w last = (l : ℕ) × Contains labels l × Gives (after p (l + 1)) x w last
+abbrev pub GivesAfter : Policy → List ℕ → Packet → List Packet → Packet → Type 0
+GivesAfter p labels x w last = (l : ℕ) × Contains labels l × Gives (after p (l + 1)) x w last
 
 -- the states of two tag sets give the same histories from every packet in range
 abbrev pub AreSetsAlike : FieldTable → Policy → List ℕ → List ℕ → Type 0
 AreSetsAlike fields p a b =
-    (x : Packet) (w : List Packet) (last : Packet) → IsPacket fields x → GivesBehind p a x w last ↔ GivesBehind p b x w last
+    (x : Packet) (w : List Packet) (last : Packet) → IsPacket fields x → GivesAfter p a x w last ↔ GivesAfter p b x w last
 
 -- so it is with the tag sets at two places
 abbrev pub ArePlacesAlike : FieldTable → Policy → List (List ℕ) → ℕ → ℕ → Type 0

@@ -1,15 +1,15 @@
 //! What tells classes of tag sets apart.
 ghost use Rattle.std.specs.Prelude.{◌≡◌, ℕ, ◌<◌, ◌++◌, List as Items, All, IfOk, OnOk, length, slice_index};
-ghost use Rattle.nk_store.specs.Held.{Held, Grows};
+ghost use Rattle.nk_store.specs.StoreState.{StoreState, Grows};
 ghost use Rattle.nk_determ.specs.Sets.{SetsGrow};
 ghost use Rattle.nk_merge.specs.Alike.{AreAlike};
-ghost use Rattle.nk_merge.specs.Twice.{IsTwice};
-ghost use Rattle.nk_compact.specs.Told.{number_on_side, first_member_set, IsToldApart, AreToldApart, IsBase, pairs_behind, first_pairs};
+ghost use Rattle.nk_merge.specs.DisjointCopies.{IsDisjointCopy};
+ghost use Rattle.nk_compact.specs.Told.{number_on_side, first_member_set, IsDistinguished, AreDistinguished, IsBase, pairs_after, first_pairs};
 
 use crate::compact::Apart;
 use nk_determ::{SetId, Sets};
 use nk_field::List;
-use nk_merge::{Twice, apart};
+use nk_merge::{DisjointCopy, distinguish};
 use nk_reach::{Found, Side};
 use nk_store::{Id, Store};
 use std::alloc::AllocError;
@@ -20,50 +20,50 @@ pub fn aparts(
     st: &mut Store,
     ss: &mut Sets,
     states: &[Id],
-    twice: &mut Twice,
+    disjoint: &mut DisjointCopy,
     tags: &[SetId],
     firsts: &[usize],
 ) -> Result<List<Apart>, AllocError>
-    requires twice { IsTwice st.old states.now twice.old }
+    requires disjoint { IsDisjointCopy st.old states.now disjoint.old }
     requires base { IsBase st.old ss.old st.old ss.old states.now tags.now firsts.now }
     requires different { (i j : ℕ) → i < j → j < length firsts.now
         → AreAlike st.old states.now (first_member_set ss.old tags.now firsts.now i) (first_member_set ss.old tags.now firsts.now j) → ⊥ }
     ensures grows { Grows st.old st.new }
     ensures sets { SetsGrow ss.old ss.new }
-    ensures told { IfOk result (λ r. AreToldApart st.old states.now ss.old tags.now firsts.now (first_pairs (length firsts.now) (length firsts.now)) r) }
+    ensures told { IfOk result (λ r. AreDistinguished st.old states.now ss.old tags.now firsts.now (first_pairs (length firsts.now) (length firsts.now)) r) }
 {
     let mut all = List::new(st.alloc());
     for i in 0..firsts.len() {
-        apart_row(st, ss, states, twice, tags, firsts, i, &mut all)?;
+        apart_row(st, ss, states, disjoint, tags, firsts, i, &mut all)?;
     }
     Ok(all)
 }
 
-/// Appends what tells a class from each behind it.
+/// Appends what tells a class from each after it.
 fn apart_row(
     st: &mut Store,
     ss: &mut Sets,
     states: &[Id],
-    twice: &mut Twice,
+    disjoint: &mut DisjointCopy,
     tags: &[SetId],
     firsts: &[usize],
     i: usize,
     all: &mut List<Apart>,
 ) -> Result<(), AllocError>
-    requires twice { IsTwice st.old states.now twice.old }
+    requires disjoint { IsDisjointCopy st.old states.now disjoint.old }
     requires base { IsBase st.old ss.old st.old ss.old states.now tags.now firsts.now }
     requires within { i < length firsts.now }
     requires different { (j : ℕ) → i < j → j < length firsts.now
         → AreAlike st.old states.now (first_member_set ss.old tags.now firsts.now i) (first_member_set ss.old tags.now firsts.now j) → ⊥ }
     ensures grows { Grows st.old st.new }
     ensures sets { SetsGrow ss.old ss.new }
-    ensures twice { OnOk result (IsTwice st.new states.now twice.new) }
-    ensures told { OnOk result ((base : Held) (first : Items (Items ℕ)) (pairs : Items (ℕ × ℕ)) → IsBase base first st.old ss.old states.now tags.now firsts.now
-        → AreToldApart base states.now first tags.now firsts.now pairs all.old
-        → AreToldApart base states.now first tags.now firsts.now (pairs ++ pairs_behind i (length firsts.now)) all.new) }
+    ensures disjoint { OnOk result (IsDisjointCopy st.new states.now disjoint.new) }
+    ensures told { OnOk result ((base : StoreState) (first : Items (Items ℕ)) (pairs : Items (ℕ × ℕ)) → IsBase base first st.old ss.old states.now tags.now firsts.now
+        → AreDistinguished base states.now first tags.now firsts.now pairs all.old
+        → AreDistinguished base states.now first tags.now firsts.now (pairs ++ pairs_after i (length firsts.now)) all.new) }
 {
     for j in i + 1..firsts.len() {
-        let a = apart_of(st, ss, states, twice, tags, firsts, i, j)?;
+        let a = apart_of(st, ss, states, disjoint, tags, firsts, i, j)?;
         all.push(a)?;
     }
     Ok(())
@@ -74,25 +74,25 @@ fn apart_of(
     st: &mut Store,
     ss: &mut Sets,
     states: &[Id],
-    twice: &mut Twice,
+    disjoint: &mut DisjointCopy,
     tags: &[SetId],
     firsts: &[usize],
     i: usize,
     j: usize,
 ) -> Result<Apart, AllocError>
-    requires twice { IsTwice st.old states.now twice.old }
+    requires disjoint { IsDisjointCopy st.old states.now disjoint.old }
     requires base { IsBase st.old ss.old st.old ss.old states.now tags.now firsts.now }
     requires first { i < length firsts.now }
     requires second { j < length firsts.now }
     requires different { AreAlike st.old states.now (first_member_set ss.old tags.now firsts.now i) (first_member_set ss.old tags.now firsts.now j) → ⊥ }
     ensures grows { Grows st.old st.new }
     ensures sets { SetsGrow ss.old ss.new }
-    ensures twice { OnOk result (IsTwice st.new states.now twice.new) }
-    ensures told { IfOk result (λ a. IsToldApart st.old states.now ss.old tags.now firsts.now i j a) }
+    ensures disjoint { OnOk result (IsDisjointCopy st.new states.now disjoint.new) }
+    ensures told { IfOk result (λ a. IsDistinguished st.old states.now ss.old tags.now firsts.now i j a) }
 {
     let s = set_of_first(tags, firsts, i);
     let t = set_of_first(tags, firsts, j);
-    match apart(st, ss, states, twice, s, t)? {
+    match distinguish(st, ss, states, disjoint, s, t)? {
         Some(found) => Ok(told(found, i as u64 + 1, j as u64 + 1)),
         None => unreachable!(),
     }

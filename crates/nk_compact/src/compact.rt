@@ -15,7 +15,7 @@ use crate::met::met_packets;
 use nk_compile::{CompileError, Prepared, Refusal, prepare};
 use nk_determ::{Levels, SetId, Sets};
 use nk_field::{Fields, History, List, Packet};
-use nk_merge::{Twice, classes_of};
+use nk_merge::{DisjointCopy, classes_of};
 use nk_names::Program;
 use nk_policy::Pol;
 use nk_store::{Id, Store};
@@ -49,7 +49,7 @@ pub struct Compact {
     pub aparts: List<Apart>,
 }
 
-/// The tables of a named policy in which tag sets behind which the same histories are left share a tag.
+/// The tables of a named policy in which tag sets after which the same histories are left share a tag.
 /// They carry the policy; and for each two tags there is a packet and a history that tell them apart.
 ///
 /// A policy is refused for the first reason in the order of `Refusal`, where too many tags are too many classes of tag sets; the
@@ -151,14 +151,21 @@ fn compact_tables(
     ensures error { IfErr result (IsCompactError fields.now topo.now (tree_of p.now)) }
 {
     let met = met_packets(st, ss, lv, tags)?;
-    let mut twice = Twice::new(st, states)?;
+    let mut disjoint = DisjointCopy::new(st, states)?;
     st.laws();
-    let classes = classes_of(st, ss, states, &mut twice, tags)?;
+    let classes = classes_of(st, ss, states, &mut disjoint, tags)?;
     if classes.firsts.len() as u64 > max {
         return Err(CompileError::Refused(Refusal::TooManyTags { found: max + 1 }));
     }
     st.laws();
-    let aparts = aparts(st, ss, states, &mut twice, tags, classes.firsts.as_slice())?;
+    let aparts = aparts(
+        st,
+        ss,
+        states,
+        &mut disjoint,
+        tags,
+        classes.firsts.as_slice(),
+    )?;
     st.laws();
     ss.differ();
     let tables = merged_tables(st, ss, topo, p, states, tags, &classes, met.as_slice())?;

@@ -1,9 +1,9 @@
-//! The packets that are met behind the links of tags.
+//! The packets that are met after the links of tags.
 ghost use Rattle.std.specs.Prelude.{◌≡◌, ℕ, ◌<◌, ◌+◌, ◌^◌, List as Items, [], ◌∷◌, ◌++◌, All, IfOk, OnOk, length, map, slice_index, slice_index_or};
-ghost use Rattle.nk_store.specs.Held.{Held, IsId, Grows};
+ghost use Rattle.nk_store.specs.StoreState.{StoreState, IsId, Grows};
 ghost use Rattle.nk_determ.specs.Sets.{IsSetOf, SetsGrow};
 ghost use Rattle.nk_switches.specs.Tagged.{set_of_tag};
-ghost use Rattle.nk_merge.specs.Alike.{labels_behind};
+ghost use Rattle.nk_merge.specs.Alike.{labels_after};
 ghost use Rattle.nk_compact.specs.MetPackets.{entries_of, HaveIds, AreUnder, AreMet};
 
 use nk_apply::{empty, union};
@@ -12,7 +12,7 @@ use nk_field::List;
 use nk_store::{Id, Store};
 use std::alloc::{AllocError, Global};
 
-/// For each tag the packets that some level has under the labels behind those of its set. The only error is that memory ran out.
+/// For each tag the packets that some level has under the labels after those of its set. The only error is that memory ran out.
 pub fn met_packets(
     st: &mut Store,
     ss: &mut Sets,
@@ -27,45 +27,45 @@ pub fn met_packets(
     ensures sets { SetsGrow ss.old ss.new }
     ensures len { IfOk result (λ r. length r ≡ length tags.now) }
     ensures met { IfOk result (λ r. (i : ℕ) → i < length tags.now →
-        AreMet st.old ss.old lv.now.levels (labels_behind (set_of_tag ss.old tags.now i)) st.new (slice_index r i)) }
+        AreMet st.old ss.old lv.now.levels (labels_after (set_of_tag ss.old tags.now i)) st.new (slice_index r i)) }
 {
-    let sets = sets_behind(st.alloc(), ss, tags)?;
+    let sets = sets_after(st.alloc(), ss, tags)?;
     ss.differ();
     let by_set = packets_by_set(st, ss.len(), lv)?;
     chosen(st.alloc(), by_set.as_slice(), sets.as_slice())
 }
 
-/// The sets of the labels behind those of tags' sets.
-fn sets_behind(alloc: Global, ss: &mut Sets, tags: &[SetId]) -> Result<List<SetId>, AllocError>
+/// The sets of the labels after those of tags' sets.
+fn sets_after(alloc: Global, ss: &mut Sets, tags: &[SetId]) -> Result<List<SetId>, AllocError>
     requires known { All (λ s. s < length ss.old) tags.now }
     requires room { All (λ s. All (λ l. l + 1 < 2 ^ 64) (slice_index_or ss.old s [])) tags.now }
     ensures sets { SetsGrow ss.old ss.new }
     ensures len { IfOk result (λ r. length r ≡ length tags.now) }
-    ensures behind { IfOk result (λ r. (i : ℕ) → i < length tags.now → IsSetOf ss.new (slice_index r i) (labels_behind (set_of_tag ss.old tags.now i))) }
+    ensures following { IfOk result (λ r. (i : ℕ) → i < length tags.now → IsSetOf ss.new (slice_index r i) (labels_after (set_of_tag ss.old tags.now i))) }
 {
     let mut all = List::new(alloc);
     for s in tags {
-        let b = set_behind(alloc, ss, *s)?;
+        let b = set_after(alloc, ss, *s)?;
         all.push(b)?;
     }
     Ok(all)
 }
 
-/// The set of the labels behind those of a set.
-fn set_behind(alloc: Global, ss: &mut Sets, s: SetId) -> Result<SetId, AllocError>
+/// The set of the labels after those of a set.
+fn set_after(alloc: Global, ss: &mut Sets, s: SetId) -> Result<SetId, AllocError>
     requires known { s < length ss.old }
     requires room { All (λ l. l + 1 < 2 ^ 64) (slice_index_or ss.old s []) }
     ensures sets { SetsGrow ss.old ss.new }
-    ensures behind { IfOk result (λ b. IsSetOf ss.new b (labels_behind (slice_index_or ss.old s []))) }
+    ensures following { IfOk result (λ b. IsSetOf ss.new b (labels_after (slice_index_or ss.old s []))) }
 {
-    let labels = labels_behind(alloc, ss.members(s))?;
+    let labels = labels_after(alloc, ss.members(s))?;
     ss.intern(labels)
 }
 
 /// Each label and one more.
-fn labels_behind(alloc: Global, labels: &[u64]) -> Result<List<u64>, AllocError>
+fn labels_after(alloc: Global, labels: &[u64]) -> Result<List<u64>, AllocError>
     requires { All (λ l. l + 1 < 2 ^ 64) labels.now }
-    ensures { IfOk result (λ r. r ≡ labels_behind labels.now) }
+    ensures { IfOk result (λ r. r ≡ labels_after labels.now) }
 {
     let mut all = List::new(alloc);
     for l in labels {
@@ -93,7 +93,7 @@ fn packets_by_set(st: &mut Store, sets: usize, lv: &Levels) -> Result<List<Id>, 
 fn no_packets(st: &mut Store, sets: usize) -> Result<List<Id>, AllocError>
     ensures grows { Grows st.old st.new }
     ensures len { IfOk result (λ r. length r ≡ sets) }
-    ensures under { IfOk result (λ r. (base : Held) → AreUnder base st.new [] r) }
+    ensures under { IfOk result (λ r. (base : StoreState) → AreUnder base st.new [] r) }
 {
     let none = empty(st)?;
     let mut all = List::new(st.alloc());
@@ -110,7 +110,7 @@ fn put_level(st: &mut Store, all: &mut List<Id>, level: &[(SetId, Id)]) -> Resul
     requires sets { All (λ e. e.0 < length all.old) level.now }
     ensures grows { Grows st.old st.new }
     ensures len { OnOk result (length all.new ≡ length all.old) }
-    ensures under { OnOk result ((base : Held) (before : Items (ℕ × ℕ)) → Grows base st.old → HaveIds base level.now
+    ensures under { OnOk result ((base : StoreState) (before : Items (ℕ × ℕ)) → Grows base st.old → HaveIds base level.now
         → AreUnder base st.old before all.old → AreUnder base st.new (before ++ level.now) all.new) }
 {
     for (s, packets) in level {
@@ -127,7 +127,7 @@ fn put_entry(st: &mut Store, all: &mut List<Id>, s: SetId, packets: Id) -> Resul
     ensures grows { Grows st.old st.new }
     ensures len { OnOk result (length all.new ≡ length all.old) }
     ensures ids { OnOk result ((k : ℕ) → k < length all.new → IsId st.new (slice_index all.new k)) }
-    ensures under { OnOk result ((base : Held) (before : Items (ℕ × ℕ)) → Grows base st.old → IsId base packets
+    ensures under { OnOk result ((base : StoreState) (before : Items (ℕ × ℕ)) → Grows base st.old → IsId base packets
         → AreUnder base st.old before all.old → AreUnder base st.new (before ++ (s, packets) ∷ []) all.new) }
 {
     let place = s.place();

@@ -2,7 +2,7 @@
 use Rattle.std.proofs.Common.{◌≡◌, ℕ, List}
 use Rattle.std.specs.Prelude.{◌↔◌, slice_set}
 use Rattle.nk_field.specs.declared.packet.Packet.{Packet}
-use Rattle.nk_field.proofs.Lists.{In, Apart}
+use Rattle.nk_field.proofs.Lists.{In, NoDup}
 use Rattle.nk_policy.specs.Policy.{Policy}
 use Rattle.nk_policy.specs.Meaning.{Gives}
 use Rattle.nk_table.specs.declared.Tables.{Tables}
@@ -21,7 +21,7 @@ pub record Acts (t : Tables) (p : Policy) (tag : ℕ) (tags : List (List ℕ)) (
   pub under : Under t p tags state x
   pub number_is : number state ≡ c
   pub emits : (q : Packet) → In (sent_for t (slice_set x tag c)) q ↔ ((z : Packet) × (t' : ℕ) × IsResult p tags state x z t' × (q ≡ slice_set z tag (number t')))
-  pub apart : Apart (sent_for t (slice_set x tag c))
+  pub apart : NoDup (sent_for t (slice_set x tag c))
 
 -- the numbers of tags: one acts wherever a packet is met under a tag, and from a packet that is met under two tags with one
 -- number both give the same histories

@@ -6,17 +6,17 @@ use Rattle.nk_topo.specs.Topology.{Topology, IsTopology}
 use Rattle.nk_policy.specs.Policy.{Policy, marked_from}
 use Rattle.nk_policy.specs.Ranges.{IsInRange}
 use Rattle.nk_names.specs.Complements.{NegatesPredicates}
-use Rattle.nk_store.specs.Held.{Held, Grows, IsOver}
+use Rattle.nk_store.specs.StoreState.{StoreState, Grows, IsOver}
 use Rattle.nk_store.proofs.InRange.{over_grown}
 use Rattle.nk_auto.specs.Automaton.{IsAutomaton}
 use Rattle.nk_auto.specs.Continued.{IsFit}
 use Rattle.nk_compile.specs.Ready.{IsBegun}
-use Rattle.nk_compile.specs.Refusals.{seen_with}
+use Rattle.nk_compile.specs.Refusals.{static_refusal_with}
 use Rattle.nk_compile.proofs.Fitting.{fit}
 use Rattle.nk_compile.proofs.Making.{is_clear}
 
-pub begun_is : (fields : FieldTable) (topo : Topology) (tag : ℕ) (p : Policy) (first new : Held) (states slice : List ℕ) →
-    IsFieldTable fields → fields.tag ≡ Some tag → IsTopology topo → marked_from p 1 ≡ p → seen_with tag topo p ≡ None →
+pub begun_is : (fields : FieldTable) (topo : Topology) (tag : ℕ) (p : Policy) (first new : StoreState) (states slice : List ℕ) →
+    IsFieldTable fields → fields.tag ≡ Some tag → IsTopology topo → marked_from p 1 ≡ p → static_refusal_with tag topo p ≡ None →
     IsOver fields first → Grows first new → (IsFit first.maxes p → IsAutomaton new states 1 p) → slice ≡ states →
     NegatesPredicates p → IsInRange p fields → slice_index fields.maxima tag + 1 < 18446744073709551616 →
     IsBegun fields topo tag p new slice

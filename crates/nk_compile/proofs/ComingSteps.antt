@@ -12,7 +12,7 @@ use Rattle.nk_switches.specs.Tagged.{set_of_tag}
 use Rattle.nk_compile.specs.Comings.{first_end, ComesTo, HasComing, with_tag}
 use Rattle.nk_compile.proofs.Reached.{same_some}
 
--- a greater number behind a list that rises
+-- a greater number after a list that rises
 rising_push : (xs : List ℕ) (z : ℕ) → Rising xs → ((y : ℕ) → In xs y → y < z) → Rising (xs ++ z ∷ [])
 rising_push [] z r h = ((λ y i. absurd i), tt)
 rising_push (x ∷ xs) z r h =
@@ -147,7 +147,7 @@ pub not_there : (xs : List ℕ) (n i : ℕ) → AllPairs (λ p q. p < q) xs → 
     (k : ℕ) → k < length xs → get_or xs k 0 ≡ n → ⊥
 not_there xs n i up e other k lt at = elim (numbers_decided k i) [
   | inl same ↦ other (subst (λ j. j < length xs) same lt) (ap (λ j. get_or xs j 0) (sym same) ∙ at)
-  | inr ne ↦ ⊎_elim (λ less. before less) (λ more. behind more) (either k i ne)
+  | inr ne ↦ ⊎_elim (λ less. before less) (λ more. following more) (either k i ne)
 ]
   where
     either : (a b : ℕ) → (a ≡ b → ⊥) → (a < b) ⊎ (b < a)
@@ -162,8 +162,8 @@ not_there xs n i up e other k lt at = elim (numbers_decided k i) [
         let passes : nat_lt (get_or xs k 0) n ≡ true = prefix_len_passes (λ m. nat_lt m n) xs k 0 within in
         grind (arith, nat_tests, passes, at)
 
-    behind : i < k → ⊥
-    behind more =
+    following : i < k → ⊥
+    following more =
         let r = up i k 0 more lt in
         let within : prefix_len (λ m. nat_lt m n) xs < length xs = omega (arith, more, lt, e) in
         let stop : nat_lt (get_or xs i 0) n ≡ false = subst (λ j. nat_lt (get_or xs j 0) n ≡ false) (sym e) (prefix_len_stops (λ m. nat_lt m n) xs 0 within) in

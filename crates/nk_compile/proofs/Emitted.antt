@@ -5,7 +5,7 @@ use Rattle.std.specs.Prelude.{◌↔◌, filter_map, AllPairs, slice_index, slic
 use Rattle.std.specs.List.{cons_option}
 use Rattle.std.proofs.lemmas.List.{set-set}
 use Rattle.nk_field.specs.declared.packet.Packet.{Packet}
-use Rattle.nk_field.proofs.Lists.{In, in_from_contains, contains_from_in, Apart}
+use Rattle.nk_field.proofs.Lists.{In, in_from_contains, contains_from_in, NoDup}
 use Rattle.nk_field.proofs.Ascending.{first_before, rest_in_order}
 use Rattle.nk_policy.specs.Policy.{Policy}
 use Rattle.nk_policy.proofs.Untouched.{IsZeroAt}
@@ -70,15 +70,15 @@ from_images {X} {Y} f (z ∷ zs) y h = by (f z) refl (λ i. from_images f zs y i
     by None e g h = let r = g h in (r.0, inr r.1, r.2)
 
 -- images of elements in a strict order by a function that tells them apart are apart
-apart_images :
+no_dup_images :
     {X Y : Type 0} (R : X → X → Type 0) (f : X → Option Y) → ((x : X) → R x x → ⊥) → (xs : List X)
     → AllPairs R xs → ((x x' : X) (y : Y) → In xs x → In xs x' → f x ≡ Some y → f x' ≡ Some y → x ≡ x')
-    → Apart (filter_map f xs)
-apart_images R f never [] h own = tt
-apart_images {X} {Y} R f never (z ∷ zs) h own =
-    by (f z) refl (apart_images R f never zs (rest_in_order R z zs h) (λ x x' y i j. own x x' y (inr i) (inr j)))
+    → NoDup (filter_map f xs)
+no_dup_images R f never [] h own = tt
+no_dup_images {X} {Y} R f never (z ∷ zs) h own =
+    by (f z) refl (no_dup_images R f never zs (rest_in_order R z zs h) (λ x x' y i j. own x x' y (inr i) (inr j)))
   where
-    by : (o : Option Y) → f z ≡ o → Apart (filter_map f zs) → Apart (cons_option o (filter_map f zs))
+    by : (o : Option Y) → f z ≡ o → NoDup (filter_map f zs) → NoDup (cons_option o (filter_map f zs))
     by None e a = a
     by (Some y) e a = (
       λ i.
@@ -125,12 +125,12 @@ module _ (t : Tables) (p : Policy) (tag : ℕ) (tags : List (List ℕ)) (g : Set
       )
 
   -- each once
-  pub emitted_apart : Apart (sent_for t (slice_set x tag c))
-  emitted_apart =
+  pub emitted_no_dup : NoDup (sent_for t (slice_set x tag c))
+  emitted_no_dup =
       subst
-      (λ l. Apart l)
+      (λ l. NoDup l)
       (sym has.sent_is)
-      (apart_images (IsBucketBefore tag) (sent_by (slice_set x tag c)) (never_itself tag) has.buckets has.list.in_order
+      (no_dup_images (IsBucketBefore tag) (sent_by (slice_set x tag c)) (never_itself tag) has.buckets has.list.in_order
       (λ b b' q i i' f f'.
       let e = (has.list.exactly b).0 (contains_from_in has.buckets b i) in
       let e' = (has.list.exactly b').0 (contains_from_in has.buckets b' i') in
@@ -147,4 +147,4 @@ module _ (t : Tables) (p : Policy) (tag : ℕ) (tags : List (List ℕ)) (g : Set
 
   -- so this tag acts for the number
   pub acts_for : Under t p tags tg x → number tg ≡ c → Acts t p tag tags number c x
-  acts_for under is = record { state = tg; under = under; number_is = is; emits = emitted; apart = emitted_apart }
+  acts_for under is = record { state = tg; under = under; number_is = is; emits = emitted; apart = emitted_no_dup }

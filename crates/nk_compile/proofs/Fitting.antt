@@ -7,7 +7,7 @@ use Rattle.nk_policy.specs.Policy.{Policy}
 use Rattle.nk_policy.specs.Ranges.{IsInRange}
 use Rattle.nk_names.specs.Complements.{NegatesPredicates}
 use Rattle.nk_names.proofs.Weaker.{assigns_weaker}
-use Rattle.nk_store.specs.Held.{Held, IsOver}
+use Rattle.nk_store.specs.StoreState.{StoreState, IsOver}
 use Rattle.nk_store.proofs.InRange.{same_value}
 use Rattle.nk_auto.specs.Continued.{IsFit}
 use Rattle.nk_compile.proofs.Whole.{IsSetUp}
@@ -18,7 +18,7 @@ fronts [] a b h = cc
 fronts (x ∷ []) a b h = cc
 fronts (x ∷ y ∷ xs) a b h = (ap (λ l. get_or l 0 0) h, ap (λ l. get_or l 1 0) h)
 
-module _ (fields : FieldTable) (st : Held) (tag : ℕ) (table : IsFieldTable fields) (over : IsOver fields st) (is : fields.tag ≡ Some tag) where
+module _ (fields : FieldTable) (st : StoreState) (tag : ℕ) (table : IsFieldTable fields) (over : IsOver fields st) (is : fields.tag ≡ Some tag) where
   -- the store's largest values are those of the fields
   pub set_up : IsSetUp fields st.maxes tag
   set_up = record {

@@ -17,7 +17,7 @@ use Rattle.nk_policy.specs.Tags.{AreTags, IsShortest, IsTagBefore}
 use Rattle.nk_policy.proofs.Numbering.{numbered_distinct}
 use Rattle.nk_names.specs.Accepted.{IsStartPacket, IsCompilable, most_tags}
 use Rattle.nk_store.specs.declared.node.Out.{Out}
-use Rattle.nk_store.specs.Held.{Held, Grows, IsOver, HasFields, IsPacket}
+use Rattle.nk_store.specs.StoreState.{StoreState, Grows, IsOver, HasFields, IsStorePacket}
 use Rattle.nk_store.proofs.Stores.{grows_on}
 use Rattle.nk_store.proofs.InRange.{packet_in_range, over_grown}
 use Rattle.nk_determ.specs.Sets.{HasEachSetOnce, HasAscendingSets}
@@ -31,10 +31,10 @@ use Rattle.nk_runs.proofs.Stands.{stands}
 use Rattle.nk_runs.proofs.Ends.{none_ends}
 use Rattle.nk_runs.proofs.Breaking.{is_alert, breaks_given}
 use Rattle.nk_runs.proofs.TagSets.{are_tags, many_tags}
-use Rattle.nk_places.specs.Edges.{is_start, is_no_edge}
+use Rattle.nk_edges.specs.Edges.{is_start, is_no_edge}
 use Rattle.nk_compile.specs.Levelled.{IsLevelled, IsLeastOff}
-use Rattle.nk_places.specs.PacketSets.{IsSetInRange}
-use Rattle.nk_compile.specs.NumberedBehind.{tags_behind}
+use Rattle.nk_edges.specs.PacketSets.{IsSetInRange}
+use Rattle.nk_compile.specs.NumberedAfter.{tags_after}
 use Rattle.nk_compile.specs.OffEdge.{EndsOffEdge, EndsOnEdges}
 use Rattle.nk_compile.specs.PairAnswers.{IsUnopposed}
 use Rattle.nk_compile.specs.Preparing.{IsPrepared}
@@ -42,7 +42,7 @@ use Rattle.nk_compile.specs.declared.prepared.Prepared.{Prepared}
 use Rattle.nk_compile.specs.Ready.{sets_of, IsClear, IsReady}
 use Rattle.nk_compile.specs.Counted.{HasTagSets}
 use Rattle.nk_compile.proofs.Carried.{without_doubles}
-use Rattle.nk_compile.proofs.FewTags.{apart_from}
+use Rattle.nk_compile.proofs.FewTags.{no_dup_from}
 use Rattle.nk_compile.proofs.Making.{is_compilable, none_seen}
 use Rattle.nk_compile.proofs.TagPlaces.{never_itself}
 use Rattle.nk_compile.proofs.Whole.{IsSetUp, start_of, test_of, not_both}
@@ -79,7 +79,7 @@ fails_unless : (b : Bool) → (IsTrue b → ⊥) → not b ≡ true
 fails_unless true h = absurd (h refl)
 fails_unless false h = refl
 
-module _ (fields : FieldTable) (topo : Topology) (tag : ℕ) (p : Policy) (old first : Held) (start : ℕ) (clear : IsClear fields topo tag p) (over : IsOver fields old) (grew : Grows old first)
+module _ (fields : FieldTable) (topo : Topology) (tag : ℕ) (p : Policy) (old first : StoreState) (start : ℕ) (clear : IsClear fields topo tag p) (over : IsOver fields old) (grew : Grows old first)
     (start_is : IsSetInRange first start (is_start topo tag)) where
   setup : IsSetUp fields first.maxes tag
   setup = set_up fields first tag clear.table (over_grown fields old first over grew) clear.tag_is
@@ -90,10 +90,10 @@ module _ (fields : FieldTable) (topo : Topology) (tag : ℕ) (p : Policy) (old f
 
   pub is_among : (pk : Packet) → IsStartPacket fields topo pk → IsAmong first start pk
   is_among pk h =
-      let r : IsPacket first pk = packet_in_range fields first pk (over_grown fields old first over grew) h.packet in
+      let r : IsStorePacket first pk = packet_in_range fields first pk (over_grown fields old first over grew) h.packet in
       (r, start_is.at pk r ∙ test_of fields topo tag first.maxes setup pk h)
 
-module _ (fields : FieldTable) (topo : Topology) (tag : ℕ) (p : Policy) (old : Held) (states : List ℕ) (clear : IsClear fields topo tag p) (over : IsOver fields old) (auto : IsAutomaton old states 1 p) (f : Found)
+module _ (fields : FieldTable) (topo : Topology) (tag : ℕ) (p : Policy) (old : StoreState) (states : List ℕ) (clear : IsClear fields topo tag p) (over : IsOver fields old) (auto : IsAutomaton old states 1 p) (f : Found)
     (k : IsLeastOff topo tag old states f) where
   -- what breaks the goal is a history off each edge port, and the other way round
   breaks : (g : Found) → Breaks k.first states (0 ∷ []) k.start k.bad g ↔ (IsAmong k.first k.start g.start × Gives p g.start g.records g.last × (is_no_edge topo g.last ≡ true))
@@ -121,7 +121,7 @@ module _ (fields : FieldTable) (topo : Topology) (tag : ℕ) (p : Policy) (old :
   pub least_off : IsLeast (EndsOffEdge fields topo p) f
   least_off = (off_of f k.least.0, λ g e. k.least.1 g (of_off g e))
 
-module _ (fields : FieldTable) (topo : Topology) (tag : ℕ) (p : Policy) (old : Held) (states : List ℕ) (new : Held) (ss : List (List ℕ)) (ls : List (List (ℕ × ℕ))) (broken : Bool)
+module _ (fields : FieldTable) (topo : Topology) (tag : ℕ) (p : Policy) (old : StoreState) (states : List ℕ) (new : StoreState) (ss : List (List ℕ)) (ls : List (List (ℕ × ℕ))) (broken : Bool)
     (clear : IsClear fields topo tag p) (over : IsOver fields old) (auto : IsAutomaton old states 1 p) (lv : IsLevelled topo tag old states new ss ls broken) where
   -- the automaton in the store where the levels began
   pub auto_then : IsAutomaton lv.first states 1 p
@@ -178,12 +178,12 @@ none_past (x ∷ xs) zero le = absurd (omega (arith, le))
 none_past (x ∷ xs) (suc i) le = none_past xs i (omega (arith, le))
 
 -- a set that is named is known
-named_known : (st : Held) (ss : List (List ℕ)) (count : ℕ) (xs : List (ℕ × ℕ)) → EachPair (IsPair st ss count) xs → (s : ℕ) → Named xs s → s < length ss
+named_known : (st : StoreState) (ss : List (List ℕ)) (count : ℕ) (xs : List (ℕ × ℕ)) → EachPair (IsPair st ss count) xs → (s : ℕ) → Named xs s → s < length ss
 named_known st ss count [] k s h = absurd h
 named_known st ss count (x ∷ xs) k s (inl e) = subst (λ n. n < length ss) e k.0.known
 named_known st ss count (x ∷ xs) k s (inr h) = named_known st ss count xs k.1 s h
 
-module _ (old st : Held) (ss : List (List ℕ)) (states : List ℕ) (set start : ℕ) (bad : List ℕ → List ℕ → List Out) (ls : List (List (ℕ × ℕ))) (broken : Bool)
+module _ (old st : StoreState) (ss : List (List ℕ)) (states : List ℕ) (set start : ℕ) (bad : List ℕ → List ℕ → List Out) (ls : List (List (ℕ × ℕ))) (broken : Bool)
     (are : AreLevels old st ss states set start bad ls broken) where
   -- the entries of levels are of known sets, a set once
   pub entries_are : AreEntries ss ls
@@ -208,7 +208,7 @@ pub tags_many : (p : Policy) (Start : Packet → Type 0) (tags : List (List ℕ)
 tags_many p Start tags k = (
   tags,
   refl,
-  without_doubles tags (apart_from (IsTagBefore p Start) (never_itself p Start) tags k.in_order),
+  without_doubles tags (no_dup_from (IsTagBefore p Start) (never_itself p Start) tags k.in_order),
   all_from_members (IsTagSet p Start) tags (λ s i. (k.exactly s).0 (contains_from_in tags s i)),
 )
 
@@ -248,9 +248,9 @@ module _ (fields : FieldTable) (topo : Topology) (tag : ℕ) (p : Policy) (b : P
     pub prepared_known : All (λ s. s < length b.sets) r
     prepared_known = let l = k.levelled in numbers_known l.first b.store b.sets b.states l.set l.start l.bad b.levels.levels b.levels.broken l.are r numbers
 
-    -- all that the tables are made of is there, behind so many tags that stand for none
+    -- all that the tables are made of is there, after so many tags that stand for none
     pub prepared_ready : (first : ℕ) (more : List (List ℕ)) (tags : List ℕ) → HasAscendingSets more → HasFields b.store → All (λ s. s < length more) tags →
-        sets_of more tags ≡ tags_behind first (sets_of b.sets r) → IsReady first fields topo p b.store more b.states tags
+        sets_of more tags ≡ tags_after first (sets_of b.sets r) → IsReady first fields topo p b.store more b.states tags
     prepared_ready first more tags ascend has known numbered =
         let grown = grows_on k.before k.levelled.first b.store k.levelled.grew k.levelled.grows in
         record {

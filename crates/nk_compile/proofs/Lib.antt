@@ -1,6 +1,6 @@
 pub mod Acting
 pub mod Begun
-pub mod Behind
+pub mod After
 pub mod Carried
 pub mod ComingEnds
 pub mod ComingSteps

@@ -8,10 +8,10 @@ use Rattle.nk_policy.specs.Policy.{Policy, marked_from}
 use Rattle.nk_policy.specs.Leaves.{has_leaf, is_on_field, is_dup, is_switch_assignment}
 use Rattle.nk_policy.specs.Labels.{IsTagSet, AtLeast}
 use Rattle.nk_names.specs.Accepted.{IsStartPacket, IsCompilable, is_link_outside, most_tags}
-use Rattle.nk_store.specs.Held.{Held}
+use Rattle.nk_store.specs.StoreState.{StoreState}
 use Rattle.nk_tag.specs.Numbers.{IsAtOdd}
-use Rattle.nk_sight.specs.declared.sight.Sight.TheVariants as sight
-use Rattle.nk_compile.specs.Refusals.{refusal_of, seen_with, seen_for, seen, found_from}
+use Rattle.nk_static.specs.declared.faults.StaticFault.TheVariants as static_kind
+use Rattle.nk_compile.specs.Refusals.{refusal_of, static_refusal_with, static_refusal_for, static_refusal, found_from}
 use Rattle.nk_compile.specs.Answers.{IsError}
 use Rattle.nk_compile.specs.Levelled.{IsLeastOff, IsOffFault, IsTagFault}
 use Rattle.nk_compile.specs.OffEdge.{EndsOffEdge, EndsOnEdges}
@@ -32,7 +32,7 @@ refused_with (Err d) e Q h q = subst Q (sym h) q
 -- the first reason of four tests
 abbrev first_reason : Bool → Bool → Bool → Bool → Option Refusal
 first_reason a b c d =
-    option_map refusal_of (if a then Some sight.TagUsed else if b then Some sight.LooseDup else if c then Some sight.SwitchSet else if d then Some sight.NoSuchLink else None)
+    option_map refusal_of (if a then Some static_kind.TagUsed else if b then Some static_kind.LooseDup else if c then Some static_kind.SwitchSet else if d then Some static_kind.NoSuchLink else None)
 
 -- equal options have equal values
 value_is : (a b : Refusal) → Some a ≡ Some b → a ≡ b
@@ -59,26 +59,26 @@ all_fail false false false true h = cc
 all_fail false false false false h = (refl, refl, refl, refl)
 
 -- whether a reason is seen of the tree
-abbrev IsSeen : Refusal → Type 0
-IsSeen NoPolicy = ⊥
-IsSeen NoTag = ⊥
-IsSeen (OffEdge start history) = ⊥
-IsSeen (TooManyTags found) = ⊥
-IsSeen r = Unit {0}
+abbrev IsStaticRefusal : Refusal → Type 0
+IsStaticRefusal NoPolicy = ⊥
+IsStaticRefusal NoTag = ⊥
+IsStaticRefusal (OffEdge start history) = ⊥
+IsStaticRefusal (TooManyTags found) = ⊥
+IsStaticRefusal r = Unit {0}
 
 -- a reason that is seen is one of the four
-pub seen_is : (tag : ℕ) (topo : Topology) (p : Policy) (r : Refusal) → seen_with tag topo p ≡ Some r → IsSeen r
-seen_is tag topo p r h =
-    by_reason IsSeen tt tt tt tt (has_leaf (is_on_field tag) p) (has_leaf is_dup p) (has_leaf is_switch_assignment p) (has_leaf (is_link_outside topo.links) p) r h
+pub static_refusal_is : (tag : ℕ) (topo : Topology) (p : Policy) (r : Refusal) → static_refusal_with tag topo p ≡ Some r → IsStaticRefusal r
+static_refusal_is tag topo p r h =
+    by_reason IsStaticRefusal tt tt tt tt (has_leaf (is_on_field tag) p) (has_leaf is_dup p) (has_leaf is_switch_assignment p) (has_leaf (is_link_outside topo.links) p) r h
 
 -- what is seen of a policy isn't that its name has none
-pub seen_named : (tag : Option ℕ) (topo : Topology) (p : Policy) → seen_for tag topo p ≡ Some NoPolicy → ⊥
-seen_named None topo p h = cc
-seen_named (Some tag) topo p h = seen_is tag topo p NoPolicy h
+pub static_refusal_named : (tag : Option ℕ) (topo : Topology) (p : Policy) → static_refusal_for tag topo p ≡ Some NoPolicy → ⊥
+static_refusal_named None topo p h = cc
+static_refusal_named (Some tag) topo p h = static_refusal_is tag topo p NoPolicy h
 
 -- a policy of which nothing is seen
 pub is_clear : (fields : FieldTable) (topo : Topology) (tag : ℕ) (p : Policy) → IsFieldTable fields → fields.tag ≡ Some tag → IsTopology topo → marked_from p 1 ≡ p →
-    seen_with tag topo p ≡ None → IsClear fields topo tag p
+    static_refusal_with tag topo p ≡ None → IsClear fields topo tag p
 is_clear fields topo tag p table is topology numbered h =
     let all = all_fail (has_leaf (is_on_field tag) p) (has_leaf is_dup p) (has_leaf is_switch_assignment p) (has_leaf (is_link_outside topo.links) p) h in
     record {
@@ -104,13 +104,13 @@ is_compilable fields topo tag p k ends = record {
   ends_on_edges = ends;
 }
 
-module _ (fields : FieldTable) (topo : Topology) (tag : ℕ) (p : Policy) (is : fields.tag ≡ Some tag) (none : seen_with tag topo p ≡ None) where
+module _ (fields : FieldTable) (topo : Topology) (tag : ℕ) (p : Policy) (is : fields.tag ≡ Some tag) (none : static_refusal_with tag topo p ≡ None) where
   -- nothing is seen
-  pub none_seen : seen fields topo p ≡ None
-  none_seen = ap (λ o. seen_for o topo p) is ∙ none
+  pub none_seen : static_refusal fields topo p ≡ None
+  none_seen = ap (λ o. static_refusal_for o topo p) is ∙ none
 
   -- the least history off each edge port is a reason
-  pub off_error : (old : Held) (states : List ℕ) (e : CompileError) → ((f : Found) → IsLeastOff topo tag old states f → IsLeast (EndsOffEdge fields topo p) f) →
+  pub off_error : (old : StoreState) (states : List ℕ) (e : CompileError) → ((f : Found) → IsLeastOff topo tag old states f → IsLeast (EndsOffEdge fields topo p) f) →
       IsOffFault topo tag old states e → IsEarlyError fields topo p e
   off_error old states NoMemory to h = tt
   off_error old states (Refused (OffEdge start history)) to h = (none_seen, to (found_from start history) h)
@@ -123,16 +123,16 @@ module _ (fields : FieldTable) (topo : Topology) (tag : ℕ) (p : Policy) (is : 
   off_error old states (Refused (TooManyTags found)) to h = absurd h
 
 -- what is seen is a reason before tags are numbered
-pub seen_early : (fields : FieldTable) (topo : Topology) (tag : ℕ) (p : Policy) (r : Refusal) → fields.tag ≡ Some tag → seen_with tag topo p ≡ Some r →
+pub static_refusal_early : (fields : FieldTable) (topo : Topology) (tag : ℕ) (p : Policy) (r : Refusal) → fields.tag ≡ Some tag → static_refusal_with tag topo p ≡ Some r →
     IsEarlyError fields topo p (Refused r)
-seen_early fields topo tag p TagUsed is h = ap (λ o. seen_for o topo p) is ∙ h
-seen_early fields topo tag p LooseDup is h = ap (λ o. seen_for o topo p) is ∙ h
-seen_early fields topo tag p SwitchSet is h = ap (λ o. seen_for o topo p) is ∙ h
-seen_early fields topo tag p NoSuchLink is h = ap (λ o. seen_for o topo p) is ∙ h
-seen_early fields topo tag p NoPolicy is h = absurd (seen_is tag topo p NoPolicy h)
-seen_early fields topo tag p NoTag is h = absurd (seen_is tag topo p NoTag h)
-seen_early fields topo tag p (OffEdge start history) is h = absurd (seen_is tag topo p (OffEdge start history) h)
-seen_early fields topo tag p (TooManyTags found) is h = absurd (seen_is tag topo p (TooManyTags found) h)
+static_refusal_early fields topo tag p TagUsed is h = ap (λ o. static_refusal_for o topo p) is ∙ h
+static_refusal_early fields topo tag p LooseDup is h = ap (λ o. static_refusal_for o topo p) is ∙ h
+static_refusal_early fields topo tag p SwitchSet is h = ap (λ o. static_refusal_for o topo p) is ∙ h
+static_refusal_early fields topo tag p NoSuchLink is h = ap (λ o. static_refusal_for o topo p) is ∙ h
+static_refusal_early fields topo tag p NoPolicy is h = absurd (static_refusal_is tag topo p NoPolicy h)
+static_refusal_early fields topo tag p NoTag is h = absurd (static_refusal_is tag topo p NoTag h)
+static_refusal_early fields topo tag p (OffEdge start history) is h = absurd (static_refusal_is tag topo p (OffEdge start history) h)
+static_refusal_early fields topo tag p (TooManyTags found) is h = absurd (static_refusal_is tag topo p (TooManyTags found) h)
 
 -- a reason before tags are numbered is one
 pub early_error : (fields : FieldTable) (topo : Topology) (p : Policy) (e : CompileError) → IsEarlyError fields topo p e → IsError fields topo p e

@@ -17,13 +17,13 @@ use Rattle.nk_compile.specs.declared.counted.Counted.{Counted}
 use Rattle.nk_compile.specs.declared.refusal.Refusal.{Refusal}
 use Rattle.nk_compile.specs.declared.refusal.Refusal.TheVariants.{NoPolicy, NoTag, TagUsed, LooseDup, SwitchSet, NoSuchLink, OffEdge, TooManyTags}
 use Rattle.nk_compile.specs.declared.refusal.CompileError.{CompileError}
-use Rattle.nk_compile.proofs.Making.{seen_named}
+use Rattle.nk_compile.proofs.Making.{static_refusal_named}
 use Rattle.nk_compile.proofs.Printed.{printed_carries}
 
 -- the reason for the policy is that for its name
 pub reason_named : (program : Program) (name : List ℕ) (p : Policy) → policy_named program name ≡ Some p →
     (r : Refusal) → IsReason program.fields program.topo p r → IsRefused program name r
-reason_named program name p named NoPolicy e = absurd (seen_named program.fields.tag program.topo p e)
+reason_named program name p named NoPolicy e = absurd (static_refusal_named program.fields.tag program.topo p e)
 reason_named program name p named NoTag e = (p, named, e)
 reason_named program name p named TagUsed e = (p, named, e)
 reason_named program name p named LooseDup e = (p, named, e)

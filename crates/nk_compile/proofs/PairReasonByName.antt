@@ -4,7 +4,7 @@ use Rattle.nk_policy.specs.Policy.{Policy}
 use Rattle.nk_names.specs.declared.Program.{Program}
 use Rattle.nk_names.specs.Accepted.{IsAccepted}
 use Rattle.nk_names.specs.Named.{policy_named}
-use Rattle.nk_names.specs.ProgramOf.{said_by}
+use Rattle.nk_names.specs.ProgramOf.{program_by}
 use Rattle.nk_names.proofs.Alike.{fields_alike, topo_alike, named_alike, one_policy}
 use Rattle.nk_compile.specs.declared.refusal.Refusal.{Refusal}
 use Rattle.nk_compile.specs.declared.refusal.Refusal.TheVariants.{NoPolicy, NoTag, TagUsed, LooseDup, SwitchSet, NoSuchLink, OffEdge, TooManyTags}
@@ -29,7 +29,7 @@ why_pair program old new NoSuchLink h = inr h
 why_pair program old new (OffEdge start history) h = inr h
 why_pair program old new (TooManyTags found) h = inr h
 
-module _ (program other : Program) (same : said_by program ≡ said_by other) (old new : List ℕ) where
+module _ (program other : Program) (same : program_by program ≡ program_by other) (old new : List ℕ) where
   -- two policies are not none
   named : (p q : Policy) → policy_named program old ≡ Some p → policy_named program new ≡ Some q
       → (policy_named other old ≡ None) ⊎ (policy_named other new ≡ None) → ⊥

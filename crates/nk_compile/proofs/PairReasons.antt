@@ -8,7 +8,7 @@ use Rattle.nk_names.specs.Accepted.{IsStartPacket, IsCompilable, most_tags}
 use Rattle.nk_compile.specs.declared.refusal.Refusal.{Refusal}
 use Rattle.nk_compile.specs.declared.refusal.Refusal.TheVariants.{NoPolicy, NoTag, TagUsed, LooseDup, SwitchSet, NoSuchLink, OffEdge, TooManyTags}
 use Rattle.nk_compile.specs.PairAnswers.{FitTogether, IsUnopposed, IsPairReason}
-use Rattle.nk_compile.specs.Refusals.{seen_for, found_from, IsReason}
+use Rattle.nk_compile.specs.Refusals.{static_refusal_for, found_from, IsReason}
 use Rattle.nk_compile.proofs.PairTags.{at_most_these}
 use Rattle.nk_compile.proofs.Reasons.{none_some, no_reason, one_reason}
 use Rattle.nk_compile.proofs.TooMany.{least_fits_most}
@@ -33,7 +33,7 @@ module _ (fields : FieldTable) (topo : Topology) (p q : Policy) where
 
   pair_kind : (r : Refusal) → IsPairReason fields topo p q r → OfOld r ⊎ (OfNew r ⊎ OfBoth r)
   pair_kind NoPolicy h = absurd h
-  pair_kind NoTag h = inl (ap (λ o. seen_for o topo p) h, λ found e. cc)
+  pair_kind NoTag h = inl (ap (λ o. static_refusal_for o topo p) h, λ found e. cc)
   pair_kind TagUsed h = early TagUsed (λ found e. cc) h
   pair_kind LooseDup h = early LooseDup (λ found e. cc) h
   pair_kind SwitchSet h = early SwitchSet (λ found e. cc) h

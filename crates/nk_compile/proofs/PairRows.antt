@@ -1,4 +1,4 @@
--- The tables of an old and a new policy, the new one's tags numbered behind the old one's, can be planned.
+-- The tables of an old and a new policy, the new one's tags numbered after the old one's, can be planned.
 use Rattle.std.proofs.Common.{◌≡◌, ◌≢◌, ℕ, zero, suc, ◌+◌, ◌<◌, ◌≤◌, ◌⊎◌, Bool, true, false, cond, inl, inr, ⊎_elim, Some, List, [], ◌∷◌, length, refl, sym, ap, subst, ◌∙◌, arith}
 use Rattle.std.specs.Prelude.{◌==◌, map, slice_index, All, Contains}
 use Rattle.std.proofs.lemmas.Bool.Decides.{nat_tests}
@@ -14,15 +14,15 @@ use Rattle.nk_table.specs.declared.Group.{Group}
 use Rattle.nk_table.specs.declared.Row.{Row}
 use Rattle.nk_table.specs.declared.Table.{Table}
 use Rattle.nk_table.specs.declared.Tables.{Tables}
-use Rattle.nk_table.specs.Rules.{rows_of, groups_of}
+use Rattle.nk_table.specs.Rules.{rows_of, groups_at_switch}
 use Rattle.nk_extract.specs.RuleTree.{rows_for}
 use Rattle.nk_group.specs.Groups as grouping
 use Rattle.nk_update.specs.Plans.{pair_of, place_of, tag_digits, asked_of, HasOldTag, HasNewTag, NamesOneOf, AreNumberedFrom, NumbersInOrder, HasRowsWhereDeclared, IsPlannable}
 use Rattle.nk_compile.specs.Counted.{HasTagSets}
-use Rattle.nk_compile.specs.NumberedBehind.{tags_behind, IsTableBehind}
+use Rattle.nk_compile.specs.NumberedAfter.{tags_after, IsTableAfter}
 use Rattle.nk_compile.specs.PrintedTable.{IsTreeOfTag}
 use Rattle.nk_compile.specs.WholeTable.{HasRowsAt, TagTree, rows_of_trees, IsSwitchTable, IsTableOf}
-use Rattle.nk_compile.proofs.Behind.{from_behind, behind_none}
+use Rattle.nk_compile.proofs.After.{from_after, after_none}
 use Rattle.nk_compile.proofs.FewTags.{tags_fit}
 use Rattle.nk_compile.proofs.PairTags.{at_most_these, declared_place}
 use Rattle.nk_compile.proofs.PrintedRows.{plain_asks, plain_of, groups_in_order, rows_name_groups}
@@ -32,11 +32,11 @@ use Rattle.nk_compile.proofs.PrintedRows.{plain_asks, plain_of, groups_in_order,
 -- what holds of no rows and groups, and of each table's, holds of each switch's
 at_switch :
     (P : List Row → List Group → Type 0) (ts : List Table) → P [] [] → ((u : Table) → In ts u → P u.rows u.groups) → (sw : ℕ)
-    → P (rows_of ts sw) (groups_of ts sw)
+    → P (rows_of ts sw) (groups_at_switch ts sw)
 at_switch P [] none each sw = none
 at_switch P (u ∷ us) none each sw = by (u.switch == sw) (each u (inl refl)) (at_switch P us none (λ v i. each v (inr i)) sw)
   where
-    by : (b : Bool) → P u.rows u.groups → P (rows_of us sw) (groups_of us sw) → P (cond b u.rows (rows_of us sw)) (cond b u.groups (groups_of us sw))
+    by : (b : Bool) → P u.rows u.groups → P (rows_of us sw) (groups_at_switch us sw) → P (cond b u.rows (rows_of us sw)) (cond b u.groups (groups_at_switch us sw))
     by true here later = here
     by false here later = later
 
@@ -59,16 +59,16 @@ no_rows (u ∷ us) sw h = by (u.switch == sw) refl (no_rows us sw (λ i. h (inr 
 abbrev InOrder : List Row → List Group → Type 0
 InOrder rs gs = AreNumberedFrom 1 gs × All (λ (r : Row). NamesOneOf (length gs) r.target) rs
 
-module _ (first : ℕ) (fields : FieldTable) (topo : Topology) (Start : List ℕ → Type 0) (p : Policy) (t : Tables) (table : IsTableBehind first fields topo Start p t) where
+module _ (first : ℕ) (fields : FieldTable) (topo : Topology) (Start : List ℕ → Type 0) (p : Policy) (t : Tables) (table : IsTableAfter first fields topo Start p t) where
   abbrev tags : List (List ℕ)
-  tags = tags_behind first table.tags
+  tags = tags_after first table.tags
 
   -- a tag has rows where it is 0, or one of the policy's own
   own_tag : (sw v : ℕ) → HasRowsAt p tags sw v → (v ≡ 0) ⊎ ((first < v) × (v ≤ first + length table.tags))
   own_tag sw zero h = inl refl
   own_tag sw (suc i) h =
       let some : h.0 ≢ [] = λ e. in_from_contains [] h.1 (subst (λ s. Contains s h.1) e h.3) in
-      let b = from_behind first table.tags i h.0 some h.2 in
+      let b = from_after first table.tags i h.0 some h.2 in
       let inside : b.0 < length table.tags = slice_get_within table.tags b.0 h.0 b.2 in
       let place : i ≡ first + b.0 = b.1 in
       inr (omega (arith, place), omega (arith, place, inside))
@@ -111,7 +111,7 @@ module _ (first : ℕ) (fields : FieldTable) (topo : Topology) (Start : List ℕ
             all_from_members (λ (r : Row). NamesOneOf (length (grouping.groups_of ps)) r.target) (grouping.rows_after [] ps) (rows_name_groups ps),
           ))
 
-      both : (sw : ℕ) → InOrder (rows_of t.tables sw) (groups_of t.tables sw)
+      both : (sw : ℕ) → InOrder (rows_of t.tables sw) (groups_at_switch t.tables sw)
       both sw =
           at_switch InOrder t.tables (tt, all_from_members (λ (r : Row). NamesOneOf 0 r.target) [] (λ r i. absurd i))
           (λ u i. of_table u (members_from_all (IsSwitchTable fields table.tag p tags) t.tables table.each u i)) sw
@@ -126,29 +126,29 @@ module _ (first : ℕ) (fields : FieldTable) (topo : Topology) (Start : List ℕ
 pub pair_plannable :
     (fields : FieldTable) (topo : Topology) (p q : Policy) (o n : Tables) (k : ℕ)
     → HasTagSets fields topo p k
-    → IsTableOf fields topo (IsStartPacket fields topo) p o → IsTableBehind k fields topo (IsStartPacket fields topo) q n
+    → IsTableOf fields topo (IsStartPacket fields topo) p o → IsTableAfter k fields topo (IsStartPacket fields topo) q n
     → IsPlannable (pair_of o n k)
 pair_plannable fields topo p q o n k counted old new = record {
   fields = new.same_fields ∙ sym old.same_fields;
   topo = new.same_topology ∙ sym old.same_topology;
   tag = ap (λ (i : FieldTable). i.tag) old.same_fields ∙ old.tag_declared ∙ ap (λ m. Some m) (sym (declared_place fields o old.tag old.same_fields old.tag_declared));
   old_rows = λ sw. all_from_members (HasOldTag (pair_of o n k)) (rows_of o.tables sw) (λ r i.
-      let a = rows_ask 0 fields topo (IsStartPacket fields topo) p o old_behind sw r i in
-      (a.0, asks old_behind.tag (declared_place fields o old_behind.tag old.same_fields old_behind.tag_declared) r a.0 a.1, ⊎_elim (λ e. omega (arith, e)) (λ h. let high = h.1 in let le = fit in omega (arith, high, le)) a.2));
+      let a = rows_ask 0 fields topo (IsStartPacket fields topo) p o old_after sw r i in
+      (a.0, asks old_after.tag (declared_place fields o old_after.tag old.same_fields old_after.tag_declared) r a.0 a.1, ⊎_elim (λ e. omega (arith, e)) (λ h. let high = h.1 in let le = fit in omega (arith, high, le)) a.2));
   new_rows = λ sw. all_from_members (HasNewTag (pair_of o n k)) (rows_of n.tables sw) (λ r i.
       let a = rows_ask k fields topo (IsStartPacket fields topo) q n new sw r i in
       (a.0, asks new.tag (declared_place fields o new.tag old.same_fields new.tag_declared) r a.0 a.1, ⊎_elim (λ e. inl e) (λ h. inr h.0) a.2));
-  old_numbers = numbers_in_order 0 fields topo (IsStartPacket fields topo) p o old_behind;
+  old_numbers = numbers_in_order 0 fields topo (IsStartPacket fields topo) p o old_after;
   new_numbers = numbers_in_order k fields topo (IsStartPacket fields topo) q n new;
-  old_switches = rows_where_declared 0 fields topo (IsStartPacket fields topo) p o old_behind;
+  old_switches = rows_where_declared 0 fields topo (IsStartPacket fields topo) p o old_after;
   new_switches = rows_where_declared k fields topo (IsStartPacket fields topo) q n new;
 }
   where
-    old_behind : IsTableBehind 0 fields topo (IsStartPacket fields topo) p o
-    old_behind = behind_none fields topo (IsStartPacket fields topo) p o old
+    old_after : IsTableAfter 0 fields topo (IsStartPacket fields topo) p o
+    old_after = after_none fields topo (IsStartPacket fields topo) p o old
 
-    fit : length old_behind.tags ≤ k
-    fit = tags_fit p (IsStartPacket fields topo) old_behind.tags k old_behind.in_order (at_most_these fields topo p k counted)
+    fit : length old_after.tags ≤ k
+    fit = tags_fit p (IsStartPacket fields topo) old_after.tags k old_after.in_order (at_most_these fields topo p k counted)
 
     -- in the words of plans
     asks :

@@ -1,4 +1,4 @@
--- The copies that cross links by the tables of an old and a new policy, the new one's tags numbered behind the old one's, have
+-- The copies that cross links by the tables of an old and a new policy, the new one's tags numbered after the old one's, have
 -- tags of their own.
 use Rattle.std.proofs.Common.{◌≡◌, ℕ, suc, ◌+◌, ◌<◌, ◌≤◌, Some, List, length, sym, ap, subst, ◌∙◌, arith}
 use Rattle.std.specs.Prelude.{All, slice_index}
@@ -15,9 +15,9 @@ use Rattle.nk_table.specs.Hops.{Copy, waiting}
 use Rattle.nk_update.specs.Plans.{pair_of, place_of}
 use Rattle.nk_update.specs.Tags.{IsEntering, HaveTheirTags}
 use Rattle.nk_compile.specs.Counted.{HasTagSets}
-use Rattle.nk_compile.specs.NumberedBehind.{IsTableBehind}
+use Rattle.nk_compile.specs.NumberedAfter.{IsTableAfter}
 use Rattle.nk_compile.specs.WholeTable.{IsTableOf}
-use Rattle.nk_compile.proofs.Behind.{behind_none}
+use Rattle.nk_compile.proofs.After.{after_none}
 use Rattle.nk_compile.proofs.Printed.{Asked, crossing_tags}
 
 -- a policy has at most as many tag sets as there are
@@ -45,7 +45,7 @@ pub pair_tags :
     → HasDistinct p → IsInRange p fields → IsCompilable fields topo p
     → HasDistinct q → IsInRange q fields → IsCompilable fields topo q
     → HasTagSets fields topo p k
-    → IsTableOf fields topo (IsStartPacket fields topo) p o → IsTableBehind k fields topo (IsStartPacket fields topo) q n
+    → IsTableOf fields topo (IsStartPacket fields topo) p o → IsTableAfter k fields topo (IsStartPacket fields topo) q n
     → HaveTheirTags (pair_of o n k)
 pair_tags fields topo p q o n k fields_ok links_ok p_distinct p_range p_compilable q_distinct q_range q_compilable counted old new = record {
   old = λ j pk enters.
@@ -74,7 +74,7 @@ pair_tags fields topo p q o n k fields_ok links_ok p_distinct p_range p_compilab
     starts pk h = entering_starts fields topo o old.same_fields old.same_topology pk h
 
     old_asked : Asked 0 p o fields topo
-    old_asked = (fields_ok, links_ok, p_distinct, p_range, p_compilable, behind_none fields topo (IsStartPacket fields topo) p o old)
+    old_asked = (fields_ok, links_ok, p_distinct, p_range, p_compilable, after_none fields topo (IsStartPacket fields topo) p o old)
 
     new_asked : Asked k q n fields topo
     new_asked = (fields_ok, links_ok, q_distinct, q_range, q_compilable, new)

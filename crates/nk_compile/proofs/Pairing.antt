@@ -21,14 +21,14 @@ use Rattle.nk_compile.specs.declared.refusal.Refusal.TheVariants.{NoPolicy, NoTa
 use Rattle.nk_compile.specs.Counted.{HasTagSets}
 use Rattle.nk_compile.specs.Levelled.{IsTagFault}
 use Rattle.nk_compile.specs.MadePair.{IsMadePair, IsPairError}
-use Rattle.nk_compile.specs.NumberedBehind.{IsTableBehind}
+use Rattle.nk_compile.specs.NumberedAfter.{IsTableAfter}
 use Rattle.nk_compile.specs.PairAnswers.{IsUnopposed, IsPairReason, IsPairRefused, IsPairAnswer}
 use Rattle.nk_compile.specs.Preparing.{IsPrepared, IsEarlyError}
 use Rattle.nk_compile.proofs.Levelled.{prepared_unopposed, prepared_many, prepared_least, prepared_compilable, prepared_counted, prepared_few}
 use Rattle.nk_compile.proofs.Padding.{table_alone}
 use Rattle.nk_compile.proofs.PairRows.{pair_plannable}
 use Rattle.nk_compile.proofs.PairTags.{pair_tags}
-use Rattle.nk_compile.proofs.Printed.{accepted_carries, accepted_behind_carries}
+use Rattle.nk_compile.proofs.Printed.{accepted_carries, accepted_after_carries}
 
 module _ (fields : FieldTable) (topo : Topology) (p q : Policy) where
   -- what stands against the old policy
@@ -113,7 +113,7 @@ module _ (fields : FieldTable) (topo : Topology) (old_tag new_tag : ℕ) (p q : 
 
     -- where they fit, the tables are those of both
     pub pair_made : (s : List ℕ) → AreNumbers b.sets b.levels.levels s → max ≡ slice_index fields.maxima new_tag → first + length s ≤ max → (t : TablePair) → t.old_tags ≡ first →
-        IsTableBehind 0 fields topo (IsStartPacket fields topo) p t.old → IsTableBehind first fields topo (IsStartPacket fields topo) q t.new → IsMadePair fields topo p q t
+        IsTableAfter 0 fields topo (IsStartPacket fields topo) p t.old → IsTableAfter first fields topo (IsStartPacket fields topo) q t.new → IsMadePair fields topo p q t
     pair_made s more same few t count old new = record {
       compilable_old = prepared_compilable fields topo old_tag p a k;
       compilable_new = prepared_compilable fields topo new_tag q b l;
@@ -128,7 +128,7 @@ module _ (fields : FieldTable) (topo : Topology) (old_tag new_tag : ℕ) (p q : 
       );
       old_tags = subst (λ n. HasTagSets fields topo p n) (sym (count ∙ is)) (prepared_counted fields topo old_tag p a k r numbers);
       printed_old = table_alone fields topo (IsStartPacket fields topo) p t.old old;
-      printed_new = subst (λ n. IsTableBehind n fields topo (IsStartPacket fields topo) q t.new) (sym count) new;
+      printed_new = subst (λ n. IsTableAfter n fields topo (IsStartPacket fields topo) q t.new) (sym count) new;
     }
 
 -- the reason for two policies is that for their names
@@ -164,7 +164,7 @@ pair_named program old new p q (Ok r) ok m n made error =
       printed_old = made.printed_old;
       printed_new = made.printed_new;
       carries_old = accepted_carries program old p r.old ok m accepted_old made.printed_old;
-      carries_new = accepted_behind_carries program new r.old_tags q r.new ok n accepted_new made.printed_new;
+      carries_new = accepted_after_carries program new r.old_tags q r.new ok n accepted_new made.printed_new;
       plannable = pair_plannable program.fields program.topo p q r.old r.new r.old_tags made.old_tags made.printed_old made.printed_new;
       tags = pair_tags program.fields program.topo p q r.old r.new r.old_tags ok.table ok.topology.links
           (numbered_distinct p 1 is_old.numbered) is_old.in_range made.compilable_old

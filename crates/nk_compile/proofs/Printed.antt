@@ -1,4 +1,4 @@
--- The printed table of a compilable policy carries it, whatever tags its own are numbered behind.
+-- The printed table of a compilable policy carries it, whatever tags its own are numbered after.
 use Rattle.std.proofs.Common.{◌≡◌, ℕ, suc, ◌+◌, ◌<◌, ◌≤◌, Some, List, length, sym, subst, ◌∙◌, arith}
 use Rattle.std.specs.Prelude.{All, slice_index}
 use Rattle.std.proofs.lemmas.Option.{slice_get_within}
@@ -17,10 +17,10 @@ use Rattle.nk_names.specs.ProgramValue.{IsLet, IsProgram}
 use Rattle.nk_names.proofs.Named.{let_named}
 use Rattle.nk_table.specs.declared.Tables.{Tables}
 use Rattle.nk_table.specs.Hops.{Copy, waiting}
-use Rattle.nk_compile.specs.NumberedBehind.{tags_behind, IsTableBehind}
+use Rattle.nk_compile.specs.NumberedAfter.{tags_after, IsTableAfter}
 use Rattle.nk_compile.specs.WholeTable.{IsTableOf}
 use Rattle.nk_compile.specs.Carries.{Carries}
-use Rattle.nk_compile.proofs.Behind.{from_behind, stand_behind, behind_none}
+use Rattle.nk_compile.proofs.After.{from_after, stand_after, after_none}
 use Rattle.nk_compile.proofs.FewTags.{tags_fit}
 use Rattle.nk_compile.proofs.Reached.{Setting, same_some}
 use Rattle.nk_compile.proofs.TagPlaces.{tags_stand}
@@ -28,7 +28,7 @@ use Rattle.nk_compile.proofs.RowsFor.{own_numbering}
 use Rattle.nk_compile.proofs.Carried.{Leaving, leaving_by}
 use Rattle.nk_compile.proofs.Waits.{crossed_number}
 
--- what is asked of fields, topology, policy and tables, whose tags are numbered behind the first ones
+-- what is asked of fields, topology, policy and tables, whose tags are numbered after the first ones
 abbrev pub Asked : ℕ → Policy → Tables → FieldTable → Topology → Type 0
 Asked first p t fields topo =
     IsFieldTable fields
@@ -36,7 +36,7 @@ Asked first p t fields topo =
     × HasDistinct p
     × IsInRange p fields
     × IsCompilable fields topo p
-    × IsTableBehind first fields topo (IsStartPacket fields topo) p t
+    × IsTableAfter first fields topo (IsStartPacket fields topo) p t
 
 -- from each start, after each number of crossings
 record Facts (first : ℕ) (p : Policy) (t : Tables) (fields : FieldTable) (topo : Topology) : Type 0 where
@@ -47,10 +47,10 @@ record Facts (first : ℕ) (p : Policy) (t : Tables) (fields : FieldTable) (topo
       → All (λ (c : Copy). (first < slice_index c.packet tag) × (slice_index c.packet tag ≤ first + most)) (waiting t (suc k) pk)
 
 module _ (first : ℕ) (p : Policy) (t : Tables) (a : Asked first p t t.fields t.topo) where
-  table : IsTableBehind first t.fields t.topo (IsStartPacket t.fields t.topo) p t
+  table : IsTableAfter first t.fields t.topo (IsStartPacket t.fields t.topo) p t
   table = a.5
 
-  setting : Setting t p table.tag (tags_behind first table.tags)
+  setting : Setting t p table.tag (tags_after first table.tags)
   setting = record {
     fields_ok = a.0;
     links_ok = a.1;
@@ -58,13 +58,13 @@ module _ (first : ℕ) (p : Policy) (t : Tables) (a : Asked first p t t.fields t
     in_range = a.3;
     compilable = a.4;
     tag_is = table.tag_declared;
-    stand = stand_behind first p (IsStartPacket t.fields t.topo) table.tags (tags_stand p (IsStartPacket t.fields t.topo) table.tags table.in_order);
+    stand = stand_after first p (IsStartPacket t.fields t.topo) table.tags (tags_stand p (IsStartPacket t.fields t.topo) table.tags table.in_order);
   }
 
   -- over the tables' own fields and topology
   here : Facts first p t t.fields t.topo
   here =
-      let tags = tags_behind first table.tags in
+      let tags = tags_after first table.tags in
       let g = setting in
       let num = own_numbering t p table.tag tags g table.switches table.each in
       record {
@@ -72,7 +72,7 @@ module _ (first : ℕ) (p : Policy) (t : Tables) (a : Asked first p t t.fields t
         cross_tagged = λ tag most declared few k pk start.
             all_from_members (λ (c : Copy). (first < slice_index c.packet tag) × (slice_index c.packet tag ≤ first + most)) (waiting t (suc k) pk) (λ c i.
             let d = crossed_number t p table.tag tags g (λ n. n) num pk start k c i in
-            let b = from_behind first table.tags d.0 d.1 d.3 d.2 in
+            let b = from_after first table.tags d.0 d.1 d.3 d.2 in
             let fit = tags_fit p (IsStartPacket t.fields t.topo) table.tags most table.in_order few in
             let inside : b.0 < length table.tags = slice_get_within table.tags b.0 d.1 b.2 in
             let same : tag ≡ table.tag = same_some tag table.tag (sym declared ∙ table.tag_declared) in
@@ -99,15 +99,15 @@ pub crossing_tags :
     → IsStartPacket fields topo pk
     → All (λ (c : Copy). (first < slice_index c.packet tag) × (slice_index c.packet tag ≤ first + most)) (waiting t (suc k) pk)
 crossing_tags first p t fields topo a =
-    let printed : IsTableBehind first fields topo (IsStartPacket fields topo) p t = a.5 in
+    let printed : IsTableAfter first fields topo (IsStartPacket fields topo) p t = a.5 in
     (facts first p t fields topo printed.same_fields printed.same_topology a).cross_tagged
 
 -- over a program
-pub behind_carries :
+pub after_carries :
     (program : Program) (first : ℕ) (p : Policy) (t : Tables) → IsFieldTable program.fields → AreLinks program.topo
     → HasDistinct p → IsInRange p program.fields → IsCompilable program.fields program.topo p
-    → IsTableBehind first program.fields program.topo (IsStartPacket program.fields program.topo) p t → Carries program p t
-behind_carries program first p t fields_ok links_ok distinct in_range compilable table =
+    → IsTableAfter first program.fields program.topo (IsStartPacket program.fields program.topo) p t → Carries program p t
+after_carries program first p t fields_ok links_ok distinct in_range compilable table =
     let h = (facts first p t program.fields program.topo table.same_fields table.same_topology (fields_ok, links_ok, distinct, in_range, compilable, table)).leave in
     record {
       same_fields = table.same_fields;
@@ -123,22 +123,22 @@ pub printed_carries :
     → HasDistinct p → IsInRange p program.fields → IsCompilable program.fields program.topo p
     → IsTableOf program.fields program.topo (IsStartPacket program.fields program.topo) p t → Carries program p t
 printed_carries program p t fields_ok links_ok distinct in_range compilable table =
-    behind_carries program 0 p t fields_ok links_ok distinct in_range compilable
-    (behind_none program.fields program.topo (IsStartPacket program.fields program.topo) p t table)
+    after_carries program 0 p t fields_ok links_ok distinct in_range compilable
+    (after_none program.fields program.topo (IsStartPacket program.fields program.topo) p t table)
 
 -- of a program's policy that is accepted
-pub accepted_behind_carries :
+pub accepted_after_carries :
     (program : Program) (name : List ℕ) (first : ℕ) (p : Policy) (t : Tables)
     → IsProgram program.fields program.topo program.lets → policy_named program name ≡ Some p → IsAccepted program p
-    → IsTableBehind first program.fields program.topo (IsStartPacket program.fields program.topo) p t → Carries program p t
-accepted_behind_carries program name first p t ok named accepted table =
+    → IsTableAfter first program.fields program.topo (IsStartPacket program.fields program.topo) p t → Carries program p t
+accepted_after_carries program name first p t ok named accepted table =
     let is : IsLet program.fields p = let_named program name p ok named in
-    behind_carries program first p t ok.table ok.topology.links (numbered_distinct p 1 is.numbered) is.in_range accepted.0 table
+    after_carries program first p t ok.table ok.topology.links (numbered_distinct p 1 is.numbered) is.in_range accepted.0 table
 
 pub accepted_carries :
     (program : Program) (name : List ℕ) (p : Policy) (t : Tables)
     → IsProgram program.fields program.topo program.lets → policy_named program name ≡ Some p → IsAccepted program p
     → IsTableOf program.fields program.topo (IsStartPacket program.fields program.topo) p t → Carries program p t
 accepted_carries program name p t ok named accepted table =
-    accepted_behind_carries program name 0 p t ok named accepted
-    (behind_none program.fields program.topo (IsStartPacket program.fields program.topo) p t table)
+    accepted_after_carries program name 0 p t ok named accepted
+    (after_none program.fields program.topo (IsStartPacket program.fields program.topo) p t table)

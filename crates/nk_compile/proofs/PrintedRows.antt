@@ -18,7 +18,7 @@ use Rattle.nk_extract.specs.RuleTree.{Path, PathInterval, is_drop_list, is_drop_
 use Rattle.nk_extract.proofs.Highest.{other_of}
 use Rattle.nk_extract.proofs.Lists.{every_weaker, every_append, every_map, every_flat_map, every_true, every_in, in_filter}
 use Rattle.nk_extract.proofs.Trees.{Tree, with_most_has}
-use Rattle.nk_group.specs.Groups.{taken, target_among, rows_after, lists_after, numbered, groups_of, AreKept}
+use Rattle.nk_group.specs.Groups.{taken, target_in_groups, rows_after, lists_after, numbered, groups_of, AreKept}
 use Rattle.nk_group.proofs.Kept.{groups_keep_buckets}
 use Rattle.nk_update.specs.Plans.{asked_of, NamesOneOf, AreNumberedFrom}
 use Rattle.nk_compile.proofs.Sent.{same_number, other_number}
@@ -134,8 +134,8 @@ in_range m (l ∷ ls) n b bs e = by (m == n) refl e (λ f. in_range (m + 1) ls n
 
 -- a row's target names one of them
 target_in :
-    (all ls : List (List Bucket)) (bs : List Bucket) → buckets_for (numbered 1 all) (target_among ls bs) ≡ bs
-    → NamesOneOf (length (numbered 1 all)) (target_among ls bs)
+    (all ls : List (List Bucket)) (bs : List Bucket) → buckets_for (numbered 1 all) (target_in_groups ls bs) ≡ bs
+    → NamesOneOf (length (numbered 1 all)) (target_in_groups ls bs)
 target_in all ls [] e = tt
 target_in all ls (b ∷ []) e = tt
 target_in all ls (b ∷ c ∷ bs) e =

@@ -206,7 +206,7 @@ module _ (t : Tables) (p : Policy) (tag : ℕ) (tags : List (List ℕ)) (g : Set
         e.1
         (records_keep t.fields p g.in_range pk a.0 a.1 l a.3 start.packet, Kept.records_keep (IsOther tag) (IsZeroAt tag) (others_keep tag) p others pk a.0 a.1 l a.3 zero_pk)
 
-    -- behind an odd list of records, whose set of labels is that of a tag, and one record more
+    -- after an odd list of records, whose set of labels is that of a tag, and one record more
     module _ (n : ℕ) (front : List Packet) (z : Packet) (odd : length (front ++ z ∷ []) ≡ 2 * n + 1) (t2 : ℕ) (N : List ℕ) (get : slice_get tags t2 ≡ Some N) (set : IsLabelSet p pk (front ++ z ∷ []) N) (x : Packet) (l0 : ℕ) (at : HasRecorded p pk ((front ++ z ∷ []) ++ x ∷ []) l0) where
       -- each member of the set is the first dup of a literal at whose source the last of them is
       source :
@@ -293,8 +293,8 @@ module _ (t : Tables) (p : Policy) (tag : ℕ) (tags : List (List ℕ)) (g : Set
           ∙ get_or-set_same z 0 first.0.to_switch 0 long
 
       -- a crossing's end is reached under the tag
-      pub reached_behind : Reached t p tag tags pk (suc n) ((front ++ z ∷ []) ++ x ∷ []) (suc t2) x
-      reached_behind =
+      pub reached_after : Reached t p tag tags pk (suc n) ((front ++ z ∷ []) ++ x ∷ []) (suc t2) x
+      reached_after =
           let m = some_member N set.0 in
           let i = literal m.0 m.1 in
           let here = recorded (front ++ z ∷ []) x l0 at in
@@ -323,7 +323,7 @@ module _ (t : Tables) (p : Policy) (tag : ℕ) (tags : List (List ℕ)) (g : Set
 
 -- ---- under a tag
 
--- a packet is met under the tag: it starts, under tag 0, or it stands behind records with the tag's set
+-- a packet is met under the tag: it starts, under tag 0, or it stands after records with the tag's set
 abbrev pub Under : Tables → Policy → List (List ℕ) → ℕ → Packet → Type 0
 Under t p tags zero x = IsStartPacket t.fields t.topo x
 Under t p tags (suc i) x = (labels : List ℕ) × (slice_get tags i ≡ Some labels) × IsMetUnder p (IsStartPacket t.fields t.topo) labels x
@@ -344,16 +344,16 @@ come t p tag tags g zero x h = record {
   records = [];
   reached = reached_first t p tag tags g x h;
 }
-come t p tag tags g (suc i) x h = behind h.2.1 h.2.4 h.2.5 h.2.7
+come t p tag tags g (suc i) x h = following h.2.1 h.2.4 h.2.5 h.2.7
   where
-    behind : (u : List Packet) → length u ≡ 2 * h.2.2 + 1 → IsLabelSet p h.2.0 u h.0 → HasRecorded p h.2.0 (u ++ x ∷ []) h.2.6 → Come t p tag tags (suc i) x
-    behind [] odd set at = absurd (omega (arith, odd))
-    behind (y ∷ u) odd set at =
+    following : (u : List Packet) → length u ≡ 2 * h.2.2 + 1 → IsLabelSet p h.2.0 u h.0 → HasRecorded p h.2.0 (u ++ x ∷ []) h.2.6 → Come t p tag tags (suc i) x
+    following [] odd set at = absurd (omega (arith, odd))
+    following (y ∷ u) odd set at =
         let c = last_of_list y u in
         record {
           from = h.2.0;
           start = h.2.3;
           crossings = suc h.2.2;
           records = (c.0 ++ c.1 ∷ []) ++ x ∷ [];
-          reached = reached_behind t p tag tags g h.2.0 h.2.3 h.2.2 c.0 c.1 (sym (ap length c.2) ∙ odd) i h.0 h.1 (subst (λ v. IsLabelSet p h.2.0 v h.0) c.2 set) x h.2.6 (subst (λ v. HasRecorded p h.2.0 (v ++ x ∷ []) h.2.6) c.2 at);
+          reached = reached_after t p tag tags g h.2.0 h.2.3 h.2.2 c.0 c.1 (sym (ap length c.2) ∙ odd) i h.0 h.1 (subst (λ v. IsLabelSet p h.2.0 v h.0) c.2 set) x h.2.6 (subst (λ v. HasRecorded p h.2.0 (v ++ x ∷ []) h.2.6) c.2 at);
         }

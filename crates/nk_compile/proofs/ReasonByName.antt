@@ -4,7 +4,7 @@ use Rattle.nk_field.specs.Packet.{FieldTable}
 use Rattle.nk_topo.specs.Topology.{Topology}
 use Rattle.nk_policy.specs.Policy.{Policy}
 use Rattle.nk_names.specs.declared.Program.{Program}
-use Rattle.nk_names.specs.ProgramOf.{said_by}
+use Rattle.nk_names.specs.ProgramOf.{program_by}
 use Rattle.nk_names.proofs.Alike.{fields_alike, topo_alike, named_alike, one_policy}
 use Rattle.nk_compile.specs.declared.refusal.Refusal.{Refusal}
 use Rattle.nk_compile.specs.Refusals.{IsReason, IsRefused}
@@ -15,7 +15,7 @@ use Rattle.nk_compile.proofs.Reasons.{none_some, no_reason, one_reason, why}
 pub alike : (P : FieldTable → Topology → Policy → Type 0) (f g : FieldTable) (t u : Topology) (p q : Policy) → f ≡ g → t ≡ u → p ≡ q → P f t p → P g u q
 alike P f g t u p q e d s h = subst (λ z. P g u z) s (subst (λ z. P g z p) d (subst (λ z. P z t p) e h))
 
-module _ (program other : Program) (same : said_by program ≡ said_by other) (name : List ℕ) where
+module _ (program other : Program) (same : program_by program ≡ program_by other) (name : List ℕ) where
   -- a name that is accepted isn't refused
   pub never_refused : (r : Refusal) → IsAcceptedByName program name → IsRefused other name r → ⊥
   never_refused r a h =

@@ -15,8 +15,8 @@ use Rattle.nk_names.specs.Accepted.{IsStartPacket, IsCompilable, is_link_outside
 use Rattle.nk_compile.specs.declared.refusal.Refusal.{Refusal}
 use Rattle.nk_compile.specs.declared.refusal.Refusal.TheVariants.{NoPolicy, NoTag, TagUsed, LooseDup, SwitchSet, NoSuchLink, OffEdge, TooManyTags}
 use Rattle.nk_compile.specs.OffEdge.{EndsOffEdge, EndsOnEdges}
-use Rattle.nk_sight.specs.declared.sight.Sight.TheVariants as sight
-use Rattle.nk_compile.specs.Refusals.{refusal_of, seen_for, seen, found_from, IsReason, IsRefused}
+use Rattle.nk_static.specs.declared.faults.StaticFault.TheVariants as static_kind
+use Rattle.nk_compile.specs.Refusals.{refusal_of, static_refusal_for, static_refusal, found_from, IsReason, IsRefused}
 use Rattle.nk_compile.proofs.Orders.{one_least}
 use Rattle.nk_compile.proofs.TooMany.{never_more}
 
@@ -29,7 +29,7 @@ none_some a e = cc
 
 -- where no test passes nothing is seen
 none_of : (a b c d : Bool) → a ≡ false → b ≡ false → c ≡ false → d ≡ false
-    → ◌≡◌ {A = Option Refusal} (option_map refusal_of (if a then Some sight.TagUsed else if b then Some sight.LooseDup else if c then Some sight.SwitchSet else if d then Some sight.NoSuchLink else None)) None
+    → ◌≡◌ {A = Option Refusal} (option_map refusal_of (if a then Some static_kind.TagUsed else if b then Some static_kind.LooseDup else if c then Some static_kind.SwitchSet else if d then Some static_kind.NoSuchLink else None)) None
 none_of true b c d e f g h = absurd cc
 none_of false true c d e f g h = absurd cc
 none_of false false true d e f g h = absurd cc
@@ -37,22 +37,22 @@ none_of false false false true e f g h = absurd cc
 none_of false false false false e f g h = refl
 
 -- nothing is seen of a compilable policy
-pub unseen : (fields : FieldTable) (topo : Topology) (p : Policy) → IsCompilable fields topo p → seen fields topo p ≡ None
+pub unseen : (fields : FieldTable) (topo : Topology) (p : Policy) → IsCompilable fields topo p → static_refusal fields topo p ≡ None
 unseen fields topo p c =
-    ap (λ o. seen_for o topo p) c.tag_declared
+    ap (λ o. static_refusal_for o topo p) c.tag_declared
     ∙ none_of (has_leaf (is_on_field c.tag) p) (has_leaf is_dup p) (has_leaf is_switch_assignment p) (has_leaf (is_link_outside topo.links) p) c.tag_free c.dups_in_links c.switch_in_links c.links_declared
 
 module _ (fields : FieldTable) (topo : Topology) (p : Policy) where
   -- the three kinds of reason: what is seen, a history off each edge port, too many tag sets
   abbrev pub IsOff : Refusal → Type 0
   IsOff r =
-      (start : Packet) × (history : History) × (r ≡ OffEdge start history) × (seen fields topo p ≡ None) × IsLeast (EndsOffEdge fields topo p) (found_from start history)
+      (start : Packet) × (history : History) × (r ≡ OffEdge start history) × (static_refusal fields topo p ≡ None) × IsLeast (EndsOffEdge fields topo p) (found_from start history)
 
   abbrev pub IsTooMany : Refusal → Type 0
   IsTooMany r =
       (found : ℕ) × (r ≡ TooManyTags found) × IsReason fields topo p (TooManyTags found)
 
-  kind_of : (r : Refusal) → IsReason fields topo p r → (seen fields topo p ≡ Some r) ⊎ (IsOff r ⊎ IsTooMany r)
+  kind_of : (r : Refusal) → IsReason fields topo p r → (static_refusal fields topo p ≡ Some r) ⊎ (IsOff r ⊎ IsTooMany r)
   kind_of NoPolicy h = inl h
   kind_of NoTag h = inl h
   kind_of TagUsed h = inl h
@@ -90,7 +90,7 @@ module _ (fields : FieldTable) (topo : Topology) (p : Policy) where
   pub one_reason : (r s : Refusal) → IsReason fields topo p r → IsReason fields topo p s → r ≡ s
   one_reason r s h k = by (kind_of r h) (kind_of s k)
     where
-      by : (seen fields topo p ≡ Some r) ⊎ (IsOff r ⊎ IsTooMany r) → (seen fields topo p ≡ Some s) ⊎ (IsOff s ⊎ IsTooMany s) → r ≡ s
+      by : (static_refusal fields topo p ≡ Some r) ⊎ (IsOff r ⊎ IsTooMany r) → (static_refusal fields topo p ≡ Some s) ⊎ (IsOff s ⊎ IsTooMany s) → r ≡ s
       by (inl a) (inl b) = reason_is r s (sym a ∙ b)
       by (inl a) (inr (inl b)) = absurd (none_some r (sym b.3 ∙ a))
       by (inl a) (inr (inr b)) = absurd (none_some r (sym b.2.0 ∙ a))

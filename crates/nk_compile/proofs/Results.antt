@@ -19,7 +19,7 @@ use Rattle.nk_policy.proofs.DupsOfRuns.{rest_dups}
 use Rattle.nk_policy.proofs.Splitting.{holds_dup}
 use Rattle.nk_policy.proofs.LinkStructure.{holds_second}
 use Rattle.nk_store.specs.Diagram.{IsReduced, leaf_at}
-use Rattle.nk_store.specs.Held.{Held, IsPacket as IsPacketOf}
+use Rattle.nk_store.specs.StoreState.{StoreState, IsStorePacket as IsPacketOf}
 use Rattle.nk_store.proofs.InRange.{packet_in_range}
 use Rattle.nk_determ.specs.States.{StateLeads}
 use Rattle.nk_extract.specs.Buckets.{AreBuckets}
@@ -56,7 +56,7 @@ set_contained ss tags t lt = contains_from_in _ _ (there tags t lt)
     there (x ∷ is) zero l = inl refl
     there (x ∷ is) (suc i) l = inr (there is i (omega (arith, l)))
 
-module _ (first : ℕ) (fields : FieldTable) (topo : Topology) (tag : ℕ) (p : Policy) (st : Held) (ss : List (List ℕ)) (states tags : List ℕ) (clear : IsClear fields topo tag p) (ready : IsReady first fields topo p st ss states tags)
+module _ (first : ℕ) (fields : FieldTable) (topo : Topology) (tag : ℕ) (p : Policy) (st : StoreState) (ss : List (List ℕ)) (states tags : List ℕ) (clear : IsClear fields topo tag p) (ready : IsReady first fields topo p st ss states tags)
     (tagged : (i : ℕ) → i < length tags → IsTagged p ss tags i) where
   distinct : HasDistinct p
   distinct = numbered_distinct p 1 clear.numbered

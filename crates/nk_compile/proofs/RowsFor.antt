@@ -4,7 +4,7 @@ use Rattle.std.proofs.Common.{◌≡◌, ◌≢◌, ℕ, ◌<◌, ◌≤◌, inl
 use Rattle.std.specs.List.Sorted.{IsStrictlyIncreasing}
 use Rattle.std.specs.Prelude.{◌&&◌, if◌then◌else◌, map, filter, filter_map, All, slice_index, slice_set}
 use Rattle.nk_field.specs.declared.packet.Packet.{Packet}
-use Rattle.nk_field.proofs.Lists.{In, in_from_contains, from_mapped, Apart, apart_from_images, one_of_images, numbers_decided}
+use Rattle.nk_field.proofs.Lists.{In, in_from_contains, from_mapped, NoDup, no_dup_from_images, one_of_images, numbers_decided}
 use Rattle.nk_field.proofs.Ascending.{Rising, rising_from, members_from_all}
 use Rattle.nk_topo.specs.Topology.{SwitchPorts}
 use Rattle.nk_policy.specs.Policy.{Policy}
@@ -13,7 +13,7 @@ use Rattle.nk_table.specs.declared.Tables.{Tables}
 use Rattle.nk_table.specs.declared.Table.{Table}
 use Rattle.nk_table.specs.declared.Bucket.{Bucket}
 use Rattle.nk_table.specs.declared.Plain.{Plain}
-use Rattle.nk_table.specs.Rules.{agrees, agrees_at, rows_of, groups_of, highest, buckets_of_row, sent_by, sent_for}
+use Rattle.nk_table.specs.Rules.{agrees, agrees_at, rows_of, groups_at_switch, highest, buckets_of_row, sent_by, sent_for}
 use Rattle.nk_extract.specs.RuleTree.{exactly, plain_row, rows_for}
 use Rattle.nk_extract.specs.Chosen.{agrees_with, IsTop, rank, matching, Choose}
 use Rattle.nk_extract.proofs.Lists.{filter_none, filter_one}
@@ -29,14 +29,14 @@ use Rattle.nk_compile.proofs.Reached.{Setting, AtState, come, tagged_index}
 use Rattle.nk_compile.proofs.Emitted.{HasBuckets, acts_for}
 
 -- a list that rises has no doubles
-rising_apart : (xs : List ℕ) → Rising xs → Apart xs
-rising_apart [] h = tt
-rising_apart (x ∷ xs) h = (λ i. let lt = h.0 x i in omega (arith, lt), rising_apart xs h.1)
+rising_no_dup : (xs : List ℕ) → Rising xs → NoDup xs
+rising_no_dup [] h = tt
+rising_no_dup (x ∷ xs) h = (λ i. let lt = h.0 x i in omega (arith, lt), rising_no_dup xs h.1)
 
 -- the first table of a switch that has one
 pub table_for :
     (ts : List Table) (sw : ℕ) → In (map (λ (s : Table). s.switch) ts) sw
-    → (table : Table) × In ts table × (table.switch ≡ sw) × (rows_of ts sw ≡ table.rows) × (groups_of ts sw ≡ table.groups)
+    → (table : Table) × In ts table × (table.switch ≡ sw) × (rows_of ts sw ≡ table.rows) × (groups_at_switch ts sw ≡ table.groups)
 table_for [] sw h = absurd h
 table_for (s ∷ ss) sw h =
     ⊎_elim
@@ -45,7 +45,7 @@ table_for (s ∷ ss) sw h =
       inl refl,
       e,
       ap (λ b. if b then s.rows else rows_of ss sw) (same_number s.switch sw e),
-      ap (λ b. if b then s.groups else groups_of ss sw) (same_number s.switch sw e),
+      ap (λ b. if b then s.groups else groups_at_switch ss sw) (same_number s.switch sw e),
     ))
     (λ ne.
     ⊎_elim
@@ -56,7 +56,7 @@ table_for (s ∷ ss) sw h =
       inr r.1,
       r.2,
       ap (λ b. if b then s.rows else rows_of ss sw) (other_number s.switch sw ne) ∙ r.3,
-      ap (λ b. if b then s.groups else groups_of ss sw) (other_number s.switch sw ne) ∙ r.4,
+      ap (λ b. if b then s.groups else groups_at_switch ss sw) (other_number s.switch sw ne) ∙ r.4,
     ))
     h)
     (numbers_decided s.switch sw)
@@ -110,7 +110,7 @@ module _ (t : Tables) (p : Policy) (tag : ℕ) (tags : List (List ℕ)) (g : Set
         → buckets_of_row table.groups (highest [] (filter (agrees M copy) table.rows)) ≡ leaf_at h.own.tree [] x
     chosen table h =
         let rising = rising_from (map (λ (e : TagTree). e.tag) h.trees) h.ascending in
-        let tags_apart = rising_apart (map (λ (e : TagTree). e.tag) h.trees) rising in
+        let tags_apart = rising_no_dup (map (λ (e : TagTree). e.tag) h.trees) rising in
         let e : TagTree = h.own in
         let all : List Plain = rows_of_trees M tag h.trees in
         let lt = (g.fields_ok.tag_past_port tag g.tag_is).1 in
@@ -120,7 +120,7 @@ module _ (t : Tables) (p : Policy) (tag : ℕ) (tags : List (List ℕ)) (g : Set
         let fits : (f : ℕ) → f ≢ tag → slice_index copy f ≤ slice_index M f = λ f ne. subst (λ n. n ≤ slice_index M f) (sym (get_or-set_other x tag f c 0 ne)) (a.packet.within f) in
         let one = rows_give_leaves M tag e.tag e.tree record { reduced = h.reduced; tag_free = h.tag_free } copy record { within = fits; tagged = tagged } in
         let only : filter (λ (r : Plain). agrees_with M copy r.matches) all ≡ filter (λ (r : Plain). agrees_with M copy r.matches) (rows_for M tag e.tag e.tree) =
-        filter_one (λ (r : Plain). agrees_with M copy r.matches) (λ (q : TagTree). rows_for M tag q.tag q.tree) h.trees e (apart_from_images (λ (q : TagTree). q.tag) h.trees tags_apart) h.listed
+        filter_one (λ (r : Plain). agrees_with M copy r.matches) (λ (q : TagTree). rows_for M tag q.tag q.tree) h.trees e (no_dup_from_images (λ (q : TagTree). q.tag) h.trees tags_apart) h.listed
         (λ q i ne. other_number_off M tag copy e.tag tagged q (λ f. ne (one_of_images (λ (r : TagTree). r.tag) h.trees tags_apart q e i h.listed f))) in
         let choose : Choose M all copy (leaf_at e.tree [] copy) = choose_more M copy (rows_for M tag e.tag e.tree) all (leaf_at e.tree [] copy) only one in
         ap (λ rs. buckets_of_row table.groups (highest [] (filter (agrees M copy) rs))) h.rows
@@ -130,12 +130,12 @@ module _ (t : Tables) (p : Policy) (tag : ℕ) (tags : List (List ℕ)) (g : Set
 
     -- so what is sent is that of its buckets
     pub sent_by_leaf :
-        (table : Table) → rows_of t.tables (slice_index x 0) ≡ table.rows → groups_of t.tables (slice_index x 0) ≡ table.groups
+        (table : Table) → rows_of t.tables (slice_index x 0) ≡ table.rows → groups_at_switch t.tables (slice_index x 0) ≡ table.groups
         → (h : HasTree M tag table c) → sent_for t copy ≡ filter_map (sent_by copy) (leaf_at h.own.tree [] x)
     sent_by_leaf table rows groups h =
         let sw : slice_index copy 0 ≡ slice_index x 0 = let lt : 0 < 2 = omega arith in tagged_index t p tag tags g 0 c x lt in
-        ap (λ n. filter_map (sent_by copy) (buckets_of_row (groups_of t.tables n) (highest [] (filter (agrees M copy) (rows_of t.tables n))))) sw
-        ∙ ap (λ rs. filter_map (sent_by copy) (buckets_of_row (groups_of t.tables (slice_index x 0)) (highest [] (filter (agrees M copy) rs)))) rows
+        ap (λ n. filter_map (sent_by copy) (buckets_of_row (groups_at_switch t.tables n) (highest [] (filter (agrees M copy) (rows_of t.tables n))))) sw
+        ∙ ap (λ rs. filter_map (sent_by copy) (buckets_of_row (groups_at_switch t.tables (slice_index x 0)) (highest [] (filter (agrees M copy) rs)))) rows
         ∙ ap (λ gs. filter_map (sent_by copy) (buckets_of_row gs (highest [] (filter (agrees M copy) table.rows)))) groups
         ∙ ap (λ l. filter_map (sent_by copy) l) (chosen table h)
 

@@ -99,7 +99,7 @@ names_differ : AllPairs (λ a b. a ≢ b) (codes "sw" ∷ codes "pt" ∷ codes "
 names_differ =
     distinct_with (codes "sw" ∷ codes "pt" ∷ []) (codes "tag") (distinct_with (codes "sw" ∷ []) (codes "pt") one_name refl) refl
 
--- the tag is a field behind the port
+-- the tag is a field after the port
 tag_place : (f : ℕ) → Some 2 ≡ Some f → (2 ≤ f) × (f < 3)
 tag_place f e = let s : 2 ≡ f = cc in (omega (arith, s), omega (arith, s))
 

@@ -18,7 +18,7 @@ use Rattle.nk_policy.proofs.Uses.{rest_uses}
 use Rattle.nk_policy.proofs.LinkStructure.{between, off_link}
 use Rattle.nk_policy.proofs.LabelSteps.{gives_is_runs}
 use Rattle.nk_policy.proofs.Parity.{no_records}
-use Rattle.nk_store.specs.Held.{Held, IsPacket}
+use Rattle.nk_store.specs.StoreState.{StoreState, IsStorePacket}
 use Rattle.nk_store.proofs.Same.{set_in_range}
 use Rattle.nk_apply.specs.Unions.{AreIds}
 use Rattle.nk_determ.specs.States.{StateLeads}
@@ -27,11 +27,11 @@ use Rattle.nk_switches.specs.States.{StayAt}
 use Rattle.nk_switches.specs.Tagged.{set_of_tag, members_of}
 use Rattle.nk_compile.proofs.TagFree.{uses_others, assigns_only, keeps_field, records_field, ends_stay, first_records_stay}
 
--- what is left at a position behind a dup
+-- what is left at a position after a dup
 pub at_later : (p : Policy) (l : ℕ) → at_position p (l + 1) ≡ after p (l + 1)
 at_later p l = let e : l + 1 ≡ suc l = omega arith in ap (at_position p) e ∙ ap (after p) (sym e)
 
-module _ (st : Held) (states : List ℕ) (p : Policy) (auto : IsAutomaton st states 1 p) where
+module _ (st : StoreState) (states : List ℕ) (p : Policy) (auto : IsAutomaton st states 1 p) where
   -- each is the state of its position
   pub position_state : (l : ℕ) → l < length states → IsState st (get_or states l 0) (at_position p l)
   position_state zero lt = auto.start
@@ -43,7 +43,7 @@ module _ (st : Held) (states : List ℕ) (p : Policy) (auto : IsAutomaton st sta
   pub state_ids : AreIds st states
   state_ids l lt = (position_state l lt).id
 
--- a tag's positions: behind the second dups of literals of the policy
+-- a tag's positions: after the second dups of literals of the policy
 pub record IsTagged (p : Policy) (ss : List (List ℕ)) (tags : List ℕ) (t : ℕ) : Type 0 where
   pub literal : (l : ℕ) → Contains (set_of_tag ss tags t) l → (k : Literal) × HoldsLiteral p k × (k.mark ≡ l)
 
@@ -58,7 +58,7 @@ module _ (p : Policy) (tag : ℕ) (past : 2 ≤ tag) (distinct : HasDistinct p) 
   start_off : IsOffLink p tag p
   start_off = record { between = between p no_dup no_switch; others = uses_others tag past p no_tag }
 
-  -- and so is what is behind a literal
+  -- and so is what is after a literal
   later_off : (k : Literal) → HoldsLiteral p k → IsOffLink p tag (after p (k.mark + 1))
   later_off k h = record {
     between = off_link p distinct no_dup no_switch k h;
@@ -76,10 +76,10 @@ module _ (p : Policy) (tag : ℕ) (past : 2 ≤ tag) (distinct : HasDistinct p) 
       subst (λ n. IsOffLink p tag (at_position p n)) (ap (λ n. n + 1) k.2 ∙ sym m.2)
       (subst (IsOffLink p tag) (sym (at_later p k.0.mark)) (later_off k.0 k.1))
 
-  module _ (st : Held) (states members : List ℕ) (auto : IsAutomaton st states 1 p) (inside : (l : ℕ) → Contains members l → l < length states)
+  module _ (st : StoreState) (states members : List ℕ) (auto : IsAutomaton st states 1 p) (inside : (l : ℕ) → Contains members l → l < length states)
       (off : (l : ℕ) → Contains members l → IsOffLink p tag (at_position p l)) where
     -- a state stays at its switch and keeps the tag
-    keeps_at : (pk y : List ℕ) (t : ℕ) → IsPacket st pk → StateLeads st states members pk y t → (slice_index y 0 ≡ slice_index pk 0) × (slice_index y tag ≡ slice_index pk tag)
+    keeps_at : (pk y : List ℕ) (t : ℕ) → IsStorePacket st pk → StateLeads st states members pk y t → (slice_index y 0 ≡ slice_index pk 0) × (slice_index y tag ≡ slice_index pk tag)
     keeps_at pk y zero r s =
         let o = off s.0 s.1 in
         let g : Gives (at_position p s.0) pk [] y = ((position_state st states p auto s.0 (inside s.0 s.1)).ends pk y r).0 s.2 in
@@ -93,7 +93,7 @@ module _ (p : Policy) (tag : ℕ) (past : 2 ≤ tag) (distinct : HasDistinct p) 
         ((o.between.records pk y (suc t) g).4, records_field tag (at_position p s.0) (assigns_only tag (at_position p s.0) o.others) pk [] y (suc t) g)
 
     -- and does the same for packets that differ in the tag alone
-    free_at : (pk y : List ℕ) (t n : ℕ) → IsPacket st pk → IsPacket st (slice_set pk tag n) → StateLeads st states members pk y t → StateLeads st states members (slice_set pk tag n) (slice_set y tag n) t
+    free_at : (pk y : List ℕ) (t n : ℕ) → IsStorePacket st pk → IsStorePacket st (slice_set pk tag n) → StateLeads st states members pk y t → StateLeads st states members (slice_set pk tag n) (slice_set y tag n) t
     free_at pk y zero n r there s =
         let q = position_state st states p auto s.0 (inside s.0 s.1) in
         (s.0, s.1, (q.ends (slice_set pk tag n) (slice_set y tag n) there).1 (ends_stay tag (at_position p s.0) (off s.0 s.1).others n pk y ((q.ends pk y r).0 s.2)))

@@ -13,7 +13,7 @@ use Rattle.nk_policy.specs.Tags.{IsTagBefore}
 use Rattle.nk_policy.proofs.Numbering.{numbered_distinct}
 use Rattle.nk_policy.proofs.LinkStructure.{holds_first}
 use Rattle.nk_names.specs.Accepted.{IsStartPacket}
-use Rattle.nk_store.specs.Held.{Held}
+use Rattle.nk_store.specs.StoreState.{StoreState}
 use Rattle.nk_table.specs.declared.Table.{Table}
 use Rattle.nk_table.specs.declared.Tables.{Tables}
 use Rattle.nk_switches.specs.declared.stop.Stop.{Stop}
@@ -21,12 +21,12 @@ use Rattle.nk_switches.specs.Matched.{Matched}
 use Rattle.nk_switches.specs.Tagged.{set_of_tag, AreOnce}
 use Rattle.nk_switches.specs.Made.{IsTableAt, IsStop}
 use Rattle.nk_switches.proofs.Matching.{of_second, matched_maps}
-use Rattle.nk_compile.specs.NumberedBehind.{tags_behind, IsTableBehind}
+use Rattle.nk_compile.specs.NumberedAfter.{tags_after, IsTableAfter}
 use Rattle.nk_compile.specs.WholeTable.{HasRowsAt, IsSwitchTable, link_end}
 use Rattle.nk_compile.specs.Ready.{sets_of, IsClear, IsReady}
 use Rattle.nk_compile.specs.Comings.{first_end, ComesTo, HasComing}
 use Rattle.nk_compile.proofs.Standing.{IsTagged}
-use Rattle.nk_compile.proofs.Padding.{behind_in, behind_once}
+use Rattle.nk_compile.proofs.Padding.{following_in, after_once}
 use Rattle.nk_compile.proofs.TagPlaces.{never_itself}
 use Rattle.nk_compile.proofs.Reasons.{none_some}
 use Rattle.nk_compile.proofs.TagSets.{literal_of, one_end}
@@ -45,7 +45,7 @@ some_labels s l c e = in_from_contains [] l (subst (λ z. Contains z l) e c)
 some_end : (ends : List (Option ℕ)) (s : List ℕ) (sw : ℕ) → first_end ends s ≡ Some sw → s ≡ [] → ⊥
 some_end ends s sw h e = absurd (none_some sw (sym (ap (first_end ends) e) ∙ h))
 
-module _ (first : ℕ) (fields : FieldTable) (topo : Topology) (tag : ℕ) (p : Policy) (st : Held) (ss : List (List ℕ)) (states tags : List ℕ) (clear : IsClear fields topo tag p) (ready : IsReady first fields topo p st ss states tags) where
+module _ (first : ℕ) (fields : FieldTable) (topo : Topology) (tag : ℕ) (p : Policy) (st : StoreState) (ss : List (List ℕ)) (states tags : List ℕ) (clear : IsClear fields topo tag p) (ready : IsReady first fields topo p st ss states tags) where
   distinct : HasDistinct p
   distinct = numbered_distinct p 1 clear.numbered
 
@@ -53,8 +53,8 @@ module _ (first : ℕ) (fields : FieldTable) (topo : Topology) (tag : ℕ) (p : 
   tag_set : (i : ℕ) → i < length tags → (set_of_tag ss tags i ≡ [] → ⊥) → IsTagSet p (IsStartPacket fields topo) (set_of_tag ss tags i)
   tag_set i lt some =
       let s = set_of_tag ss tags i in
-      let among : In (tags_behind first ready.sets) s = in_from_contains _ s (subst (λ l. Contains l s) ready.numbered (set_contained ss tags i lt)) in
-      (ready.in_order.exactly s).0 (contains_from_in ready.sets s (behind_in first ready.sets s some among))
+      let among : In (tags_after first ready.sets) s = in_from_contains _ s (subst (λ l. Contains l s) ready.numbered (set_contained ss tags i lt)) in
+      (ready.in_order.exactly s).0 (contains_from_in ready.sets s (following_in first ready.sets s some among))
 
   -- so it has first dups of literals
   pub tagged : (i : ℕ) → i < length tags → IsTagged p ss tags i
@@ -63,13 +63,13 @@ module _ (first : ℕ) (fields : FieldTable) (topo : Topology) (tag : ℕ) (p : 
   }
 
   -- the set at a place
-  set_at : (i : ℕ) → i < length tags → slice_get (tags_behind first ready.sets) i ≡ Some (set_of_tag ss tags i)
+  set_at : (i : ℕ) → i < length tags → slice_get (tags_after first ready.sets) i ≡ Some (set_of_tag ss tags i)
   set_at i lt = subst (λ l. slice_get l i ≡ Some (set_of_tag ss tags i)) ready.numbered (set_there ss tags i lt)
 
   -- no two tags have one set with labels
   pub tags_once : AreOnce ss tags
   tags_once i j a b some e =
-      behind_once (IsTagBefore p (IsStartPacket fields topo)) (never_itself p (IsStartPacket fields topo)) first ready.sets ready.in_order.in_order i j (set_of_tag ss tags i) some
+      after_once (IsTagBefore p (IsStartPacket fields topo)) (never_itself p (IsStartPacket fields topo)) first ready.sets ready.in_order.in_order i j (set_of_tag ss tags i) some
       (set_at i a) (set_at j b ∙ ap (λ n. Some (get_or ss n [])) (sym e))
 
   module _ (ends : List (Option ℕ)) (each : (l : ℕ) → l < length states → get_or ends l None ≡ link_end p l) where
@@ -110,7 +110,7 @@ module _ (first : ℕ) (fields : FieldTable) (topo : Topology) (tag : ℕ) (p : 
 
     -- the tables of all switches
     pub tables_are : (stops : List Stop) (ts : List Table) → map (λ (s : Stop). s.switch) stops ≡ numbers_of topo → All (HasComing ends ss tags (length tags)) stops →
-        Matched (IsTableAt st ss states tags tag) stops ts → (t : Tables) → t.fields ≡ fields → t.topo ≡ topo → t.tables ≡ ts → IsTableBehind first fields topo (IsStartPacket fields topo) p t
+        Matched (IsTableAt st ss states tags tag) stops ts → (t : Tables) → t.fields ≡ fields → t.topo ≡ topo → t.tables ≡ ts → IsTableAfter first fields topo (IsStartPacket fields topo) p t
     tables_are stops ts switches coming m t same_fields same_topology are = record {
       tag = tag;
       tags = ready.sets;

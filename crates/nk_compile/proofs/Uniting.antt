@@ -7,18 +7,18 @@ use Rattle.std.proofs.Math.Seq.{get_or-append_seam}
 use Rattle.std.proofs.lemmas.Bool.Decides.{eqb_tells, leb_tells}
 use Rattle.nk_field.proofs.Lists.{In}
 use Rattle.nk_store.specs.declared.node.Out.{Out}
-use Rattle.nk_store.specs.Held.{Held, IsId, IsWhole, look, Grows}
+use Rattle.nk_store.specs.StoreState.{StoreState, IsId, IsWhole, look, Grows}
 use Rattle.nk_apply.specs.Leaves.{merged}
 use Rattle.nk_apply.specs.Unions.{AreIds, unions}
 use Rattle.nk_apply.proofs.Members.{Has, merged_left, merged_right, merged_has}
 use Rattle.nk_compile.specs.WrongEnds.{end_leaf, wrong_leaf, IsEndOf, AreEndsOf, HaveEndsOf, end_on}
 
 -- and so does a table of them
-pub table_on : (old new : Held) (set : ℕ) (entries : List (ℕ × ℕ)) → Grows old new → IsId old set → AreEndsOf old set entries → AreEndsOf new set entries
+pub table_on : (old new : StoreState) (set : ℕ) (entries : List (ℕ × ℕ)) → Grows old new → IsId old set → AreEndsOf old set entries → AreEndsOf new set entries
 table_on old new set entries g id are state r e = end_on old new set g id state r (are state r e)
 
 -- with one more state
-pub table_put : (st : Held) (set state r : ℕ) (old new : List (ℕ × ℕ)) → AreEndsOf st set old → IsEndOf st set state r →
+pub table_put : (st : StoreState) (set state r : ℕ) (old new : List (ℕ × ℕ)) → AreEndsOf st set old → IsEndOf st set state r →
     ((q : ℕ) → lookup (eqb q) new ≡ cond (eqb state q) (Some r) (lookup (eqb q) old)) → AreEndsOf st set new
 table_put st set state r old new are one put q z e =
     elim (eqb_tells state q) [
@@ -34,11 +34,11 @@ table_put st set state r old new are one put q z e =
     value_or d (Some x) = x
 
 -- the states up to a place have their diagrams
-abbrev pub HaveSoFar : Held → ℕ → List ℕ → List ℕ → ℕ → Type 0
+abbrev pub HaveSoFar : StoreState → ℕ → List ℕ → List ℕ → ℕ → Type 0
 HaveSoFar st set states ends n = (l : ℕ) → l < n → IsEndOf st set (get_or states l 0) (get_or ends l 0)
 
 -- one more
-pub ends_more : (old new : Held) (set i d state : ℕ) (states ends more : List ℕ) → Grows old new → IsId old set → length ends ≡ i → more ≡ ends ++ d ∷ [] → i < length states → state ≡ get_or states i state →
+pub ends_more : (old new : StoreState) (set i d state : ℕ) (states ends more : List ℕ) → Grows old new → IsId old set → length ends ≡ i → more ≡ ends ++ d ∷ [] → i < length states → state ≡ get_or states i state →
     IsEndOf new set state d → HaveSoFar old set states ends i → HaveSoFar new set states more (i + 1)
 ends_more old new set i d state states ends more g id len is lt at one all l below = elim (leb_tells i l) [
   | inr before ↦
@@ -52,7 +52,7 @@ ends_more old new set i d state states ends more g id len is lt at one all l bel
 ]
 
 -- the diagrams from a place on have the ends of these states
-from_place : (st : Held) (set : ℕ) (states ends pk ds : List ℕ) (from : ℕ) (ls : List ℕ) → HaveEndsOf st set states ends → IsWhole pk → All (λ l. l < length states) ls →
+from_place : (st : StoreState) (set : ℕ) (states ends pk ds : List ℕ) (from : ℕ) (ls : List ℕ) → HaveEndsOf st set states ends → IsWhole pk → All (λ l. l < length states) ls →
     ((k : ℕ) → k < length ls → get_or ds (from + k) 0 ≡ get_or ends (get_or ls k 0) 0) → unions st ds from (length ls) pk ≡ wrong_leaf st set states ls pk
 from_place st set states ends pk ds from [] k w inside h = refl
 from_place st set states ends pk ds from (l ∷ ls) k w inside h =
@@ -66,7 +66,7 @@ from_place st set states ends pk ds from (l ∷ ls) k w inside h =
     ∙ ap (merged (end_leaf st set (get_or states l 0) pk)) others
 
 -- the diagrams at places, together
-pub picked_is : (st : Held) (set : ℕ) (states ends places pk ds : List ℕ) → HaveEndsOf st set states ends → IsWhole pk → All (λ l. l < length states) places →
+pub picked_is : (st : StoreState) (set : ℕ) (states ends places pk ds : List ℕ) → HaveEndsOf st set states ends → IsWhole pk → All (λ l. l < length states) places →
     ds ≡ map (λ l. get_or ends l 0) places → unions st ds 0 (length ds) pk ≡ wrong_leaf st set states places pk
 picked_is st set states ends places pk ds k w inside e =
     let many : length ds ≡ length places = ap length e ∙ length-map places (λ l. get_or ends l 0) in
@@ -75,14 +75,14 @@ picked_is st set states ends places pk ds k w inside e =
     (λ j lt. let z : 0 + j ≡ j = omega arith in ap (λ i. get_or ds i 0) z ∙ ap (λ l. get_or l j 0) e ∙ get_or-map (λ l. get_or ends l 0) places j 0 0 lt)
 
 -- they are diagrams
-pub picked_ids : (st : Held) (set : ℕ) (states ends places ds : List ℕ) → HaveEndsOf st set states ends → All (λ l. l < length states) places →
+pub picked_ids : (st : StoreState) (set : ℕ) (states ends places ds : List ℕ) → HaveEndsOf st set states ends → All (λ l. l < length states) places →
     ds ≡ map (λ l. get_or ends l 0) places → AreIds st ds
 picked_ids st set states ends places ds k inside e j lt =
     let within : j < length places = let m = ap length e ∙ length-map places (λ l. get_or ends l 0) in omega (arith, lt, m) in
     subst (IsId st) (sym (ap (λ l. get_or l j 0) e ∙ get_or-map (λ l. get_or ends l 0) places j 0 0 within)) (k.each (get_or places j 0) (inside j 0 within)).id
 
 -- what they have together one of them has
-pub of_wrong : (st : Held) (set : ℕ) (states places pk : List ℕ) (o : Out) → Has (wrong_leaf st set states places pk) o → (l : ℕ) × In places l × Has (end_leaf st set (get_or states l 0) pk) o
+pub of_wrong : (st : StoreState) (set : ℕ) (states places pk : List ℕ) (o : Out) → Has (wrong_leaf st set states places pk) o → (l : ℕ) × In places l × Has (end_leaf st set (get_or states l 0) pk) o
 of_wrong st set states [] pk o h = absurd h
 of_wrong st set states (l ∷ ls) pk o h =
     ⊎_elim
@@ -91,7 +91,7 @@ of_wrong st set states (l ∷ ls) pk o h =
     (merged_has o (end_leaf st set (get_or states l 0) pk) (wrong_leaf st set states ls pk) h)
 
 -- and what one has they have
-pub in_wrong : (st : Held) (set : ℕ) (states places pk : List ℕ) (o : Out) (l : ℕ) → In places l → Has (end_leaf st set (get_or states l 0) pk) o → Has (wrong_leaf st set states places pk) o
+pub in_wrong : (st : StoreState) (set : ℕ) (states places pk : List ℕ) (o : Out) (l : ℕ) → In places l → Has (end_leaf st set (get_or states l 0) pk) o → Has (wrong_leaf st set states places pk) o
 in_wrong st set states [] pk o l i h = absurd i
 in_wrong st set states (m ∷ ms) pk o l (inl e) h =
     merged_left o (end_leaf st set (get_or states m 0) pk) (wrong_leaf st set states ms pk) (subst (λ n. Has (end_leaf st set (get_or states n 0) pk) o) e h)

@@ -1,12 +1,12 @@
 -- Hop by hop against histories: a copy that waits after k crossings has recorded 2 * k packets, no two of them the same ones, and
--- from where it is, each history of a tag with its number is, behind these records, one of the policy's. A copy may wait that no
+-- from where it is, each history of a tag with its number is, after these records, one of the policy's. A copy may wait that no
 -- run of the policy leads to, where the tag that acts records what its own tag doesn't; then no history leaves from it.
 use Rattle.std.proofs.Common.{◌≡◌, ◌≢◌, ℕ, zero, suc, ◌+◌, ◌*◌, ◌<◌, Bool, true, false, inl, inr, ⊎_elim, Option, Some, None, List, [], ◌∷◌, ◌++◌, length, refl, sym, ap, subst, ◌∙◌, arith, append_assoc, append-nil, length-append, get_or-set_same}
 use Rattle.std.specs.Prelude.{◌&&◌, is_none, if◌then◌else◌, map, slice_get, slice_index, slice_set, Contains}
 use Rattle.std.proofs.lemmas.List.{set_comm, set-set}
 use Rattle.nk_field.specs.declared.packet.Packet.{Packet}
 use Rattle.nk_field.specs.Packet.{erased}
-use Rattle.nk_field.proofs.Lists.{In, in_from_contains, contains_from_in, in_joined, from_joined, from_mapped, map_over_joined, Apart, apart_flat, apart_from_images, one_of_images, Decided, stable, numbers_decided, lists_decided, in_decided}
+use Rattle.nk_field.proofs.Lists.{In, in_from_contains, contains_from_in, in_joined, from_joined, from_mapped, map_over_joined, NoDup, no_dup_flat, no_dup_from_images, one_of_images, Decided, stable, numbers_decided, lists_decided, in_decided}
 use Rattle.nk_field.proofs.Ascending.{rising_from, one_list, not_without_list}
 use Rattle.nk_topo.specs.Topology.{link_from, is_edge, is_port}
 use Rattle.nk_policy.specs.Policy.{Policy}
@@ -163,7 +163,7 @@ module _ (t : Tables) (p : Policy) (tag : ℕ) (tags : List (List ℕ)) (g : Set
       records_moved =
           subst (λ j. RecordsAt (after p j) z [] (moved_to to z) (j + 1)) next.2 (subst (λ y. RecordsAt (after p next.0.mark) z [] y (next.0.mark + 1)) (sym next.3) ((on_link p g.distinct next.0 next.1).there z))
 
-      -- so what is left behind both is a rest of what the tag gives
+      -- so what is left after both is a rest of what the tag gives
       gives_both :
           (w : List Packet) (last : Packet) → Gives (after p (l + 1)) (moved_to to z) w last
           → GivesAs p tags tg x (z ∷ moved_to to z ∷ w) last
@@ -232,7 +232,7 @@ module _ (t : Tables) (p : Policy) (tag : ℕ) (tags : List (List ℕ)) (g : Set
                   ∙ ap (λ q. record { records = u ++ z ∷ moved_to r.0 z ∷ []; packet = q }) moved;
             }
 
-    -- and each result behind a link is crossed to
+    -- and each result after a link is crossed to
     crosses :
         (z : Packet) (n : ℕ) → IsResult p tags acts.state x z (suc n) → (to : ℕ × ℕ)
         → link_from t.topo (slice_index z 0) (slice_index z 1) ≡ Some to
@@ -412,15 +412,15 @@ module _ (t : Tables) (p : Policy) (tag : ℕ) (tags : List (List ℕ)) (g : Set
         (d.next, d.labels, d.get, d.any, ap (λ (e : Copy). slice_index e.packet tag) d.copy_is ∙ get_or-set_same (moved_to d.to d.source) tag (number (suc d.next)) 0 long)
 
     -- what one copy leads to has different records
-    records_apart_here : (k : ℕ) (c : Copy) (w : Waits k c) → Apart (map records_of (next_of t c))
-    records_apart_here k c w =
+    records_no_dup_here : (k : ℕ) (c : Copy) (w : Waits k c) → NoDup (map records_of (next_of t c))
+    records_no_dup_here k c w =
         subst
-        (λ l. Apart l)
+        (λ l. NoDup l)
         (sym (map_over_joined records_of (across t c.records) (sent_for t c.packet)))
-        (apart_flat
+        (no_dup_flat
         (λ y. map records_of (across t c.records y))
         (sent_for t c.packet)
-        (subst (λ q. Apart (sent_for t q)) (sym w.packet_is) (acting k c w).apart)
+        (subst (λ q. NoDup (sent_for t q)) (sym w.packet_is) (acting k c w).apart)
         (λ y i. alone y (link_from t.topo (slice_index y 0) (slice_index y 1)))
         (λ y y' v i i' h h'.
         let a = from_mapped records_of (across t c.records y) v h in
@@ -430,23 +430,23 @@ module _ (t : Tables) (p : Policy) (tag : ℕ) (tags : List (List ℕ)) (g : Set
         let e = sym (ap records_of d.copy_is) ∙ sym a.2 ∙ b.2 ∙ ap records_of d'.copy_is in
         same_source (acting k c w).state w.place c.records y y' a.0 b.0 d d' (two_last c.records c.records d.source (moved_to d.to d.source) d'.source (moved_to d'.to d'.source) e).1))
       where
-        alone : (y : Packet) (o : Option (ℕ × ℕ)) → Apart (map records_of (crossing t c.records y o))
+        alone : (y : Packet) (o : Option (ℕ × ℕ)) → NoDup (map records_of (crossing t c.records y o))
         alone y None = tt
         alone y (Some to) = ((λ i. i), tt)
 
     -- no two copies that wait have the same records
-    pub records_apart : (k : ℕ) → Apart (map records_of (waiting t k pk))
-    records_apart zero = ((λ i. i), tt)
-    records_apart (suc k) =
-        let before = records_apart k in
+    pub records_no_dup : (k : ℕ) → NoDup (map records_of (waiting t k pk))
+    records_no_dup zero = ((λ i. i), tt)
+    records_no_dup (suc k) =
+        let before = records_no_dup k in
         subst
-        (λ l. Apart l)
+        (λ l. NoDup l)
         (sym (map_over_joined records_of (next_of t) (waiting t k pk)))
-        (apart_flat
+        (no_dup_flat
         (λ c. map records_of (next_of t c))
         (waiting t k pk)
-        (apart_from_images records_of (waiting t k pk) before)
-        (λ c i. records_apart_here k c (waits k c i))
+        (no_dup_from_images records_of (waiting t k pk) before)
+        (λ c i. records_no_dup_here k c (waits k c i))
         (λ c c' v i i' h h'.
         let a = from_mapped records_of (next_of t c) v h in
         let b = from_mapped records_of (next_of t c') v h' in

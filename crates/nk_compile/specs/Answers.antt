@@ -35,6 +35,6 @@ IsNoAnswer program name NoMemory = ⊤
 IsNoAnswer program name (Refused r) = IsRefused program name r
 
 -- the tables, or why there are none
-abbrev pub IsAnswer : Program → List ℕ → Result Tables CompileError → Type 0
-IsAnswer program name (Ok t) = IsCompiled program name t
-IsAnswer program name (Err e) = IsNoAnswer program name e
+abbrev pub IsCompileResult : Program → List ℕ → Result Tables CompileError → Type 0
+IsCompileResult program name (Ok t) = IsCompiled program name t
+IsCompileResult program name (Err e) = IsNoAnswer program name e

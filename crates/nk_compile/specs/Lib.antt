@@ -6,7 +6,7 @@ pub mod Headline
 pub mod Levelled
 pub mod MadePair
 pub mod MetUnder
-pub mod NumberedBehind
+pub mod NumberedAfter
 pub mod OffEdge
 pub mod PairAnswers
 pub mod Preparing

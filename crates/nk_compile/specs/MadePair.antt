@@ -9,11 +9,11 @@ use Rattle.nk_compile.specs.declared.pair.TablePair.{TablePair}
 use Rattle.nk_compile.specs.declared.refusal.CompileError.{CompileError}
 use Rattle.nk_compile.specs.declared.refusal.CompileError.TheVariants.{NoMemory, Refused}
 use Rattle.nk_compile.specs.Counted.{HasTagSets}
-use Rattle.nk_compile.specs.NumberedBehind.{IsTableBehind}
+use Rattle.nk_compile.specs.NumberedAfter.{IsTableAfter}
 use Rattle.nk_compile.specs.PairAnswers.{FitTogether, IsPairReason}
 use Rattle.nk_compile.specs.WholeTable.{IsTableOf}
 
--- the tables of two policies, the new one's tags behind the old one's
+-- the tables of two policies, the new one's tags after the old one's
 pub record IsMadePair (fields : FieldTable) (topo : Topology) (p q : Policy) (r : TablePair) : Type 0 where
   pub compilable_old : IsCompilable fields topo p
   pub compilable_new : IsCompilable fields topo q
@@ -22,7 +22,7 @@ pub record IsMadePair (fields : FieldTable) (topo : Topology) (p q : Policy) (r 
   pub fit : FitTogether fields topo p q
   pub old_tags : HasTagSets fields topo p r.old_tags
   pub printed_old : IsTableOf fields topo (IsStartPacket fields topo) p r.old
-  pub printed_new : IsTableBehind r.old_tags fields topo (IsStartPacket fields topo) q r.new
+  pub printed_new : IsTableAfter r.old_tags fields topo (IsStartPacket fields topo) q r.new
 
 -- the reason for which two policies are refused; want of memory says nothing
 abbrev pub IsPairError : FieldTable → Topology → Policy → Policy → CompileError → Type 0

@@ -1,4 +1,4 @@
--- What compiling two policies for an update answers: the tables of both, the new one's tags numbered behind the old one's.
+-- What compiling two policies for an update answers: the tables of both, the new one's tags numbered after the old one's.
 use Rattle.std.specs.Prelude.{◌≡◌, ℕ, ◌+◌, ◌≤◌, ◌⊎◌, ⊤, Some, None, Result, Ok, Err, List}
 use Rattle.nk_field.specs.Packet.{FieldTable}
 use Rattle.nk_topo.specs.Topology.{Topology}
@@ -16,9 +16,9 @@ use Rattle.nk_compile.specs.declared.refusal.Refusal.{Refusal}
 use Rattle.nk_compile.specs.declared.refusal.Refusal.TheVariants.{NoPolicy, NoTag, TooManyTags}
 use Rattle.nk_compile.specs.Carries.{Carries}
 use Rattle.nk_compile.specs.Counted.{HasTagSets}
-use Rattle.nk_compile.specs.NumberedBehind.{IsTableBehind}
+use Rattle.nk_compile.specs.NumberedAfter.{IsTableAfter}
 use Rattle.nk_compile.specs.OffEdge.{EndsOnEdges}
-use Rattle.nk_compile.specs.Refusals.{seen, IsReason}
+use Rattle.nk_compile.specs.Refusals.{static_refusal, IsReason}
 use Rattle.nk_compile.specs.WholeTable.{IsTableOf}
 
 -- the tags of both together are no more than the tag has values above 0
@@ -26,7 +26,7 @@ abbrev pub FitTogether : FieldTable → Topology → Policy → Policy → Type 
 FitTogether fields topo p q =
     (m : ℕ) × (n : ℕ) × HasTagSets fields topo p m × HasTagSets fields topo q n × (m + n ≤ most_tags fields fields.tag)
 
--- the tables of an old and a new policy: both are printed, the new one's tags behind the old one's; each carries its policy;
+-- the tables of an old and a new policy: both are printed, the new one's tags after the old one's; each carries its policy;
 -- and they can be planned, since their rows and the copies that cross links keep to their own tags
 pub record IsCompiledPair (program : Program) (old new : List ℕ) (r : TablePair) : Type 0 where
   pub p : Policy
@@ -38,7 +38,7 @@ pub record IsCompiledPair (program : Program) (old new : List ℕ) (r : TablePai
   pub fit : FitTogether program.fields program.topo p q
   pub old_tags : HasTagSets program.fields program.topo p r.old_tags
   pub printed_old : IsTableOf program.fields program.topo (IsStartPacket program.fields program.topo) p r.old
-  pub printed_new : IsTableBehind r.old_tags program.fields program.topo (IsStartPacket program.fields program.topo) q r.new
+  pub printed_new : IsTableAfter r.old_tags program.fields program.topo (IsStartPacket program.fields program.topo) q r.new
   pub carries_old : Carries program p r.old
   pub carries_new : Carries program q r.new
   pub plannable : IsPlannable (pair_of r.old r.new r.old_tags)
@@ -46,7 +46,7 @@ pub record IsCompiledPair (program : Program) (old new : List ℕ) (r : TablePai
 
 -- nothing stands against the policy but perhaps the number of its tags
 abbrev pub IsUnopposed : FieldTable → Topology → Policy → Type 0
-IsUnopposed fields topo p = (seen fields topo p ≡ None) × EndsOnEdges fields topo p
+IsUnopposed fields topo p = (static_refusal fields topo p ≡ None) × EndsOnEdges fields topo p
 
 -- why two policies have no tables: no tag is declared; what stands against the old one, or, where nothing does, against the
 -- new one; or, where nothing stands against either, the tags of both together are more than the tag has values above 0

@@ -7,7 +7,7 @@ use Rattle.nk_names.specs.declared.Program.{Program}
 use Rattle.nk_names.specs.Named.{policy_named}
 use Rattle.nk_names.specs.ProgramValue.{IsProgram}
 use Rattle.nk_names.specs.WellFormed.{IsWellFormed}
-use Rattle.nk_store.specs.Held.{Held}
+use Rattle.nk_store.specs.StoreState.{StoreState}
 use Rattle.nk_determ.specs.Sets.{HasEachSetOnce}
 use Rattle.nk_tag.specs.Numbers.{AreNumbers}
 use Rattle.nk_compile.specs.declared.numbered.Numbered.{Numbered}
@@ -23,7 +23,7 @@ use Rattle.nk_compile.specs.WholeTable.{link_end}
 -- a policy of which nothing is seen that stands against it, with its automaton's states in a store over the fields and their
 -- whole levels from the start packets
 pub record IsPrepared (fields : FieldTable) (topo : Topology) (tag : ℕ) (p : Policy) (b : Prepared) : Type 0 where
-  pub before : Held
+  pub before : StoreState
   pub begun : IsBegun fields topo tag p before b.states
   pub levelled : IsLevelled topo tag before b.states b.store b.sets b.levels.levels b.levels.broken
   pub whole : b.levels.broken ≡ false

@@ -11,32 +11,32 @@ use Rattle.nk_names.specs.declared.Program.{Program}
 use Rattle.nk_names.specs.Named.{policy_named}
 use Rattle.nk_policy.specs.Labels.{IsTagSet, AtLeast}
 use Rattle.nk_names.specs.Accepted.{IsStartPacket, most_tags}
-use Rattle.nk_sight.specs.Seen.{seen_of}
-use Rattle.nk_sight.specs.declared.sight.Sight.{Sight}
-use Rattle.nk_sight.specs.declared.sight.Sight.TheVariants as sight
+use Rattle.nk_static.specs.StaticFaults.{static_fault_of}
+use Rattle.nk_static.specs.declared.faults.StaticFault.{StaticFault}
+use Rattle.nk_static.specs.declared.faults.StaticFault.TheVariants as static_kind
 use Rattle.nk_compile.specs.declared.refusal.Refusal.{Refusal}
 use Rattle.nk_compile.specs.declared.refusal.Refusal.TheVariants.{NoPolicy, NoTag, TagUsed, LooseDup, SwitchSet, NoSuchLink, OffEdge, TooManyTags}
 use Rattle.nk_compile.specs.OffEdge.{EndsOffEdge, EndsOnEdges}
 
 -- what is seen of a policy, as a refusal
-abbrev pub refusal_of : Sight → Refusal
-refusal_of sight.TagUsed = TagUsed
-refusal_of sight.LooseDup = LooseDup
-refusal_of sight.SwitchSet = SwitchSet
-refusal_of sight.NoSuchLink = NoSuchLink
+abbrev pub refusal_of : StaticFault → Refusal
+refusal_of static_kind.TagUsed = TagUsed
+refusal_of static_kind.LooseDup = LooseDup
+refusal_of static_kind.SwitchSet = SwitchSet
+refusal_of static_kind.NoSuchLink = NoSuchLink
 
 -- what is seen where the tag is known: it is used, a dup or an assignment of the switch stands outside of a link literal, or
 -- a literal is no declared link
-abbrev pub seen_with : ℕ → Topology → Policy → Option Refusal
-seen_with tag topo p = option_map refusal_of (seen_of tag topo.links p)
+abbrev pub static_refusal_with : ℕ → Topology → Policy → Option Refusal
+static_refusal_with tag topo p = option_map refusal_of (static_fault_of tag topo.links p)
 
 -- the first reason that is seen of the tree, if there is one
-abbrev pub seen_for : Option ℕ → Topology → Policy → Option Refusal
-seen_for None topo p = Some NoTag
-seen_for (Some tag) topo p = seen_with tag topo p
+abbrev pub static_refusal_for : Option ℕ → Topology → Policy → Option Refusal
+static_refusal_for None topo p = Some NoTag
+static_refusal_for (Some tag) topo p = static_refusal_with tag topo p
 
-abbrev pub seen : FieldTable → Topology → Policy → Option Refusal
-seen fields topo p = seen_for fields.tag topo p
+abbrev pub static_refusal : FieldTable → Topology → Policy → Option Refusal
+static_refusal fields topo p = static_refusal_for fields.tag topo p
 
 -- a history from a start packet, as the order of histories sees it
 abbrev pub found_from : Packet → History → Found
@@ -45,13 +45,13 @@ found_from start history = record { start = start; records = history.records; la
 -- why the policy is refused; of the histories that end off each edge port the least is told
 abbrev pub IsReason : FieldTable → Topology → Policy → Refusal → Type 0
 IsReason fields topo p (OffEdge start history) =
-    (seen fields topo p ≡ None) × IsLeast (EndsOffEdge fields topo p) (found_from start history)
+    (static_refusal fields topo p ≡ None) × IsLeast (EndsOffEdge fields topo p) (found_from start history)
 IsReason fields topo p (TooManyTags found) =
-    (seen fields topo p ≡ None)
+    (static_refusal fields topo p ≡ None)
     × EndsOnEdges fields topo p
     × (found ≡ most_tags fields fields.tag + 1)
     × AtLeast found (IsTagSet p (IsStartPacket fields topo))
-IsReason fields topo p r = seen fields topo p ≡ Some r
+IsReason fields topo p r = static_refusal fields topo p ≡ Some r
 
 -- why the name is refused: it is no policy's, or its policy is refused
 abbrev pub IsRefused : Program → List ℕ → Refusal → Type 0

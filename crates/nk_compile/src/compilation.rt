@@ -3,7 +3,7 @@ ghost use Rattle.std.specs.Prelude.{◌≡◌, ℕ, List as Items, IfOk, IfErr};
 ghost use Rattle.nk_policy.specs.Tree.{tree_of};
 ghost use Rattle.nk_names.specs.declared.Program.{Program};
 ghost use Rattle.nk_names.specs.WellFormed.{IsWellFormed};
-ghost use Rattle.nk_compile.specs.Answers.{IsAnswer, IsNoAnswer, IsPolicyAnswer};
+ghost use Rattle.nk_compile.specs.Answers.{IsCompileResult, IsNoAnswer, IsPolicyAnswer};
 ghost use Rattle.nk_compile.specs.Counted.{IsCountAnswer, IsCountedAnswer, IsCountedPolicyAnswer, IsHanded};
 ghost use Rattle.nk_compile.specs.Preparing.{IsNumberedByName};
 
@@ -23,7 +23,7 @@ use std::alloc::{AllocError, Global};
 ///
 /// A policy is refused for the first reason in the order of `Refusal`; the only other error is that memory ran out.
 pub fn compile(alloc: Global, program: &Program, name: &str) -> Result<Tables, CompileError>
-    ensures { IsAnswer program.now name.now result }
+    ensures { IsCompileResult program.now name.now result }
 {
     match compile_counted(alloc, program, name) {
         Ok(counted) => Ok(counted.tables),
@@ -43,7 +43,7 @@ pub fn compile_policy(alloc: Global, program: &Program, p: &Pol) -> Result<Table
     }
 }
 
-/// The number of a named policy's tag sets: how many set states it needs behind links. It is refused in the same way as by
+/// The number of a named policy's tag sets: how many set states it needs after links. It is refused in the same way as by
 /// `compile`, and no table is made.
 pub fn tag_count(alloc: Global, program: &Program, name: &str) -> Result<u64, CompileError>
     ensures { IsCountAnswer program.now name.now result }

@@ -17,7 +17,7 @@ use nk_table::Tables;
 use nk_topo::Topo;
 use std::alloc::Global;
 
-/// The printed tables of an old and a new policy: the new one's tags are numbered behind the old one's.
+/// The printed tables of an old and a new policy: the new one's tags are numbered after the old one's.
 pub struct TablePair {
     /// The tables of the old policy.
     pub old: Tables,
@@ -38,7 +38,7 @@ impl Drop for TablePair {
 }
 
 /// The printed tables of two named policies for an update from the first to the second: each carries its policy, and the tags
-/// of the new one are numbered behind those of the old one.
+/// of the new one are numbered after those of the old one.
 ///
 /// They are refused where a name is no policy's; then where no tag is declared; then for the first reason in the order of
 /// `Refusal` against the old policy, and then against the new one, the number of tags aside; then where both together have more
@@ -85,7 +85,7 @@ fn policy_pair(
     pair_tables(fields, topo, p, q, old, new, fields.max(tag))
 }
 
-/// The printed tables of two prepared policies, the new one's tags behind the old one's; together they are at most `max`, the
+/// The printed tables of two prepared policies, the new one's tags after the old one's; together they are at most `max`, the
 /// tag's largest value.
 fn pair_tables(
     fields: &Fields,

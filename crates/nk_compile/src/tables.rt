@@ -5,7 +5,7 @@ ghost use Rattle.nk_topo.specs.Topology.{Topology};
 ghost use Rattle.nk_policy.specs.Policy.{Policy};
 ghost use Rattle.nk_policy.specs.Tree.{tree_of};
 ghost use Rattle.nk_names.specs.WellFormed.{IsWellFormed};
-ghost use Rattle.nk_store.specs.Held.{Grows};
+ghost use Rattle.nk_store.specs.StoreState.{Grows};
 ghost use Rattle.nk_determ.specs.Sets.{SetsGrow};
 ghost use Rattle.nk_reach.specs.Pairs.{AreStates};
 ghost use Rattle.nk_tag.specs.Numbers.{AreNumbers};
@@ -20,11 +20,11 @@ use crate::refusal::{CompileError, Refusal};
 use crate::wrong_ends::wrong_ends;
 use nk_auto::policy_automaton;
 use nk_determ::{SetId, Sets};
+use nk_edges::{off_edges, starts};
 use nk_field::{Fid, Fields, List};
-use nk_places::{off_edges, starts};
 use nk_policy::Pol;
 use nk_reach::{Found, Levels, least_history, levels};
-use nk_sight::{Sight, seen};
+use nk_static::{StaticFault, static_fault};
 use nk_store::{Id, Store};
 use nk_tag::{NumberError, number_from};
 use nk_topo::Topo;
@@ -81,7 +81,7 @@ fn start_alone(alloc: Global) -> Result<List<u64>, AllocError>
     Ok(ls)
 }
 
-/// The numbers of a prepared policy's sets at odd levels in order, behind so many tags; with them there are at most `max`.
+/// The numbers of a prepared policy's sets at odd levels in order, after so many tags; with them there are at most `max`.
 pub fn numbers(b: &Prepared, first: u64, max: u64) -> Result<List<SetId>, CompileError>
     requires prepared { (fields : FieldTable) × (topo : Topology) × (tag : ℕ) × (p : Policy) × IsPrepared fields topo tag p b.now }
     requires first { first ≤ max }
@@ -107,14 +107,14 @@ fn fault(e: NumberError) -> CompileError
 }
 
 /// What is seen of a policy, as a refusal.
-fn refusal(sight: Sight) -> Refusal
-    ensures { result ≡ refusal_of sight }
+fn refusal(static_kind: StaticFault) -> Refusal
+    ensures { result ≡ refusal_of static_kind }
 {
-    match sight {
-        Sight::TagUsed => Refusal::TagUsed,
-        Sight::LooseDup => Refusal::LooseDup,
-        Sight::SwitchSet => Refusal::SwitchSet,
-        Sight::NoSuchLink => Refusal::NoSuchLink,
+    match static_kind {
+        StaticFault::TagUsed => Refusal::TagUsed,
+        StaticFault::LooseDup => Refusal::LooseDup,
+        StaticFault::SwitchSet => Refusal::SwitchSet,
+        StaticFault::NoSuchLink => Refusal::NoSuchLink,
     }
 }
 
@@ -133,8 +133,8 @@ pub fn prepare(
     ensures ok { IfOk result (IsPrepared fields.now topo.now tag (tree_of p.now)) }
     ensures err { IfErr result (IsEarlyError fields.now topo.now (tree_of p.now)) }
 {
-    if let Some(sight) = seen(p, topo, tag) {
-        return Err(CompileError::Refused(refusal(sight)));
+    if let Some(static_kind) = static_fault(p, topo, tag) {
+        return Err(CompileError::Refused(refusal(static_kind)));
     }
     let _few = fields.declared();
     let _switches = topo.switches();

@@ -8,7 +8,7 @@ ghost use Rattle.nk_table.specs.declared.Tables.{Tables};
 ghost use Rattle.nk_names.specs.Accepted.{IsStartPacket};
 ghost use Rattle.nk_determ.specs.Sets.{SetsGrow};
 ghost use Rattle.nk_tag.specs.Numbers.{AreNumbers};
-ghost use Rattle.nk_compile.specs.NumberedBehind.{tags_behind, IsTableBehind};
+ghost use Rattle.nk_compile.specs.NumberedAfter.{tags_after, IsTableAfter};
 ghost use Rattle.nk_compile.specs.Preparing.{AreLinkEnds, IsPrepared};
 ghost use Rattle.nk_compile.specs.Ready.{sets_of, IsClear, IsReady};
 
@@ -25,7 +25,7 @@ use nk_topo::Topo;
 use std::alloc::{AllocError, Global};
 
 /// The printed tables of all switches for a policy, one after the other, by its automaton's states, where its links end, and the
-/// numbers of its tags' sets: the set without labels for the first so many tags, and behind them the tag sets.
+/// numbers of its tags' sets: the set without labels for the first so many tags, and after them the tag sets.
 fn tag_tables<S: TableSink>(
     st: &mut Store,
     ss: &mut Sets,
@@ -41,13 +41,13 @@ fn tag_tables<S: TableSink>(
         × ((first : ℕ) (fields : FieldTable) (p : Policy) (tag : ℕ) → IsClear fields topo.now tag p
         → AreLinkEnds p (length states.now) ends.now → IsReady first fields topo.now p st.old ss.old states.now tags.now
         → (t : Tables) → t.fields ≡ fields → t.topo ≡ topo.now → t.tables ≡ ts
-        → IsTableBehind first fields topo.now (IsStartPacket fields topo.now) p t)) }
+        → IsTableAfter first fields topo.now (IsStartPacket fields topo.now) p t)) }
 {
     let stops = tag_stops(st.alloc(), topo, ends, ss, tags)?;
     switch_tables(st, ss, states, tags, stops.as_slice(), sink)
 }
 
-/// So many times one set, and these behind.
+/// So many times one set, and these after.
 fn padded(alloc: Global, none: SetId, first: u64, tags: &[SetId]) -> Result<List<SetId>, AllocError>
     ensures { IfOk result (λ r. r ≡ replicate first none ++ tags.now) }
 {
@@ -61,8 +61,8 @@ fn padded(alloc: Global, none: SetId, first: u64, tags: &[SetId]) -> Result<List
     Ok(all)
 }
 
-/// The numbers of the sets of so many tags that stand for none, and of these sets behind them.
-fn behind(
+/// The numbers of the sets of so many tags that stand for none, and of these sets after them.
+fn following(
     alloc: Global,
     ss: &mut Sets,
     first: u64,
@@ -71,13 +71,13 @@ fn behind(
     requires { All (λ s. s < length ss.old) tags.now }
     ensures grows { SetsGrow ss.old ss.new }
     ensures known { IfOk result (λ r. All (λ s. s < length ss.new) r) }
-    ensures sets { IfOk result (λ r. sets_of ss.new r ≡ tags_behind first (sets_of ss.old tags.now)) }
+    ensures sets { IfOk result (λ r. sets_of ss.new r ≡ tags_after first (sets_of ss.old tags.now)) }
 {
     let none = ss.intern(List::new(alloc))?;
     padded(alloc, none, first, tags)
 }
 
-/// The printed tables of a prepared policy, one after the other, its tags behind so many others. These are where its links end, and
+/// The printed tables of a prepared policy, one after the other, its tags after so many others. These are where its links end, and
 /// the numbers of its tag sets in order.
 pub fn print_to<S: TableSink>(
     prepared: Prepared,
@@ -93,11 +93,11 @@ pub fn print_to<S: TableSink>(
     ensures { OnOk result ((ts : Items Table) × S.takes sink.old ts sink.new
         × ((fields : FieldTable) (p : Policy) (tag : ℕ) → IsPrepared fields topo.now tag p prepared
         → AreLinkEnds p (length prepared.states) ends.now → (t : Tables) → t.fields ≡ fields → t.topo ≡ topo.now → t.tables ≡ ts
-        → IsTableBehind first fields topo.now (IsStartPacket fields topo.now) p t)) }
+        → IsTableAfter first fields topo.now (IsStartPacket fields topo.now) p t)) }
 {
     let mut st = prepared.store;
     let mut ss = prepared.sets;
-    let all = behind(st.alloc(), &mut ss, first, tags)?;
+    let all = following(st.alloc(), &mut ss, first, tags)?;
     ss.differ();
     st.laws();
     let states = prepared.states.as_slice();
@@ -117,7 +117,7 @@ pub fn tables_over(fields: &Fields, topo: &Topo, tables: List<Table>) -> Result<
     })
 }
 
-/// The printed tables of a prepared policy, its tags behind so many others. These are the numbers of its tag sets in order.
+/// The printed tables of a prepared policy, its tags after so many others. These are the numbers of its tag sets in order.
 pub fn printed(
     prepared: Prepared,
     fields: &Fields,
@@ -128,7 +128,7 @@ pub fn printed(
 ) -> Result<Tables, AllocError>
     requires prepared { (tag : ℕ) × IsPrepared fields.now topo.now tag (tree_of p.now) prepared }
     requires numbers { AreNumbers prepared.sets prepared.levels.levels tags.now }
-    ensures { IfOk result (IsTableBehind first fields.now topo.now (IsStartPacket fields.now topo.now) (tree_of p.now)) }
+    ensures { IfOk result (IsTableAfter first fields.now topo.now (IsStartPacket fields.now topo.now) (tree_of p.now)) }
 {
     let alloc = prepared.store.alloc();
     let ends = link_ends(alloc, p, prepared.states.len())?;

@@ -1,6 +1,6 @@
 //! Ends off edge ports: what ends the levels of a policy's automaton.
 ghost use Rattle.std.specs.Prelude.{◌≡◌, ◌<◌, ◌∷◌, [], Some, All, IfOk, OnOk, map, length, slice_index};
-ghost use Rattle.nk_store.specs.Held.{IsId, Grows, HasLeaves, look};
+ghost use Rattle.nk_store.specs.StoreState.{IsId, Grows, HasLeaves, look};
 ghost use Rattle.nk_apply.specs.Unions.{AreIds};
 ghost use Rattle.nk_sets.specs.PacketSets.{IsSet};
 ghost use Rattle.nk_determ.specs.Targets.{retargeted};
@@ -39,7 +39,7 @@ impl Goal for WrongEnds {
 
     ghost labels = { λ g. length g.states };
 
-    ghost bad_of = { λ g st set pk. wrong_leaf st g.set g.states set pk };
+    ghost violations_of = { λ g st set pk. wrong_leaf st g.set g.states set pk };
 
     fn bad(&mut self, st: &mut Store, ss: &Sets, s: SetId) -> Result<Id, AllocError> {
         let picked = picked(st.alloc(), self.ends.as_slice(), ss.members(s))?;
@@ -48,7 +48,7 @@ impl Goal for WrongEnds {
 
     ghost fits_on = { λ g old new fits grown. ends_on old new g.set g.states g.ends fits grown };
 
-    ghost bad_on = { λ g old new set pk fits grown places. wrong_on old new g.set g.states g.ends set pk fits grown places };
+    ghost violations_grow = { λ g old new set pk fits grown places. wrong_on old new g.set g.states g.ends set pk fits grown places };
 
     ghost sided = { λ g st set pk o fits whole among. wrong_sided st g.set g.states g.ends set pk o fits whole among };
 }

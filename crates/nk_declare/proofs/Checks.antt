@@ -5,7 +5,7 @@ use Rattle.std.specs.Prelude.{nat_lt, nat_eq, ◌==◌, IsErrAnd, MatchResult}
 use Rattle.std.specs.List.{list_any}
 use Rattle.std.proofs.lemmas.List.Folds.{list_any-append}
 use Rattle.nk_topo.specs.Topology.{has_double}
-use Rattle.nk_lex.specs.declared.word.Number.{Number}
+use Rattle.nk_lex.specs.declared.ident.Number.{Number}
 use Rattle.nk_lex.specs.Faults.{first_of}
 use Rattle.nk_declare.specs.declared.fault.DeclareFault.{DeclareFault}
 use Rattle.nk_declare.specs.declared.fault.DeclareFault.TheVariants as fault

@@ -12,11 +12,11 @@ use Rattle.nk_lex.specs.Spelling.{IsName}
 use Rattle.nk_field.specs.Packet.{FieldTable, IsFieldTable, built_in, field_named, with_field}
 use Rattle.nk_field.proofs.FieldTables.{with_field_is}
 use Rattle.nk_topo.specs.Topology.{Topology, SwitchPorts, Link, IsTopology, AreLinks, no_topology, placed, starts_below, ascending, has_double, is_switch, link_from, with_switch}
-use Rattle.nk_topo.proofs.Members.{In, in_from_contains, all_from_members, pairs_from_order, placed_behind, placed_front, in_placed}
+use Rattle.nk_topo.proofs.Members.{In, in_from_contains, all_from_members, pairs_from_order, placed_after, placed_front, in_placed}
 use Rattle.nk_topo.proofs.Orders.{ascending_rises}
 use Rattle.nk_topo.proofs.Kept.{kept_with_switch, kept_with_link}
-use Rattle.nk_lex.specs.declared.word.Word.{Word}
-use Rattle.nk_lex.specs.declared.word.Number.{Number}
+use Rattle.nk_lex.specs.declared.ident.Ident.{Ident}
+use Rattle.nk_lex.specs.declared.ident.Number.{Number}
 use Rattle.nk_lex.specs.Faults.{and_then, unless}
 use Rattle.nk_declare.specs.declared.fault.DeclareFault.TheVariants as fault
 use Rattle.nk_declare.specs.Declarations.{NetworkDeclaration, field, tag, switch, link, DeclaredValue, is_from, field_fault, tag_fault, ports_fault, links_ends, link_with, values_of, declared_with, declared_after}
@@ -76,7 +76,7 @@ none_there None h = refl
 none_there (Some k) h = absurd cc
 
 -- a field without fault makes a field table
-pub table_more : (t : FieldTable) (w : Word) (max : ℕ) → IsFieldTable t → field_fault t w ≡ None → IsFieldTable (with_field t w.text max)
+pub table_more : (t : FieldTable) (w : Ident) (max : ℕ) → IsFieldTable t → field_fault t w ≡ None → IsFieldTable (with_field t w.text max)
 table_more t w max h none =
     let r = none_both _ _ none in
     with_field_is t w.text max h
@@ -87,7 +87,7 @@ table_more t w max h none =
     less k e = grind (arith, nat_tests)
 
 -- a writable table with one more field
-field_more : (t : FieldTable) (w : Word) (n : Number) → IsWritable t → IsName w.text → n.value ≤ largest
+field_more : (t : FieldTable) (w : Ident) (n : Number) → IsWritable t → IsName w.text → n.value ≤ largest
     → field_fault t w ≡ None → IsWritable (with_field t w.text n.value)
 field_more t w n h is le none = record {
   table = table_more t w n.value h.table none;
@@ -114,7 +114,7 @@ pub has_maximum : (t : FieldTable) (w : List ℕ) (f : ℕ) → IsFieldTable t �
 has_maximum t w f h e = let at = position-Some (bytes_eq w) t.names f [] e in omega (arith, at.0, h.named)
 
 -- a tag without fault makes a field table
-pub table_tagged : (t : FieldTable) (w : Word) → IsFieldTable t → tag_fault t w ≡ None
+pub table_tagged : (t : FieldTable) (w : Ident) → IsFieldTable t → tag_fault t w ≡ None
     → IsFieldTable (record t { tag = field_named t w.text })
 table_tagged t w h none =
     let r = none_both _ _ none in
@@ -129,7 +129,7 @@ table_tagged t w h none =
     }
 
 -- a writable table with a tag
-tag_more : (t : FieldTable) (w : Word) → IsWritable t → tag_fault t w ≡ None
+tag_more : (t : FieldTable) (w : Ident) → IsWritable t → tag_fault t w ≡ None
     → IsWritable (record t { tag = field_named t w.text })
 tag_more t w h none = record {
   table = table_tagged t w h.table none;
@@ -225,7 +225,7 @@ some_placed before x [] = omega arith
 some_placed before x (y ∷ ys) = by (before y) refl
   where
     by : (b : Bool) → before y ≡ b → 1 ≤ length (placed before x (y ∷ ys))
-    by true e = subst (λ l. 1 ≤ length l) (sym (placed_behind before x y ys e)) (omega arith)
+    by true e = subst (λ l. 1 ≤ length l) (sym (placed_after before x y ys e)) (omega arith)
     by false e = subst (λ l. 1 ≤ length l) (sym (placed_front before x y ys e)) (omega arith)
 
 some_ascending : (ns : List ℕ) → 1 ≤ length ns → 1 ≤ length (ascending ns)

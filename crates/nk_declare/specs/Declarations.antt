@@ -5,8 +5,8 @@ use Rattle.std.specs.declared.result.Result.{Result}
 use Rattle.std.specs.List.{list_any}
 use Rattle.nk_field.specs.Packet.{FieldTable, built_in, field_named, with_field}
 use Rattle.nk_topo.specs.Topology.{Topology, Link, has_double, no_topology, is_switch, is_port, is_target, link_from, with_switch, with_link}
-use Rattle.nk_lex.specs.declared.word.Word.{Word}
-use Rattle.nk_lex.specs.declared.word.Number.{Number}
+use Rattle.nk_lex.specs.declared.ident.Ident.{Ident}
+use Rattle.nk_lex.specs.declared.ident.Number.{Number}
 use Rattle.nk_lex.specs.Faults.{and_then, first_of, unless}
 use Rattle.nk_declare.specs.declared.fault.DeclareFault.{DeclareFault}
 use Rattle.nk_declare.specs.declared.fault.DeclareFault.TheVariants as fault
@@ -16,8 +16,8 @@ use Rattle.nk_declare.specs.declared.fault.DeclareError.TheVariants.{Fault, NoMe
 -- a declaration: a field's name and its largest value, the tag, a switch and its ports, or a link from a switch and a port to
 -- a switch and a port
 pub data NetworkDeclaration : Type 0 where
-  field : Word → Number → NetworkDeclaration
-  tag : Word → NetworkDeclaration
+  field : Ident → Number → NetworkDeclaration
+  tag : Ident → NetworkDeclaration
   switch : Number → (ports : List Number) → NetworkDeclaration
   link : Number → Number → Number → Number → NetworkDeclaration
 
@@ -49,10 +49,10 @@ abbrev pub links_ends : Number → Number → Number → Number → MaybeFault
 links_ends a m b n = first_of (first_of (first_of (above 65535 a) (above 65535 m)) (above 65535 b)) (above 65535 n)
 
 -- the place of a field, and its largest value
-abbrev pub place_of_field : FieldTable → Word → ℕ
+abbrev pub place_of_field : FieldTable → Ident → ℕ
 place_of_field fields w = unwrap_or (field_named fields w.text) 0
 
-abbrev pub most_in : FieldTable → Word → ℕ
+abbrev pub most_in : FieldTable → Ident → ℕ
 most_in fields w = slice_index fields.maxima (place_of_field fields w)
 
 -- a place that is there, from `low` on
@@ -61,20 +61,20 @@ is_from low None = false
 is_from low (Some f) = nat_le low f
 
 -- a field: its name is new, and there is room for it
-abbrev pub field_fault : FieldTable → Word → MaybeFault
+abbrev pub field_fault : FieldTable → Ident → MaybeFault
 field_fault fields w =
     first_of
     (fault_if (is_some (field_named fields w.text)) fault.FieldTwice w.line)
     (fault_if (nat_le 18 (length fields.maxima)) fault.TooManyFields w.line)
 
--- the tag: there is none so far, and it is a declared field, behind the switch and the port
-abbrev pub tag_fault : FieldTable → Word → MaybeFault
+-- the tag: there is none so far, and it is a declared field, after the switch and the port
+abbrev pub tag_fault : FieldTable → Ident → MaybeFault
 tag_fault fields w =
     first_of
     (fault_if (is_some fields.tag) fault.TagTwice w.line)
     (fault_if (not (is_from 2 (field_named fields w.text))) fault.TagUnknown w.line)
 
--- a port behind others of its switch: in range, and none of them
+-- a port after others of its switch: in range, and none of them
 abbrev pub port_fault : (before : List ℕ) → Number → MaybeFault
 port_fault before p =
     first_of (above 65535 p) (fault_if (list_any (λ q. p.value == q) before) fault.PortTwice p.line)
@@ -146,11 +146,11 @@ IsFirstFault NoMemory first = ⊤
 IsFirstFault (Fault k line) first = first ≡ Some (Fault k line)
 
 -- this is the answer's fault; want of memory may come at any
-abbrev pub IsFault : {X : Type 0} → DeclareError → Result X DeclareError → Type 0
-IsFault NoMemory wanted = ⊤
-IsFault (Fault k line) wanted = wanted ≡ Err (Fault k line)
+abbrev pub IsDeclareFault : {X : Type 0} → DeclareError → Result X DeclareError → Type 0
+IsDeclareFault NoMemory wanted = ⊤
+IsDeclareFault (Fault k line) wanted = wanted ≡ Err (Fault k line)
 
 -- what is returned is what is wanted, seen so, or want of memory
-abbrev pub Returns : {X Y : Type 0} → (X → Y) → Result X DeclareError → Result Y DeclareError → Type 0
-Returns view (Ok x) wanted = wanted ≡ Ok (view x)
-Returns view (Err e) wanted = IsFault e wanted
+abbrev pub DeclareReturns : {X Y : Type 0} → (X → Y) → Result X DeclareError → Result Y DeclareError → Type 0
+DeclareReturns view (Ok x) wanted = wanted ≡ Ok (view x)
+DeclareReturns view (Err e) wanted = IsDeclareFault e wanted

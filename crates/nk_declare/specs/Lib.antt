@@ -1,4 +1,4 @@
 pub mod Declarations
 pub mod InMemory
 pub mod Kept
-pub mod Words
+pub mod Messages

@@ -1,14 +1,14 @@
 //! What is declared after one more declaration.
 ghost use Rattle.std.specs.Prelude.{◌≡◌, None, Some, false, IfErr, IfOk, MatchResult, OnErr, OnOk};
 ghost use Rattle.nk_topo.specs.Topology.{has_double, is_switch, with_switch};
-ghost use Rattle.nk_declare.specs.Declarations.{Returns, field, tag, switch, link, declared_with, nothing_declared, number_fault};
+ghost use Rattle.nk_declare.specs.Declarations.{DeclareReturns, field, tag, switch, link, declared_with, nothing_declared, number_fault};
 ghost use Rattle.nk_declare.specs.InMemory.{declared_in};
 
 use crate::check::{ends_of, place_of, ports_of, refuse_if};
 use crate::fault::{DeclareError, DeclareFault};
 use crate::names::field_with;
 use nk_field::{Fields, FieldsError};
-use nk_lex::{Number, Word};
+use nk_lex::{Ident, Number};
 use nk_topo::{LinkEnd, TopoBuilder, TopoError};
 use std::alloc::{AllocError, Global};
 
@@ -37,8 +37,8 @@ impl Declared {
     /// One more field. It is a fault that a field has the name already, or else that sixteen are declared already.
     ///
     /// An `Err` leaves what is declared as it was, here and below.
-    pub fn add_field(&mut self, w: &Word, n: Number) -> Result<(), DeclareError>
-        ensures answer { Returns (λ _. declared_in self.new) result (declared_with (declared_in self.old) (field w.now n)) }
+    pub fn add_field(&mut self, w: &Ident, n: Number) -> Result<(), DeclareError>
+        ensures answer { DeclareReturns (λ _. declared_in self.new) result (declared_with (declared_in self.old) (field w.now n)) }
         ensures kept { OnErr result (declared_in self.new ≡ declared_in self.old) }
     {
         let kind = match self.fields.add(w.text.as_str(), n.value) {
@@ -53,7 +53,7 @@ impl Declared {
     /// The tag, whose name stands on the line. It is a fault that there is a tag already, or else that no declared field
     /// has the name. It takes no memory.
     pub fn add_tag(&mut self, name: &[u8], line: u64) -> Result<(), DeclareError>
-        ensures answer { Returns (λ _. declared_in self.new) result
+        ensures answer { DeclareReturns (λ _. declared_in self.new) result
             (declared_with (declared_in self.old) (tag (record { text = name.now; line = line }))) }
         ensures kept { OnErr result (declared_in self.new ≡ declared_in self.old) }
         ensures memory { IfErr result (λ e. e ≡ DeclareError.NoMemory → ⊥) }
@@ -114,7 +114,7 @@ impl Declared {
         n: Number,
         ports: &[Number],
     ) -> Result<(), DeclareError>
-        ensures answer { Returns (λ _. declared_in self.new) result (declared_with (declared_in self.old) (switch n ports.now)) }
+        ensures answer { DeclareReturns (λ _. declared_in self.new) result (declared_with (declared_in self.old) (switch n ports.now)) }
         ensures kept { OnErr result (declared_in self.new ≡ declared_in self.old) }
     {
         let number = self.new_switch(n)?;
@@ -133,7 +133,7 @@ impl Declared {
         b: Number,
         n: Number,
     ) -> Result<(), DeclareError>
-        ensures answer { Returns (λ _. declared_in self.new) result (declared_with (declared_in self.old) (link a m b n)) }
+        ensures answer { DeclareReturns (λ _. declared_in self.new) result (declared_with (declared_in self.old) (link a m b n)) }
         ensures kept { OnErr result (declared_in self.new ≡ declared_in self.old) }
     {
         let (from_switch, from_port, to_switch, to_port) = ends_of(a, m, b, n)?;

@@ -7,7 +7,7 @@ use thiserror::Error;
 
 /// What is wrong with a declaration.
 #[derive(Clone, Copy, Debug, PartialEq, Eq, Error)]
-#[error("{}", self.words())]
+#[error("{}", self.message())]
 pub enum DeclareFault {
     /// A field has the name already; the switch is `sw` and the port `pt`.
     FieldTwice,

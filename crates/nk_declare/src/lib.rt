@@ -7,8 +7,8 @@
 mod check;
 mod declare;
 mod fault;
+mod messages;
 mod names;
-mod words;
 
 pub use check::Ports;
 pub use declare::Declared;

@@ -17,7 +17,7 @@ use Rattle.nk_policy.proofs.Tests.{both_true, or_left, or_right, same_number}
 use Rattle.nk_policy.proofs.Steps.{left_is}
 use Rattle.nk_deriv.specs.declared.values.Part.{Part}
 use Rattle.nk_deriv.specs.Part.{NegatesPredicates, AllNegatePredicates, IsDupFree, AllDupFree, IsBuiltOf, IsLegOf, IsWithin, LegsGive, IsPartOfDerivative}
-use Rattle.nk_deriv.specs.Turns.{IsPlacedIn, IsEither, IsRounds, ArePutBehind, AllEnd, AllRecord, AreInTurn, IsCollected, ArePartsOf}
+use Rattle.nk_deriv.specs.Turns.{IsPlacedIn, IsEither, IsRounds, ArePutAfter, AllEnd, AllRecord, AreInTurn, IsCollected, ArePartsOf}
 use Rattle.nk_deriv.proofs.Silent.{seq_ends, seq_records, none_ends, star_records, star_as, dup_third_ends, dup_third_records}
 use Rattle.nk_deriv.proofs.Steps.{made_drop, made_id}
 use Rattle.nk_deriv.proofs.Legs.{legs_push}
@@ -53,7 +53,7 @@ in_head s p ps i = record {
   dups = λ l h. i.dups l (or_left (has_dup p l) (some_has_dup ps l) h);
 }
 
--- and so are the parts behind it
+-- and so are the parts after it
 pub in_tail : (s p : Policy) (ps : Policies) → IsPlacedIn s (seq_of (part p ps)) → IsPlacedIn s (seq_of ps)
 in_tail s p ps i = record {
   over = λ fields h. (i.over fields h).1;
@@ -156,7 +156,7 @@ collected_seq old new free states ps h turns = record {
 
 -- a star
 pub collected_star : (old new legs : List (Pol × ℕ)) (free f p : Policy) → IsCollected [] legs f p
-    → IsRounds free f → ArePutBehind old new free legs → IsCollected old new free (star_of p)
+    → IsRounds free f → ArePutAfter old new free legs → IsCollected old new free (star_of p)
 collected_star old new legs free f p c rounds put = record {
   ends = λ pk x. (
     λ g. star_as f p (λ a b r. (c.ends a b).0 r) pk x ((rounds.ends pk x).0 g),

@@ -1,4 +1,4 @@
--- States in turn: the loop over their parts, and the part of what comes next behind them.
+-- States in turn: the loop over their parts, and the part of what comes next after them.
 use Rattle.std.proofs.Common.{◌≡◌, ℕ, suc, ◌+◌, ◌<◌, ◌≤◌, true, ◌⊎◌, inl, inr, ⊎_elim, ◌↔◌, List, [], ◌∷◌, All, length, get_or, drop, drop-cons, add-one, refl, sym, ap, subst, ◌∙◌}
 use Rattle.std.proofs.lemmas.List.{drop_all}
 use Rattle.std.proofs.lemmas.List.Elements.{All-nil, All-head, All-tail}
@@ -10,7 +10,7 @@ use Rattle.nk_policy.specs.Meaning.{Gives}
 use Rattle.nk_policy.specs.After.{id_policy}
 use Rattle.nk_deriv.specs.declared.values.Part.{Part}
 use Rattle.nk_deriv.specs.Part.{IsBuiltOf, IsLegOf, IsWithin, LegsGive}
-use Rattle.nk_deriv.specs.Turns.{is_drop, IsTurn, ArePutBehind, AllEnd, AllRecord, AreInTurn, IsContinued}
+use Rattle.nk_deriv.specs.Turns.{is_drop, IsTurn, ArePutAfter, AllEnd, AllRecord, AreInTurn, IsSequencedBefore}
 use Rattle.nk_deriv.proofs.Silent.{none_ends}
 use Rattle.nk_deriv.proofs.Steps.{drop_ends, made_id}
 
@@ -42,7 +42,7 @@ turning_none old free all e =
 
 -- one more state
 pub turning_more : (old legs legs' : List (Pol × ℕ)) (free free' : Policy) (state : Part) (left all : List Part)
-    → ArePutBehind legs legs' free state.legs → IsTurn free' free (tree_of state.free)
+    → ArePutAfter legs legs' free state.legs → IsTurn free' free (tree_of state.free)
     → IsTurning old legs free (state ∷ left) all → IsTurning old legs' free' left all
 turning_more old legs legs' free free' state left all put turn inv = record {
   ends = λ pk x. (
@@ -91,7 +91,7 @@ state_is xs i q lt is = rw add-one (drop-cons xs i q lt ∙ ap (λ x. x ∷ drop
 -- the same by the place in the list
 pub turning_next : (old legs legs' : List (Pol × ℕ)) (free free' : Policy) (state : Part) (all : List Part) (i : ℕ)
     → i < length all → state ≡ get_or all i state
-    → ArePutBehind legs legs' free state.legs → IsTurn free' free (tree_of state.free)
+    → ArePutAfter legs legs' free state.legs → IsTurn free' free (tree_of state.free)
     → IsTurning old legs free (drop i all) all → IsTurning old legs' free' (drop (i + 1) all) all
 turning_next old legs legs' free free' state all i lt is put turn inv =
     turning_more old legs legs' free free' state (drop (i + 1) all) all put turn
@@ -133,8 +133,8 @@ turning_drop old legs free left all h inv = record {
 
 -- states in turn, and then the next part
 pub continued_is : (r next : Part) (states : List Part) (legs : List (Pol × ℕ)) (free : Policy)
-    → AreInTurn [] legs free states → ArePutBehind legs r.legs free next.legs
-    → IsTurn (tree_of r.free) free (tree_of next.free) → IsContinued r states next
+    → AreInTurn [] legs free states → ArePutAfter legs r.legs free next.legs
+    → IsTurn (tree_of r.free) free (tree_of next.free) → IsSequencedBefore r states next
 continued_is r next states legs free turns put turn = record {
   ends = λ pk x. (
     λ g.

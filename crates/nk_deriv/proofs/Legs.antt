@@ -1,4 +1,4 @@
--- Legs put behind others, each with a free policy before it.
+-- Legs put after others, each with a free policy before it.
 use Rattle.std.proofs.Common.{◌≡◌, ℕ, ◌+◌, ◌<◌, ◌≤◌, true, ◌⊎◌, inl, inr, ⊎_elim, ◌↔◌, List, [], ◌∷◌, ◌++◌, All, length, get_or, take, refl, sym, ap, subst, ◌∙◌}
 use Rattle.std.proofs.lemmas.List.{take_more, take_all, take_at}
 use Rattle.std.proofs.lemmas.List.Elements.{All-push, All-take, All-same, All-contains, Contains-push}
@@ -8,7 +8,7 @@ use Rattle.nk_policy.specs.Policy.{Policy}
 use Rattle.nk_policy.specs.Tree.{tree_of}
 use Rattle.nk_policy.specs.Meaning.{Gives}
 use Rattle.nk_deriv.specs.Part.{IsLegOf, LegsGive}
-use Rattle.nk_deriv.specs.Turns.{is_drop, IsTurn, ArePutBehind}
+use Rattle.nk_deriv.specs.Turns.{is_drop, IsTurn, ArePutAfter}
 use Rattle.nk_deriv.proofs.Steps.{drop_ends}
 
 -- legs in two pieces
@@ -49,17 +49,17 @@ all_front s xs leg h = All-same (IsLegOf s) xs (take (length xs) (xs ++ leg ∷ 
 all_last : (s : Policy) (xs : List (Pol × ℕ)) (leg : Pol × ℕ) → All (IsLegOf s) (xs ++ leg ∷ []) → IsLegOf s leg
 all_last s xs leg h = All-contains (IsLegOf s) (xs ++ leg ∷ []) leg h (Contains-push xs leg)
 
--- no leg is put behind at first
-pub behind_none : (old : List (Pol × ℕ)) (free : Policy) → ArePutBehind old old free []
-behind_none old free = record {
+-- no leg is put after at first
+pub after_none : (old : List (Pol × ℕ)) (free : Policy) → ArePutAfter old old free []
+after_none old free = record {
   records = λ pk y l. (λ g. inl g, λ g. ⊎_elim (λ a. a) (λ b. absurd b.2) g);
   within = λ s o f r. o;
 }
 
--- behind a policy that drops each packet none is
-pub behind_drop : (old new : List (Pol × ℕ)) (free : Policy) (legs : List (Pol × ℕ)) → new ≡ old
-    → is_drop free ≡ true → ArePutBehind old new free legs
-behind_drop old new free legs e h = record {
+-- after a policy that drops each packet none is
+pub after_drop : (old new : List (Pol × ℕ)) (free : Policy) (legs : List (Pol × ℕ)) → new ≡ old
+    → is_drop free ≡ true → ArePutAfter old new free legs
+after_drop old new free legs e h = record {
   records = λ pk y l. (
     λ g. inl (subst (λ r. LegsGive r pk y l) e g),
     λ g. ⊎_elim (λ a. subst (λ r. LegsGive r pk y l) (sym e) a) (λ b. absurd (drop_ends free h pk b.0 b.1)) g,
@@ -68,14 +68,14 @@ behind_drop old new free legs e h = record {
 }
 
 -- the loop's fact, after one more leg
-pub behind_more : (old out new : List (Pol × ℕ)) (free : Policy) (legs : List (Pol × ℕ)) (i : ℕ)
+pub following_more : (old out new : List (Pol × ℕ)) (free : Policy) (legs : List (Pol × ℕ)) (i : ℕ)
     (leg : Pol × ℕ) (ways : Pol) → i < length legs → leg ≡ get_or legs i leg
     → IsTurn (tree_of ways) free (tree_of leg.0) → new ≡ out ++ (ways, leg.1) ∷ []
-    → ArePutBehind old out free (take i legs) → ArePutBehind old new free (take (i + 1) legs)
-behind_more old out new free legs i leg ways lt is turn e inv =
+    → ArePutAfter old out free (take i legs) → ArePutAfter old new free (take (i + 1) legs)
+following_more old out new free legs i leg ways lt is turn e inv =
     let more : take (i + 1) legs ≡ take i legs ++ leg ∷ [] =
     take_more legs i leg lt ∙ ap (λ r. take i legs ++ r ∷ []) (sym is) in
-    let pushed : ArePutBehind old (out ++ (ways, leg.1) ∷ []) free (take i legs ++ leg ∷ []) = record {
+    let pushed : ArePutAfter old (out ++ (ways, leg.1) ∷ []) free (take i legs ++ leg ∷ []) = record {
       records = λ pk y l. (
         λ g.
             ⊎_elim
@@ -104,9 +104,9 @@ behind_more old out new free legs i leg ways lt is turn e inv =
           let one : IsLegOf s leg = all_last s (take i legs) leg r in
           All-push (IsLegOf s) out (ways, leg.1) (inv.within s o f front) (turn.within s f one.0, one.1);
     } in
-    subst (λ n. ArePutBehind old n free (take (i + 1) legs)) (sym e) (subst (λ r. ArePutBehind old (out ++ (ways, leg.1) ∷ []) free r) (sym more) pushed)
+    subst (λ n. ArePutAfter old n free (take (i + 1) legs)) (sym e) (subst (λ r. ArePutAfter old (out ++ (ways, leg.1) ∷ []) free r) (sym more) pushed)
 
--- in the end all legs are put behind
-pub behind_all : (old new : List (Pol × ℕ)) (free : Policy) (legs : List (Pol × ℕ)) (i : ℕ) → length legs ≤ i
-    → ArePutBehind old new free (take i legs) → ArePutBehind old new free legs
-behind_all old new free legs i le inv = subst (λ r. ArePutBehind old new free r) (take_all i legs le) inv
+-- in the end all legs are put after
+pub following_all : (old new : List (Pol × ℕ)) (free : Policy) (legs : List (Pol × ℕ)) (i : ℕ) → length legs ≤ i
+    → ArePutAfter old new free (take i legs) → ArePutAfter old new free legs
+following_all old new free legs i le inv = subst (λ r. ArePutAfter old new free r) (take_all i legs le) inv

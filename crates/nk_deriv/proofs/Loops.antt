@@ -17,7 +17,7 @@ use Rattle.nk_policy.proofs.DupsOfRuns.{rest_dups}
 use Rattle.nk_policy.proofs.Uses.{rest_uses}
 use Rattle.nk_deriv.specs.declared.values.Part.{Part}
 use Rattle.nk_deriv.specs.Part.{AllNegatePredicates, IsBuiltOf, IsLegOf, IsWithin, LegsGive, IsPartOfDerivative}
-use Rattle.nk_deriv.specs.Turns.{IsPlacedIn, ArePartsOf, IsContinued, IsFollowed, AreRests}
+use Rattle.nk_deriv.specs.Turns.{IsPlacedIn, ArePartsOf, IsSequencedBefore, IsFollowed, AreRests}
 use Rattle.nk_deriv.proofs.Silent.{none_ends}
 use Rattle.nk_deriv.proofs.Steps.{made_id}
 use Rattle.nk_deriv.proofs.Collected.{in_itself, within_in}
@@ -78,18 +78,18 @@ sum_one old out new next p left all more inv =
     more)
     inv
 
--- of a sequence, the part that goes on being that of the parts behind it and then of the next
-seq_one : (old out new : List (ℕ × Part)) (next behind : Part) (states : List Part) (p : Policy) (left all : Policies)
-    → ArePartsOf states left → IsContinued behind states next
-    → AreRests out new (after p) (numbers_of p) behind
+-- of a sequence, the part that goes on being that of the parts after it and then of the next
+seq_one : (old out new : List (ℕ × Part)) (next following : Part) (states : List Part) (p : Policy) (left all : Policies)
+    → ArePartsOf states left → IsSequencedBefore following states next
+    → AreRests out new (after p) (numbers_of p) following
     → IsResting old out next after_all (part p left) all → IsResting old new next after_all left all
-seq_one old out new next behind states p left all h c more inv =
+seq_one old out new next following states p left all h c more inv =
     resting_one old out new next after_all p left all
     (λ l g. ap (λ b. if b then seq_of (part (after p l) left) else after_all left l) g)
-    (rests_as out new (after p) (after_all (part p left)) (numbers_of p) behind next
+    (rests_as out new (after p) (after_all (part p left)) (numbers_of p) following next
     (λ l r g f.
     subst (λ b. IsFollowed r (if b then seq_of (part (after p l) left) else after_all left l) next) (sym ((numbers_are p l).0 g))
-    (followed_seq r behind next (after p l) states left c h f))
+    (followed_seq r following next (after p l) states left c h f))
     more)
     inv
 
@@ -130,15 +130,15 @@ parts_many (s ∷ states) [] h = absurd h
 parts_many (s ∷ states) (x ∷ xs) h = ap suc (parts_many states xs h.1)
 
 -- the loop over a sequence, after one more part
-pub seq_next : (old out new : List (ℕ × Part)) (next behind : Part) (states behinds : List Part) (q : Pol) (xs : List Pol) (i : ℕ)
-    → i < length xs → q ≡ get_or xs i q → ArePartsOf states (trees_of xs) → behinds ≡ drop (i + 1) states
-    → IsContinued behind behinds next
-    → AreRests out new (after (tree_of q)) (numbers_of (tree_of q)) behind
+pub seq_next : (old out new : List (ℕ × Part)) (next following : Part) (states followings : List Part) (q : Pol) (xs : List Pol) (i : ℕ)
+    → i < length xs → q ≡ get_or xs i q → ArePartsOf states (trees_of xs) → followings ≡ drop (i + 1) states
+    → IsSequencedBefore following followings next
+    → AreRests out new (after (tree_of q)) (numbers_of (tree_of q)) following
     → IsResting old out next after_all (trees_of (drop i xs)) (trees_of xs)
     → IsResting old new next after_all (trees_of (drop (i + 1) xs)) (trees_of xs)
-seq_next old out new next behind states behinds q xs i lt is h e c more inv =
-    seq_one old out new next behind (drop (i + 1) states) (tree_of q) (trees_of (drop (i + 1) xs)) (trees_of xs)
-    (parts_from states xs (i + 1) h) (subst (λ b. IsContinued behind b next) e c) more
+seq_next old out new next following states followings q xs i lt is h e c more inv =
+    seq_one old out new next following (drop (i + 1) states) (tree_of q) (trees_of (drop (i + 1) xs)) (trees_of xs)
+    (parts_from states xs (i + 1) h) (subst (λ b. IsSequencedBefore following b next) e c) more
     (subst (λ l. IsResting old out next after_all (trees_of l) (trees_of xs)) (left_is xs i q lt is) inv)
 
 -- after a part without dups

@@ -14,7 +14,7 @@ use Rattle.nk_policy.specs.After.{id_policy, drop_policy, after}
 use Rattle.nk_policy.proofs.Tests.{both_true, or_left, same_number, next_number}
 use Rattle.nk_deriv.specs.declared.values.Part.{Part}
 use Rattle.nk_deriv.specs.Part.{NegatesPredicates, IsBuiltOf, IsLegOf, IsWithin, LegsGive, IsPartOfDerivative}
-use Rattle.nk_deriv.specs.Turns.{ArePartsOf, IsContinued, IsFollowed, AreRests}
+use Rattle.nk_deriv.specs.Turns.{ArePartsOf, IsSequencedBefore, IsFollowed, AreRests}
 use Rattle.nk_deriv.proofs.Silent.{seq_ends, seq_records, none_ends, dup_third_ends, dup_third_records, id_first_ends, id_first_records}
 use Rattle.nk_deriv.proofs.Steps.{made_drop}
 use Rattle.nk_deriv.proofs.Collected.{in_head, in_tail, all_end, all_record, all_within}
@@ -61,10 +61,10 @@ rests_as old new rest rest' labels next next' f a = record {
 }
 
 -- followed by what goes on as some policies do in turn, and then as the next part
-pub followed_seq : (r behind next : Part) (s : Policy) (states : List Part) (ps : Policies)
-    → IsContinued behind states next → ArePartsOf states ps → IsFollowed r s behind
+pub followed_seq : (r following next : Part) (s : Policy) (states : List Part) (ps : Policies)
+    → IsSequencedBefore following states next → ArePartsOf states ps → IsFollowed r s following
     → IsFollowed r (seq_of (part s ps)) next
-followed_seq r behind next s states ps c h f = record {
+followed_seq r following next s states ps c h f = record {
   ends = λ pk x. (
     λ g.
         let t = (f.ends pk x).0 g in
@@ -102,7 +102,7 @@ followed_seq r behind next s states ps c h f = record {
 }
 
 -- a copy of the next part follows the policy that keeps each packet
-pub followed_id : (r next : Part) (s : Policy) → s ≡ id_policy → IsContinued r [] next → IsFollowed r s next
+pub followed_id : (r next : Part) (s : Policy) → s ≡ id_policy → IsSequencedBefore r [] next → IsFollowed r s next
 followed_id r next s e c =
     let here : IsFollowed r id_policy next = record {
       ends = λ pk x. (
@@ -119,7 +119,7 @@ followed_id r next s e c =
 
 -- what is left of a dup
 pub rests_dup : (old new : List (ℕ × Part)) (next r : Part) (l : ℕ) → new ≡ old ++ (l, r) ∷ []
-    → IsContinued r [] next → AreRests old new (after (dup l)) (l ∷ []) next
+    → IsSequencedBefore r [] next → AreRests old new (after (dup l)) (l ∷ []) next
 rests_dup old new next r l e c =
     rests_one old new (after (dup l)) next r l e
     (followed_id r next (after (dup l) l) (ap (λ b. if b then id_policy else drop_policy) (same_number l)) c)
@@ -150,7 +150,7 @@ second_rest_is a m b n l =
 -- it keeps the packet
 followed_second : (r next : Part) → IsFollowed r id_policy next → IsFollowed r second_rest next
 followed_second r next f =
-    let same : IsContinued next [] next = record {
+    let same : IsSequencedBefore next [] next = record {
       ends = λ pk x. (λ g. (pk, refl, g), λ g. subst (λ z. Gives (tree_of next.free) z [] x) g.1 g.2);
       records = λ pk y l. (
         λ g. inr (pk, refl, g),
@@ -160,7 +160,7 @@ followed_second r next f =
     } in
     followed_seq r next next id_policy [] no_part same tt f
 
--- the parts of the first rest behind the policy that keeps each packet
+-- the parts of the first rest after the policy that keeps each packet
 abbrev moving : ℕ → ℕ → ℕ → Policies
 moving b n l = part (assign 0 b) (part (assign 1 n) (part (dup (l + 1)) no_part))
 
@@ -212,7 +212,7 @@ pub rests_link : (old mid new : List (ℕ × Part)) (next r r' : Part) (moved : 
     → mid ≡ old ++ (l, r) ∷ [] → new ≡ mid ++ (l + 1, r') ∷ []
     → tree_of r.free ≡ drop_policy → r.legs ≡ (moved, l + 1) ∷ []
     → tree_of moved ≡ seq_of (part (assign 0 b) (part (assign 1 n) no_part))
-    → IsContinued r' [] next
+    → IsSequencedBefore r' [] next
     → AreRests old new (after (link a m b n l)) (l ∷ (l + 1) ∷ []) next
 rests_link old mid new next r r' moved a m b n l d e f g w c =
     let rest = after (link a m b n l) in
@@ -223,13 +223,13 @@ rests_link old mid new next r r' moved a m b n l d e f g w c =
     rests_joined old mid new rest (l ∷ []) ((l + 1) ∷ []) next (rests_one old mid rest next r l d first) (rests_one mid new rest next r' (l + 1) e second)
 
 -- what is left of a star
-pub rests_star : (old new : List (ℕ × Part)) (star next behind : Part) (q : Policy)
-    → IsPartOfDerivative star (star_of q) → IsContinued behind (star ∷ []) next
-    → AreRests old new (after q) (numbers_of q) behind
+pub rests_star : (old new : List (ℕ × Part)) (star next following : Part) (q : Policy)
+    → IsPartOfDerivative star (star_of q) → IsSequencedBefore following (star ∷ []) next
+    → AreRests old new (after q) (numbers_of q) following
     → AreRests old new (after (star_of q)) (numbers_of q) next
-rests_star old new star next behind q s c a =
-    rests_as old new (after q) (after (star_of q)) (numbers_of q) behind next
-    (λ l r h f. followed_seq r behind next (after q l) (star ∷ []) (part (star_of q) no_part) c (s, tt) f)
+rests_star old new star next following q s c a =
+    rests_as old new (after q) (after (star_of q)) (numbers_of q) following next
+    (λ l r h f. followed_seq r following next (after q l) (star ∷ []) (part (star_of q) no_part) c (s, tt) f)
     a
 
 -- a predicate has no dup

@@ -17,7 +17,7 @@ runs_of p pk x g =
 pub gives_of : (p : Policy) (pk x : Packet) → Runs p pk [] x → Gives p pk [] x
 gives_of p pk x r = (gives_is_runs p pk [] x).1 ([], refl, r)
 
--- a sequence without a record: its first part, then the parts behind it
+-- a sequence without a record: its first part, then the parts after it
 pub seq_ends : (p : Policy) (ps : Policies) (pk x : Packet)
     → Gives (seq_of (part p ps)) pk [] x ↔ ((z : Packet) × Gives p pk [] z × Gives (seq_of ps) z [] x)
 seq_ends p ps pk x = (
@@ -26,7 +26,7 @@ seq_ends p ps pk x = (
   λ g. ([], [], g.0, refl, g.1, g.2),
 )
 
--- what a sequence records first: its first part does, or that ends and the parts behind it do
+-- what a sequence records first: its first part does, or that ends and the parts after it do
 pub seq_records : (p : Policy) (ps : Policies) (pk y : Packet) (l : ℕ)
     → RecordsAt (seq_of (part p ps)) pk [] y l
     ↔ (RecordsAt p pk [] y l ⊎ ((z : Packet) × Gives p pk [] z × RecordsAt (seq_of ps) z [] y l))

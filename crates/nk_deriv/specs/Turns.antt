@@ -42,8 +42,8 @@ pub record IsEither (r p q : Policy) : Type 0 where
   pub ends : (pk x : Packet) → Gives r pk [] x ↔ (Gives p pk [] x ⊎ Gives q pk [] x)
   pub within : (s : Policy) → IsBuiltOf s p → IsBuiltOf s q → IsBuiltOf s r
 
--- the legs record what the legs before do, and what a free policy and then the legs behind it do
-pub record ArePutBehind (old new : List (Pol × ℕ)) (free : Policy) (legs : List (Pol × ℕ)) : Type 0 where
+-- the legs record what the legs before do, and what a free policy and then the legs after it do
+pub record ArePutAfter (old new : List (Pol × ℕ)) (free : Policy) (legs : List (Pol × ℕ)) : Type 0 where
   pub records : (pk y : Packet) (l : ℕ)
       → LegsGive new pk y l ↔ (LegsGive old pk y l ⊎ ((z : Packet) × Gives free pk [] z × LegsGive legs z y l))
   pub within : (s : Policy) → All (IsLegOf s) old → IsBuiltOf s free → All (IsLegOf s) legs → All (IsLegOf s) new
@@ -59,14 +59,14 @@ AllRecord [] pk y l = ⊥
 AllRecord (s ∷ states) pk y l =
     LegsGive s.legs pk y l ⊎ ((z : Packet) × Gives (tree_of s.free) pk [] z × AllRecord states z y l)
 
--- the free policy is that of the parts in turn, and their legs are put behind those before
+-- the free policy is that of the parts in turn, and their legs are put after those before
 pub record AreInTurn (old new : List (Pol × ℕ)) (free : Policy) (states : List Part) : Type 0 where
   pub ends : (pk x : Packet) → Gives free pk [] x ↔ AllEnd states pk x
   pub records : (pk y : Packet) (l : ℕ) → LegsGive new pk y l ↔ (LegsGive old pk y l ⊎ AllRecord states pk y l)
   pub within : (s : Policy) → All (IsLegOf s) old → All (IsWithin s) states
       → IsBuiltOf s free × All (IsLegOf s) new
 
--- the free policy is that of the state p, and its legs are put behind those before
+-- the free policy is that of the state p, and its legs are put after those before
 pub record IsCollected (old new : List (Pol × ℕ)) (free p : Policy) : Type 0 where
   pub ends : (pk x : Packet) → Gives free pk [] x ↔ Gives p pk [] x
   pub records : (pk y : Packet) (l : ℕ) → LegsGive new pk y l ↔ (LegsGive old pk y l ⊎ RecordsAt p pk [] y l)
@@ -80,7 +80,7 @@ ArePartsOf (s ∷ states) no_part = ⊥
 ArePartsOf (s ∷ states) (part p ps) = IsPartOfDerivative s p × ArePartsOf states ps
 
 -- the part is that of the parts in turn, and then of the next one
-pub record IsContinued (r : Part) (states : List Part) (next : Part) : Type 0 where
+pub record IsSequencedBefore (r : Part) (states : List Part) (next : Part) : Type 0 where
   pub ends : (pk x : Packet)
       → Gives (tree_of r.free) pk [] x ↔ ((z : Packet) × AllEnd states pk z × Gives (tree_of next.free) z [] x)
   pub records : (pk y : Packet) (l : ℕ)
@@ -95,7 +95,7 @@ pub record IsFollowed (r : Part) (s : Policy) (next : Part) : Type 0 where
       → LegsGive r.legs pk y l ↔ (RecordsAt s pk [] y l ⊎ ((z : Packet) × Gives s pk [] z × LegsGive next.legs z y l))
   pub within : (p : Policy) → IsPlacedIn p s → IsWithin p next → IsWithin p r
 
--- behind the entries before stand new ones with these labels, each the part of what is left after its label, and then of
+-- after the entries before stand new ones with these labels, each the part of what is left after its label, and then of
 -- the next one
 pub record AreRests (old new : List (ℕ × Part)) (rest : ℕ → Policy) (labels : List ℕ) (next : Part) : Type 0 where
   pub added : List (ℕ × Part)

@@ -5,7 +5,7 @@ ghost use Rattle.nk_policy.specs.Tree.{tree_of, trees_of};
 ghost use Rattle.nk_deriv.specs.Part.{NegatesPredicates, AllNegatePredicates, IsPartOfDerivative};
 ghost use Rattle.nk_deriv.specs.Turns.{IsCollected, IsEither, ArePartsOf};
 
-use crate::turns::{dropping, in_turn, is_drop, keeping, put_behind, repeated};
+use crate::turns::{dropping, in_turn, is_drop, keeping, put_following, repeated};
 use crate::values::Part;
 use nk_field::{Fid, List};
 use nk_policy::{Pol, Pols};
@@ -21,7 +21,7 @@ pub fn part_of(alloc: Global, p: &Pol) -> Result<Part, AllocError>
     Ok(Part { free, legs })
 }
 
-/// The free policy of a policy; puts its legs behind those before.
+/// The free policy of a policy; puts its legs after those before.
 #[cycle(first)]
 #[tactic(auto, using(nk_policy::proofs::Trees::tree_of_sum, nk_policy::proofs::Trees::tree_of_seq))]
 fn collected(alloc: Global, p: &Pol, legs: &mut List<(Pol, u32)>) -> Result<Pol, AllocError>
@@ -52,8 +52,8 @@ fn collected(alloc: Global, p: &Pol, legs: &mut List<(Pol, u32)>) -> Result<Pol,
             let mut firsts = List::new(alloc);
             let round = collected(alloc, q, &mut firsts)?;
             let star = repeated(alloc, round)?;
-            let behind = firsts.as_slice();
-            put_behind(alloc, legs, &star, behind)?;
+            let following = firsts.as_slice();
+            put_following(alloc, legs, &star, following)?;
             Ok(star)
         }
         Pol::Dup(l) => {
@@ -71,7 +71,7 @@ fn collected(alloc: Global, p: &Pol, legs: &mut List<(Pol, u32)>) -> Result<Pol,
     }
 }
 
-/// The free policy of a sum; puts its legs behind those before.
+/// The free policy of a sum; puts its legs after those before.
 #[cycle(first)]
 fn collected_any(alloc: Global, ps: &[Pol], legs: &mut List<(Pol, u32)>) -> Result<Pol, AllocError>
     requires complements { AllNegatePredicates (trees_of ps.now) }

@@ -7,7 +7,7 @@ ghost use Rattle.nk_policy.specs.After.{drop_policy, after, after_some, after_al
 ghost use Rattle.nk_policy.specs.Distinct.{HasDistinct, AllDistinct};
 ghost use Rattle.nk_deriv.specs.declared.values.Part.{Part as PartValue};
 ghost use Rattle.nk_deriv.specs.Part.{NegatesPredicates, AllNegatePredicates};
-ghost use Rattle.nk_deriv.specs.Turns.{AreRests, ArePartsOf, IsContinued};
+ghost use Rattle.nk_deriv.specs.Turns.{AreRests, ArePartsOf, IsSequencedBefore};
 
 use crate::first::{part_of, parts_of_all};
 use crate::turns::{continued, dropping};
@@ -106,8 +106,8 @@ fn rests_in_turn(
         let count = dups(q);
         if count > 0 {
             let later = states_from(states, i + 1);
-            let behind = continued(alloc, later, next)?;
-            rests(alloc, q, &behind, out)?;
+            let following = continued(alloc, later, next)?;
+            rests(alloc, q, &following, out)?;
         }
     }
     Ok(())
@@ -128,7 +128,7 @@ fn push_next(
     next: &Part,
     out: &mut List<(u32, Part)>,
 ) -> Result<(), AllocError>
-    ensures { OnOk result ((rest : PartValue) × (out.new ≡ out.old ++ (label, rest) ∷ []) × IsContinued rest [] next.now) }
+    ensures { OnOk result ((rest : PartValue) × (out.new ≡ out.old ++ (label, rest) ∷ []) × IsSequencedBefore rest [] next.now) }
 {
     let rest = continued(alloc, &[], next)?;
     out.push((label, rest))?;

@@ -4,7 +4,7 @@ ghost use Rattle.nk_policy.specs.Policy.{star_of};
 ghost use Rattle.nk_policy.specs.After.{id_policy, drop_policy};
 ghost use Rattle.nk_policy.specs.Tree.{tree_of, trees_of};
 ghost use Rattle.nk_policy.specs.declared.policy.Pol.{Pol as PolValue};
-ghost use Rattle.nk_deriv.specs.Turns.{is_drop as is_drop_tree, steps_of as steps_of_tree, IsTurn, IsRounds, ArePutBehind, AreInTurn, IsContinued};
+ghost use Rattle.nk_deriv.specs.Turns.{is_drop as is_drop_tree, steps_of as steps_of_tree, IsTurn, IsRounds, ArePutAfter, AreInTurn, IsSequencedBefore};
 
 use crate::values::Part;
 use nk_field::List;
@@ -114,15 +114,15 @@ fn star(alloc: Global, p: Pol) -> Result<Pol, AllocError>
     Ok(Pol::Star(Box::new(alloc, p)?))
 }
 
-/// Puts the legs behind those that are there, each with the free policy before it; none where that is
+/// Puts the legs after those that are there, each with the free policy before it; none where that is
 /// the empty sum. The only error is that memory ran out.
-pub fn put_behind(
+pub fn put_following(
     alloc: Global,
     out: &mut List<(Pol, u32)>,
     free: &Pol,
     legs: &[(Pol, u32)],
 ) -> Result<(), AllocError>
-    ensures { OnOk result (ArePutBehind out.old out.new (tree_of free.now) legs.now) }
+    ensures { OnOk result (ArePutAfter out.old out.new (tree_of free.now) legs.now) }
 {
     let none = is_drop(free);
     if none {
@@ -136,7 +136,7 @@ pub fn put_behind(
     Ok(())
 }
 
-/// The free policy of these parts, one after another; their legs are put behind those that are there.
+/// The free policy of these parts, one after another; their legs are put after those that are there.
 /// The only error is that memory ran out.
 pub fn in_turn(
     alloc: Global,
@@ -151,7 +151,7 @@ pub fn in_turn(
         if none {
             return Ok(free);
         }
-        put_behind(alloc, legs, &free, state.legs.as_slice())?;
+        put_following(alloc, legs, &free, state.legs.as_slice())?;
         free = followed_by(alloc, free, &state.free)?;
     }
     Ok(free)
@@ -160,11 +160,11 @@ pub fn in_turn(
 /// The part of these parts, one after another, followed by the next one. The only error is that
 /// memory ran out.
 pub fn continued(alloc: Global, states: &[Part], next: &Part) -> Result<Part, AllocError>
-    ensures { IfOk result (λ r. IsContinued r states.now next.now) }
+    ensures { IfOk result (λ r. IsSequencedBefore r states.now next.now) }
 {
     let mut legs = List::new(alloc);
     let free = in_turn(alloc, states, &mut legs)?;
-    put_behind(alloc, &mut legs, &free, next.legs.as_slice())?;
+    put_following(alloc, &mut legs, &free, next.legs.as_slice())?;
     let whole = followed_by(alloc, free, &next.free)?;
     Ok(Part { free: whole, legs })
 }

@@ -70,7 +70,7 @@ ltb_other n k other =
       | inr a ↦ elim (ltb_tells n (k + 1)) [ inl b ↦ absurd (other (omega (arith, a.1, b.1))) | inr b ↦ a.0 ∙ sym b.0 ]
     ]
 
--- an act that assigns nothing to the field is exact behind it where it is so before it
+-- an act that assigns nothing to the field is exact after it where it is so before it
 act_skips : (maxes pk : List ℕ) (k : ℕ) (g : List (ℕ × ℕ)) → (Has (act_fields g) k → ⊥) → exact_below k maxes pk g ≡ exact_below (k + 1) maxes pk g
 act_skips maxes pk k [] none = refl
 act_skips maxes pk k (s ∷ ss) none =

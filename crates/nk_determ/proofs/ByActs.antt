@@ -13,7 +13,7 @@ use Rattle.nk_field.specs.Act.{applied}
 use Rattle.nk_field.specs.contracts.act.ActPartialEq.TheImpl.{ghosts}
 use Rattle.nk_store.specs.declared.node.Out.{Out}
 use Rattle.nk_store.specs.Leaves.{IsActFrom, Every, Suits, AreOrdered}
-use Rattle.nk_store.specs.Held.{Held, IsId, IsPacket, node_of, look, top, HasLeaves, AreTidy}
+use Rattle.nk_store.specs.StoreState.{StoreState, IsId, IsStorePacket, node_of, look, root_field, HasLeaves, AreTidy}
 use Rattle.nk_apply.specs.Seqs.{outs_of}
 use Rattle.nk_apply.specs.Unions.{AreIds, AreFrom, outs_in_turn}
 use Rattle.nk_apply.proofs.PartSums.{AreNodes}
@@ -88,21 +88,21 @@ acts_more first so_far new outs i o l is had put before are =
     (put (before ++ take i outs) (had before are))
 
 -- one leaf more
-pub leaves_more : (st : Held) (ds : List ℕ) (i d : ℕ) → i < length ds → d ≡ get_or ds i d → ((k : ℕ) → k < i → 18 ≤ top st (get_or ds k 0)) → 18 ≤ top st d →
-    (k : ℕ) → k < i + 1 → 18 ≤ top st (get_or ds k 0)
+pub leaves_more : (st : StoreState) (ds : List ℕ) (i d : ℕ) → i < length ds → d ≡ get_or ds i d → ((k : ℕ) → k < i → 18 ≤ root_field st (get_or ds k 0)) → 18 ≤ root_field st d →
+    (k : ℕ) → k < i + 1 → 18 ≤ root_field st (get_or ds k 0)
 leaves_more st ds i d l is had one k m = elim (leb_tells i k) [
   | inr before ↦ had k before.1
   | inl here ↦
       let same : i ≡ k = omega (arith, here.1, m) in
-      subst (λ j. 18 ≤ top st (get_or ds j 0)) same (subst (λ e. 18 ≤ top st e) (is ∙ get_or_default ds i d 0 l) one)
+      subst (λ j. 18 ≤ root_field st (get_or ds j 0)) same (subst (λ e. 18 ≤ root_field st e) (is ∙ get_or_default ds i d 0 l) one)
 ]
 
 -- one leaf's outs more
-pub turn_on : (st : Held) (ds : List ℕ) (i d : ℕ) → i < length ds → d ≡ get_or ds i d → outs_in_turn st (take i ds) ++ outs_of st d ≡ outs_in_turn st (take (i + 1) ds)
+pub turn_on : (st : StoreState) (ds : List ℕ) (i d : ℕ) → i < length ds → d ≡ get_or ds i d → outs_in_turn st (take i ds) ++ outs_of st d ≡ outs_in_turn st (take (i + 1) ds)
 turn_on st ds i d l is =
     flat_map_more (outs_of st) [] (take i ds) d ∙ ap (λ k. outs_in_turn st (take i ds ++ k ∷ [])) is ∙ ap (λ xs. outs_in_turn st xs) (sym (take_more ds i d l))
 
--- the labels of outs one list behind the other
+-- the labels of outs one list after the other
 pub labels_append : (g : List (ℕ × ℕ)) (os ys : List Out) → labels_of g (os ++ ys) ≡ labels_of g os ++ labels_of g ys
 labels_append g [] ys = refl
 labels_append g (o ∷ os) ys = by (ghosts.eq o.act g) (labels_append g os ys)
@@ -221,12 +221,12 @@ outs_more old new all acts outs g t grow are to =
       ];
     }
 
-module _ (st : Held) (ds : List ℕ) (nodes : AreNodes st) (ids : AreIds st ds) (leaves : AreFrom st 18 ds) where
+module _ (st : StoreState) (ds : List ℕ) (nodes : AreNodes st) (ids : AreIds st ds) (leaves : AreFrom st 18 ds) where
   -- a leaf has its outs at each packet
   leaf_at_all : (pk : List ℕ) (d : ℕ) → Contains ds d → look st d pk ≡ outs_of st d
   leaf_at_all pk d c =
       let is : get_or ds c.0 0 ≡ d = get_or_default ds c.0 0 d c.1 ∙ c.2 in
-      leaf_outs st d (node_of st d) refl (nodes d (subst (IsId st) is (ids c.0 c.1))) (subst (λ e. 18 ≤ top st e) is (leaves c.0 c.1)) pk
+      leaf_outs st d (node_of st d) refl (nodes d (subst (IsId st) is (ids c.0 c.1))) (subst (λ e. 18 ≤ root_field st e) is (leaves c.0 c.1)) pk
 
   -- an out of some leaves is one of one of them, at each packet
   one_has : (pk : List ℕ) (o : Out) → Contains (outs_in_turn st ds) o → (d : ℕ) × Contains ds d × Contains (look st d pk) o
@@ -254,9 +254,9 @@ module _ (st : Held) (ds : List ℕ) (nodes : AreNodes st) (ids : AreIds st ds) 
       pub outs_suit : Every (Suits st.maxes) outs
       outs_suit = every_from (Suits st.maxes) outs (λ o h. acts_suit o.act (by.among o (has_contains outs o h)).0)
 
-      module _ (new : Held) (rs : List Out) (r : ℕ) (ordered : AreOrdered outs rs) (h : HasLeaves new r (λ pk. rs)) where
+      module _ (new : StoreState) (rs : List Out) (r : ℕ) (ordered : AreOrdered outs rs) (h : HasLeaves new r (λ pk. rs)) where
         -- where the leaf of the outs leads, the leaves lead
-        pub act_leads : (pk y : List ℕ) (i : ℕ) → IsPacket st pk → Sends new r pk y (i + 1) → AreLedTo sets st ds pk y i
+        pub act_leads : (pk y : List ℕ) (i : ℕ) → IsStorePacket st pk → Sends new r pk y (i + 1) → AreLedTo sets st ds pk y i
         act_leads pk y i p s =
             let g = s.0 in
             let o : Out = record { act = g; target = i + 1 } in
@@ -272,7 +272,7 @@ module _ (st : Held) (ds : List ℕ) (nodes : AreNodes st) (ids : AreIds st ds) 
               );
             }
           where
-            back : (pk y : List ℕ) (g : List (ℕ × ℕ)) (l : ℕ) → IsPacket st pk → Contains acts g → y ≡ applied g pk → 0 < l → SomeLeads st ds pk y l → Contains (outs_in_turn st ds) (record { act = g; target = l })
+            back : (pk y : List ℕ) (g : List (ℕ × ℕ)) (l : ℕ) → IsStorePacket st pk → Contains acts g → y ≡ applied g pk → 0 < l → SomeLeads st ds pk y l → Contains (outs_in_turn st ds) (record { act = g; target = l })
             back pk y g l p a e pos m =
                 let k = m.2.0 in
                 let c = turn_has pk (record { act = k; target = l }) m.0 m.1 m.2.1 in
@@ -281,7 +281,7 @@ module _ (st : Held) (ds : List ℕ) (nodes : AreNodes st) (ids : AreIds st ds) 
                 subst (λ x. Contains (outs_in_turn st ds) (record { act = x; target = l })) (sym one) c
 
         -- and the other way round
-        pub act_led : (pk y : List ℕ) (l : ℕ) → IsPacket st pk → 0 < l → SomeLeads st ds pk y l → (i : ℕ) × Sends new r pk y (i + 1)
+        pub act_led : (pk y : List ℕ) (l : ℕ) → IsStorePacket st pk → 0 < l → SomeLeads st ds pk y l → (i : ℕ) × Sends new r pk y (i + 1)
         act_led pk y l p pos m =
             let g = m.2.0 in
             let c = turn_has pk (record { act = g; target = l }) m.0 m.1 m.2.1 in

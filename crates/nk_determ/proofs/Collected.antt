@@ -8,12 +8,12 @@ use Rattle.std.proofs.lemmas.List.{take_more, take_all}
 use Rattle.std.proofs.lemmas.List.Concat.{flat_map-append}
 use Rattle.std.proofs.lemmas.Bool.Decides.{leb_tells, eqb_tells}
 use Rattle.nk_store.specs.declared.node.Out.{Out}
-use Rattle.nk_store.specs.Held.{Held, look, IsCase}
+use Rattle.nk_store.specs.StoreState.{StoreState, look, IsCase}
 use Rattle.nk_store.proofs.Looks.{joined_some}
 use Rattle.nk_determ.specs.Unchanged.{AreAmong, HasItems, AllHaveItems}
 use Rattle.nk_determ.proofs.HaveSets.{child_place}
 
--- the items put behind are there
+-- the items put after are there
 pub among_back : (xs ys zs : List ℕ) → zs ≡ xs ++ ys → AreAmong ys zs
 among_back xs ys zs e v c = subst (λ l. Contains l v) (sym e) (Contains-append_right xs ys v c)
 
@@ -40,15 +40,15 @@ pub elements_all : {X : Type 0} (F : X → List ℕ) (xs : List X) (i : ℕ) (ne
 elements_all F xs i new l has = subst (λ ys. AreAmong (flat_map F ys) new) (take_all i xs l) has
 
 -- a diagram whose items are among some has them among more
-pub items_grow : (F : List Out → List ℕ) (old new : List ℕ) (st : Held) (d : ℕ) → AreAmong old new → HasItems F old st d → HasItems F new st d
+pub items_grow : (F : List Out → List ℕ) (old new : List ℕ) (st : StoreState) (d : ℕ) → AreAmong old new → HasItems F old st d → HasItems F new st d
 items_grow F old new st d g h pk v c = g v (h pk v c)
 
 -- and so do several
-pub all_items_grow : (F : List Out → List ℕ) (old new : List ℕ) (st : Held) (ds : List ℕ) → AreAmong old new → AllHaveItems F old st ds → AllHaveItems F new st ds
+pub all_items_grow : (F : List Out → List ℕ) (old new : List ℕ) (st : StoreState) (ds : List ℕ) → AreAmong old new → AllHaveItems F old st ds → AllHaveItems F new st ds
 all_items_grow F old new st ds g h d e = items_grow F old new st d g (h d e)
 
 -- one more does
-pub one_more_has : (F : List Out → List ℕ) (vs : List ℕ) (st : Held) (old new : List ℕ) (d : ℕ) → AllHaveItems F vs st old → HasItems F vs st d →
+pub one_more_has : (F : List Out → List ℕ) (vs : List ℕ) (st : StoreState) (old new : List ℕ) (d : ℕ) → AllHaveItems F vs st old → HasItems F vs st d →
     ((q : ℕ) → list_any (eqb q) new ≡ cond (eqb d q) true (list_any (eqb q) old)) → AllHaveItems F vs st new
 one_more_has F vs st old new d all one put q e =
     elim (eqb_tells d q) [
@@ -57,12 +57,12 @@ one_more_has F vs st old new d all one put q e =
     ]
 
 -- the items of a leaf
-pub leaf_has_items : (F : List Out → List ℕ) (new : List ℕ) (st : Held) (d : ℕ) (outs : List Out) → ((pk : List ℕ) → look st d pk ≡ outs) →
+pub leaf_has_items : (F : List Out → List ℕ) (new : List ℕ) (st : StoreState) (d : ℕ) (outs : List Out) → ((pk : List ℕ) → look st d pk ≡ outs) →
     AreAmong (F outs) new → HasItems F new st d
 leaf_has_items F new st d outs is has pk = subst (λ os. AreAmong (F os) new) (sym (is pk)) has
 
 -- one part more
-pub parts_more_have : (F : List Out → List ℕ) (old new : List ℕ) (st : Held) (ps : List (ℕ × ℕ)) (i d : ℕ) → AreAmong old new →
+pub parts_more_have : (F : List Out → List ℕ) (old new : List ℕ) (st : StoreState) (ps : List (ℕ × ℕ)) (i d : ℕ) → AreAmong old new →
     ((k : ℕ) → k < i → HasItems F old st (get_or ps k (0, 0)).1) → d ≡ (get_or ps i (0, 0)).1 → HasItems F new st d →
     (k : ℕ) → k < i + 1 → HasItems F new st (get_or ps k (0, 0)).1
 parts_more_have F old new st ps i d g done is h k m = elim (leb_tells i k) [
@@ -73,7 +73,7 @@ parts_more_have F old new st ps i d g done is h k m = elim (leb_tells i k) [
 ]
 
 -- where all parts' diagrams have their items, the diagram has them
-pub case_has_items : (F : List Out → List ℕ) (vs : List ℕ) (st : Held) (d g : ℕ) (ps items : List (ℕ × ℕ)) (i : ℕ) → IsCase st d g ps →
+pub case_has_items : (F : List Out → List ℕ) (vs : List ℕ) (st : StoreState) (d g : ℕ) (ps items : List (ℕ × ℕ)) (i : ℕ) → IsCase st d g ps →
     items ≡ ps → length items ≤ i → ((k : ℕ) → k < i → HasItems F vs st (get_or items k (0, 0)).1) → HasItems F vs st d
 case_has_items F vs st d g ps items i c is l all = λ pk.
     let at = child_place ps 0 (get_or pk g 0) (joined_some ps c.joined) in
@@ -82,5 +82,5 @@ case_has_items F vs st d g ps items i c is l all = λ pk.
     subst (λ os. AreAmong (F os) vs) (sym (c.leaf pk ∙ ap (λ k. look st k pk) at.2)) (had pk)
 
 -- items in another order
-pub moved_items : (F : List Out → List ℕ) (old new : List ℕ) (st : Held) (d : ℕ) → IsPermutation old new → HasItems F old st d → HasItems F new st d
+pub moved_items : (F : List Out → List ℕ) (old new : List ℕ) (st : StoreState) (d : ℕ) → IsPermutation old new → HasItems F old st d → HasItems F new st d
 moved_items F old new st d moved h = items_grow F old new st d (λ v c. Contains-permutation old new v moved c) h

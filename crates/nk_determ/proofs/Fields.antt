@@ -1,14 +1,14 @@
 -- A diagram made exact field by field.
 use Rattle.std.proofs.Common.{◌≡◌, ℕ, ◌+◌, Bool, true, false, cond, eqb, List, refl, sym, ◌∙◌, ap}
 use Rattle.std.specs.List.{list_any}
-use Rattle.nk_store.specs.Held.{Held, IsId, look, Grows, HasLeaves, AreTidy}
+use Rattle.nk_store.specs.StoreState.{StoreState, IsId, look, Grows, HasLeaves, AreTidy}
 use Rattle.nk_determ.specs.Exact.{split_leaf}
 use Rattle.nk_determ.specs.Unchanged.{leaf_changing, split_below, AssignsAmong}
 use Rattle.nk_determ.proofs.AssignedFields.{missed_not, split_skips}
 use Rattle.nk_determ.proofs.Below.{split_none, split_step, split_all}
 
 -- before the first field
-pub fields_start : (st : Held) (d : ℕ) → IsId st d → AreTidy st →
+pub fields_start : (st : StoreState) (d : ℕ) → IsId st d → AreTidy st →
     HasLeaves st d (λ pk. split_below 0 st.maxes pk (look st d pk))
 fields_start st d i tidy = record {
   id = i;
@@ -16,7 +16,7 @@ fields_start st d i tidy = record {
 }
 
 -- one field more
-pub fields_step : (old st new : Held) (k d r q : ℕ) → Grows old st → AreTidy old →
+pub fields_step : (old st new : StoreState) (k d r q : ℕ) → Grows old st → AreTidy old →
     HasLeaves st r (λ pk. split_below k old.maxes pk (look old d pk)) →
     HasLeaves new q (λ pk. leaf_changing st.maxes k pk (look st r pk)) →
     HasLeaves new q (λ pk. split_below (k + 1) old.maxes pk (look old d pk))
@@ -30,7 +30,7 @@ fields_step old st new k d r q g tidy before h = record {
 }
 
 -- one field more, which only acts assign that are known to
-pub field_next : (old st new : Held) (k d r q : ℕ) (fs : List ℕ) → Grows old st → AreTidy old → AssignsAmong fs old d →
+pub field_next : (old st new : StoreState) (k d r q : ℕ) (fs : List ℕ) → Grows old st → AreTidy old → AssignsAmong fs old d →
     HasLeaves st r (λ pk. split_below k old.maxes pk (look old d pk)) →
     HasLeaves new q (λ pk. cond (list_any (λ m. eqb m k) fs) (leaf_changing st.maxes k pk (look st r pk)) (look st r pk)) →
     HasLeaves new q (λ pk. split_below (k + 1) old.maxes pk (look old d pk))
@@ -44,8 +44,8 @@ field_next old st new k d r q fs g tidy assigns before = by (list_any (λ m. eqb
       leaf = λ pk w. h.leaf pk w ∙ before.leaf pk w ∙ split_skips old.maxes pk k (look old d pk) (λ c. missed_not fs k e (assigns pk k c));
     }
 
--- behind the last field
-pub fields_all : (old st : Held) (d r : ℕ) → AreTidy old →
+-- after the last field
+pub fields_all : (old st : StoreState) (d r : ℕ) → AreTidy old →
     HasLeaves st r (λ pk. split_below 18 old.maxes pk (look old d pk)) →
     HasLeaves st r (λ pk. split_leaf old.maxes pk (look old d pk))
 fields_all old st d r tidy h = record {

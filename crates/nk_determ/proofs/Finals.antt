@@ -6,7 +6,7 @@ use Rattle.nk_field.specs.contracts.act.ActPartialEq.TheImpl.{ghosts}
 use Rattle.nk_store.specs.declared.node.Out.{Out}
 use Rattle.nk_store.specs.Leaves.{out_cmp, Every, Strict}
 use Rattle.std.specs.declared.cmp.Ordering.TheVariants.{Less}
-use Rattle.nk_store.specs.Held.{Held, IsId, IsLeaf}
+use Rattle.nk_store.specs.StoreState.{StoreState, IsId, IsLeaf}
 use Rattle.nk_apply.proofs.Members.{Has, every_has}
 use Rattle.nk_apply.proofs.Gathers.{same_order}
 use Rattle.nk_determ.specs.Branches.{with_target, begun, runs, branches, targets_of, labels_of}
@@ -40,7 +40,7 @@ is_final o e = λ i. record { act = o.act; target = sym e i }
 finals_differ : (g h : List (ℕ × ℕ)) → out_cmp (final g) (final h) ≡ Less → h ≡ g → ⊥
 finals_differ g h e same = let l : 0 < 0 = targets_rise g 0 0 (subst (λ a. out_cmp (final g) (final a) ≡ Less) same e) in absurd (omega (arith, l))
 
--- of a branch with a final and finals behind it the same finals are made
+-- of a branch with a final and finals after it the same finals are made
 finals_made : (sets : List (List ℕ)) (g : List (ℕ × ℕ)) (os : List Out) → Strict (final g ∷ os) → AreFinal os →
     flat_map (branch_outs sets) (runs (with_target (begun g) 0) os) ≡ final g ∷ os
 finals_made sets g [] s f = refl
@@ -85,7 +85,7 @@ finals_have sets os f g = by (labels_of g os) refl
         absurd (omega (arith, zero, r.0))
 
 -- the number of such a leaf is its regrouped diagram's
-pub final_leaf : (st : Held) (sets : List (List ℕ)) (d : ℕ) (outs : List Out) → IsId st d → IsLeaf st d outs → list_all (λ o. nat_eq o.target 0) outs ≡ true → IsRegrouped st d st sets d
+pub final_leaf : (st : StoreState) (sets : List (List ℕ)) (d : ℕ) (outs : List Out) → IsId st d → IsLeaf st d outs → list_all (λ o. nat_eq o.target 0) outs ≡ true → IsRegrouped st d st sets d
 final_leaf st sets d outs i node e =
     let f = all_final outs e in
     record {

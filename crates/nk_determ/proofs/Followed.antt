@@ -4,7 +4,7 @@ use Rattle.std.specs.List.{Contains}
 use Rattle.nk_field.specs.Act.{applied}
 use Rattle.nk_store.specs.declared.node.Out.{Out}
 use Rattle.nk_store.specs.Leaves.{IsActFrom, Suits}
-use Rattle.nk_store.specs.Held.{Held, IsPacket, look, AreTidy}
+use Rattle.nk_store.specs.StoreState.{StoreState, IsStorePacket, look, AreTidy}
 use Rattle.nk_apply.proofs.Members.{Has, has_contains, contains_has, every_has, gathered_has, has_gathered}
 use Rattle.nk_determ.specs.Exact.{exact, exact_out, split_leaf, IsExact, Sends}
 use Rattle.nk_determ.specs.States.{SomeSends, SomeLeads, AreLedTo, IsStateOf}
@@ -33,7 +33,7 @@ from_split maxes pk os h t m =
     has_contains (split_leaf maxes pk os) (record { act = exact maxes pk h; target = t })
     (gathered_has (λ x. exact_out maxes pk x ∷ []) os (record { act = h; target = t }) (record { act = exact maxes pk h; target = t }) m (inl refl))
 
-module _ (st : Held) (tidy : AreTidy st) (ds pk : List ℕ) (p : IsPacket st pk) where
+module _ (st : StoreState) (tidy : AreTidy st) (ds pk : List ℕ) (p : IsStorePacket st pk) where
   -- a diagram's act is in range
   act_within : (l : ℕ) (h : List (ℕ × ℕ)) (t : ℕ) → Has (look st l pk) (record { act = h; target = t }) → IsActFrom st.maxes 0 h
   act_within l h t m = every_has (Suits st.maxes) (look st l pk) (record { act = h; target = t }) ((tidy l).suits pk) m
@@ -83,16 +83,16 @@ module _ (st : Held) (tidy : AreTidy st) (ds pk : List ℕ) (p : IsPacket st pk)
     λ s. let f = from_lead (applied g pk) l s in subst (λ h. SomeSends st ds pk h l) (sym (one_act g f.0 t l a f.1 f.2)) f.1,
   )
 
-module _ (old mid new : Held) (sets : List (List ℕ)) (ds : List ℕ) (d r : ℕ) (k : IsStateOf old mid new sets ds d r) (tidy : AreTidy old) where
+module _ (old mid new : StoreState) (sets : List (List ℕ)) (ds : List ℕ) (d r : ℕ) (k : IsStateOf old mid new sets ds d r) (tidy : AreTidy old) where
   -- where a set state ends
-  pub ends_are : (pk y : List ℕ) → IsPacket old pk → Sends new r pk y 0 ↔ SomeLeads old ds pk y 0
+  pub ends_are : (pk y : List ℕ) → IsStorePacket old pk → Sends new r pk y 0 ↔ SomeLeads old ds pk y 0
   ends_are pk y p = (
     λ s. subst (λ q. SomeLeads old ds pk q 0) (sym s.2) (to_lead old tidy ds pk p s.0 0 ((finals_are old mid new sets ds d r k pk s.0 p.0).0 s.1)),
     λ s. let f = from_lead old tidy ds pk p y 0 s in (f.0, (finals_are old mid new sets ds d r k pk f.0 p.0).1 f.1, f.2),
   )
 
   -- where it leads
-  pub led_to : (pk y : List ℕ) (i : ℕ) → IsPacket old pk → Sends new r pk y (i + 1) → AreLedTo sets old ds pk y i
+  pub led_to : (pk y : List ℕ) (i : ℕ) → IsStorePacket old pk → Sends new r pk y (i + 1) → AreLedTo sets old ds pk y i
   led_to pk y i p s =
       let n = next_is old mid new sets ds d r k pk s.0 i p.0 s.1 in
       let a = next_from old mid new sets ds d r k pk s.0 i p.0 s.1 in
@@ -107,7 +107,7 @@ module _ (old mid new : Held) (sets : List (List ℕ)) (ds : List ℕ) (d r : �
       }
 
   -- it leads wherever some label does
-  pub led_on : (pk y : List ℕ) (l : ℕ) → IsPacket old pk → 0 < l → SomeLeads old ds pk y l → (i : ℕ) × Sends new r pk y (i + 1)
+  pub led_on : (pk y : List ℕ) (l : ℕ) → IsStorePacket old pk → 0 < l → SomeLeads old ds pk y l → (i : ℕ) × Sends new r pk y (i + 1)
   led_on pk y l p m s =
       let f = from_lead old tidy ds pk p y l s in
       let c = next_comes old mid new sets ds d r k pk f.0 l p.0 m f.1 in

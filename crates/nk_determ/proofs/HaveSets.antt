@@ -4,7 +4,7 @@ use Rattle.std.proofs.lemmas.List.{get_or_default}
 use Rattle.nk_store.specs.declared.node.Out.{Out}
 use Rattle.nk_store.specs.Nodes.{child_at, Each}
 use Rattle.nk_store.specs.Leaves.{Strict}
-use Rattle.nk_store.specs.Held.{Held, IsId, look, IsCase, IsChild}
+use Rattle.nk_store.specs.StoreState.{StoreState, IsId, look, IsCase, IsChild}
 use Rattle.nk_apply.proofs.Members.{Has}
 use Rattle.nk_determ.specs.Branches.{Branch, begun, branches, targets_of, labels, labels_of}
 use Rattle.nk_determ.specs.Sets.{SetsGrow}
@@ -22,7 +22,7 @@ pub all_grow : (old new : List (List ℕ)) (outs : List Out) → SetsGrow old ne
 all_grow old new outs g h a = there_grow old new (labels_of a outs) g (h a)
 
 -- a diagram that has its sets has them among more sets
-pub sets_grow : (old new : List (List ℕ)) (st : Held) (d : ℕ) → SetsGrow old new → HasSets old st d → HasSets new st d
+pub sets_grow : (old new : List (List ℕ)) (st : StoreState) (d : ℕ) → SetsGrow old new → HasSets old st d → HasSets new st d
 sets_grow old new st d g h pk = all_grow old new (look st d pk) g (h pk)
 
 -- where the labels of each branch are there, the leaf has its sets
@@ -57,7 +57,7 @@ each_place P (p ∷ ps) zero e h l = h.0
 each_place P (p ∷ ps) (suc k) e h l = each_place P ps k e h.1 (omega arith)
 
 -- what is known of one of a node's parts
-pub part_known : (st : Held) (d f : ℕ) (ps items : List (ℕ × ℕ)) (i : ℕ) (p : ℕ × ℕ) → IsCase st d f ps → items ≡ ps → i < length items → p ≡ get_or items i p → (p.1 < d) × IsId st p.1 × (p.1 ≡ (get_or items i (0, 0)).1)
+pub part_known : (st : StoreState) (d f : ℕ) (ps items : List (ℕ × ℕ)) (i : ℕ) (p : ℕ × ℕ) → IsCase st d f ps → items ≡ ps → i < length items → p ≡ get_or items i p → (p.1 < d) × IsId st p.1 × (p.1 ≡ (get_or items i (0, 0)).1)
 part_known st d f ps items i p c e l at =
     let below : Each (λ k. k < d) items = subst (Each (λ k. k < d)) (sym e) c.below in
     let children : Each (IsChild st f) items = subst (Each (IsChild st f)) (sym e) c.parts_ok.children in

@@ -20,9 +20,9 @@ first_at [] d l = absurd (omega (arith, l))
 first_at (o ∷ os) d l = refl
 
 -- what is cut off at a run's end
-pub run_is : (outs run behind : List Out) (n : ℕ) → branches_in outs ≡ branch_of (take n outs) ∷ branches_in (drop n outs) → run ≡ take n outs → behind ≡ drop n outs →
-    branches_in outs ≡ branch_of run ∷ branches_in behind
-run_is outs run behind n e front back =
+pub run_is : (outs run following : List Out) (n : ℕ) → branches_in outs ≡ branch_of (take n outs) ∷ branches_in (drop n outs) → run ≡ take n outs → following ≡ drop n outs →
+    branches_in outs ≡ branch_of run ∷ branches_in following
+run_is outs run following n e front back =
     e ∙ ap (λ os. branch_of os ∷ branches_in (drop n outs)) (sym front) ∙ ap (λ os. branch_of run ∷ branches_in os) (sym back)
 
 -- a target is 0 where an out is to the end
@@ -34,7 +34,7 @@ any_ends (o ∷ os) = ap (λ b. eqb o.target 0 || b) (any_ends os)
 final_is : (outs : List Out) (b : Bool) → list_any (λ o. nat_eq o.target 0) outs ≡ b → final_of (first_act outs) (targets_in outs) ≡ cond b (record { act = first_act outs; target = 0 } ∷ []) []
 final_is outs b e = ap (λ t. cond t (record { act = first_act outs; target = 0 } ∷ []) []) (any_ends outs ∙ e)
 
--- is put behind what was made before
+-- is put after what was made before
 pub final_put : (outs all new : List Out) (o : Out) (g : List (ℕ × ℕ)) → 0 < length outs → g ≡ (get_or outs 0 o).act → new ≡ all ++ record { act = g; target = 0 } ∷ [] →
     list_any (λ o. nat_eq o.target 0) outs ≡ true → new ≡ all ++ final_of (first_act outs) (targets_in outs)
 final_put outs all new o g l copied put e =
@@ -55,20 +55,20 @@ begun_makes_none sets (o ∷ os) = by (ghosts.eq o.act []) refl
     by true e = ap (λ a. flat_map (branch_outs sets) (runs (with_target (begun a) o.target) os)) ((act_decides o.act []).0 e)
     by false e = refl
 
--- each branch is one behind the one that assigns nothing
-pub branch_behind : (os : List Out) (c : Branch) → Has (branches_in os) c → Has (branches os) c
-branch_behind [] c h = absurd h
-branch_behind (o ∷ os) c h = by (ghosts.eq o.act []) refl
+-- each branch is one after the one that assigns nothing
+pub branch_after : (os : List Out) (c : Branch) → Has (branches_in os) c → Has (branches os) c
+branch_after [] c h = absurd h
+branch_after (o ∷ os) c h = by (ghosts.eq o.act []) refl
   where
     by : (b : Bool) → ghosts.eq o.act [] ≡ b → Has (cond b (runs (with_target (begun []) o.target) os) (begun [] ∷ runs (with_target (begun o.act) o.target) os)) c
     by true e = subst (λ a. Has (runs (with_target (begun a) o.target) os) c) ((act_decides o.act []).0 e) h
     by false e = inr h
 
 -- and the other way round, but for the one without labels
-pub behind_branch : (sets : List (List ℕ)) (os : List Out) (c : Branch) → Has (branches os) c → Has (branches_in os) c ⊎ IsThere sets (labels c.targets)
-behind_branch sets [] c (inl e) = inr (subst (λ (z : Branch). IsThere sets (labels z.targets)) e tt)
-behind_branch sets [] c (inr k) = absurd k
-behind_branch sets (o ∷ os) c h = by (ghosts.eq o.act []) refl h
+pub after_branch : (sets : List (List ℕ)) (os : List Out) (c : Branch) → Has (branches os) c → Has (branches_in os) c ⊎ IsThere sets (labels c.targets)
+after_branch sets [] c (inl e) = inr (subst (λ (z : Branch). IsThere sets (labels z.targets)) e tt)
+after_branch sets [] c (inr k) = absurd k
+after_branch sets (o ∷ os) c h = by (ghosts.eq o.act []) refl h
   where
     by : (b : Bool) → ghosts.eq o.act [] ≡ b → Has (cond b (runs (with_target (begun []) o.target) os) (begun [] ∷ runs (with_target (begun o.act) o.target) os)) c →
         Has (runs (with_target (begun o.act) o.target) os) c ⊎ IsThere sets (labels c.targets)
@@ -88,29 +88,29 @@ pub all_left : (sets : List (List ℕ)) (outs : List Out) → SetsGrow sets sets
 all_left sets outs g = record {
   grows = g;
   made = λ later h. begun_makes_none later outs;
-  within = λ c h. branch_behind outs c h;
-  there = λ c h. behind_branch sets outs c h;
+  within = λ c h. branch_after outs c h;
+  there = λ c h. after_branch sets outs c h;
 }
 
-module _ (old sets : List (List ℕ)) (outs all rest run behind : List Out) (k : IsLeft old sets outs all rest) (is : branches_in rest ≡ branch_of run ∷ branches_in behind) where
+module _ (old sets : List (List ℕ)) (outs all rest run following : List Out) (k : IsLeft old sets outs all rest) (is : branches_in rest ≡ branch_of run ∷ branches_in following) where
   -- the labels of the run ascend
   pub run_ascends : Strict outs → IsStrictlyIncreasing (labels (targets_in run))
   run_ascends s = labels_ascend outs s (branch_of run) (k.within (branch_of run) (subst (λ bs. Has bs (branch_of run)) (sym is) (inl refl)))
 
   -- one run less is left
   pub run_done : (more : List (List ℕ)) (new : List Out) → SetsGrow old more → SetsGrow sets more → ((later : List (List ℕ)) → SetsGrow more later → SetsGrow sets later) →
-      ((later : List (List ℕ)) → SetsGrow more later → new ≡ all ++ branch_outs later (branch_of run)) → IsThere more (labels (targets_in run)) → IsLeft old more outs new behind
+      ((later : List (List ℕ)) → SetsGrow more later → new ≡ all ++ branch_outs later (branch_of run)) → IsThere more (labels (targets_in run)) → IsLeft old more outs new following
   run_done more new g h on made now = record {
     grows = g;
     made = λ later l.
         let F = branch_outs later in
-        let left = flat_map F (branches_in behind) in
+        let left = flat_map F (branches_in following) in
         ap (λ x. x ++ left) (made later l) ∙ append_assoc all (F (branch_of run)) left ∙ ap (λ bs. all ++ flat_map F bs) (sym is) ∙ k.made later (on later l);
     within = λ c i. k.within c (subst (λ bs. Has bs c) (sym is) (inr i));
     there = λ c i. elim (k.there c i) [ inl j ↦ front c (subst (λ bs. Has bs c) is j) | inr t ↦ inr (there_grow sets more (labels c.targets) h t) ];
   }
     where
-      front : (c : Branch) → Has (branch_of run ∷ branches_in behind) c → Has (branches_in behind) c ⊎ IsThere more (labels c.targets)
+      front : (c : Branch) → Has (branch_of run ∷ branches_in following) c → Has (branches_in following) c ⊎ IsThere more (labels c.targets)
       front c (inl e) = inr (subst (λ (z : Branch). IsThere more (labels z.targets)) e now)
       front c (inr j) = inl j
 

@@ -79,7 +79,7 @@ place_holds sets labels h =
     let within : position_or_len p sets < length sets = found_before p sets h in
     (within, sym ((labels_decide labels (get_or sets (place_in sets labels) [])).0 (passes_at_first p sets [] within)))
 
--- where a test passes somewhere, items behind leave the first place as it is
+-- where a test passes somewhere, items after leave the first place as it is
 found_still : (p : List ℕ → Bool) (xs ys : List (List ℕ)) → list_any p xs ≡ true → position_or_len p (xs ++ ys) ≡ position_or_len p xs
 found_still p [] ys h = cc
 found_still p (x ∷ xs) ys h = by (p x) refl h (λ k. found_still p xs ys k)

@@ -7,7 +7,7 @@ use Rattle.nk_field.proofs.Thens.{order}
 use Rattle.nk_store.specs.declared.node.Out.{Out}
 use Rattle.nk_store.specs.Nodes.{InRange}
 use Rattle.nk_store.specs.Leaves.{IsActFrom, Every, Suits}
-use Rattle.nk_store.specs.Held.{Held, IsWhole, IsPacket, look, Grows, HasLeaves, AreTidy, Agree}
+use Rattle.nk_store.specs.StoreState.{StoreState, IsWhole, IsStorePacket, look, Grows, HasLeaves, AreTidy, Agree}
 use Rattle.nk_apply.proofs.Members.{Has, has_contains, contains_has, every_has, every_from, gathered_has, has_gathered, strict_same}
 use Rattle.nk_determ.specs.Exact.{exact, exact_out, split_leaf, IsExact, AreExact, Sends}
 
@@ -96,14 +96,14 @@ exact_one maxes pk low (s ∷ ss) (t ∷ ts) w a b x y e =
     ]
 
 -- two diagrams with exact acts that mean the same give the same leaves
-pub same_meaning : (st : Held) (d e : ℕ) → AreTidy st → AreExact st d → AreExact st e →
-    ((pk y : List ℕ) (t : ℕ) → IsPacket st pk → Sends st d pk y t ↔ Sends st e pk y t) → Agree st d e
+pub same_meaning : (st : StoreState) (d e : ℕ) → AreTidy st → AreExact st d → AreExact st e →
+    ((pk y : List ℕ) (t : ℕ) → IsStorePacket st pk → Sends st d pk y t ↔ Sends st e pk y t) → Agree st d e
 same_meaning st d e tidy xd xe same = λ pk r.
     strict_same (look st d pk) (look st e pk) ((tidy d).sorted pk) ((tidy e).sorted pk)
     (λ o h. one_way d e pk r (xd pk r) (xe pk r) (λ y t s. (same pk y t r).0 s) o h)
     (λ o h. one_way e d pk r (xe pk r) (xd pk r) (λ y t s. (same pk y t r).1 s) o h)
   where
-    one_way : (a b : ℕ) (pk : List ℕ) → IsPacket st pk → Every (λ o. IsExact pk o.act) (look st a pk) →
+    one_way : (a b : ℕ) (pk : List ℕ) → IsStorePacket st pk → Every (λ o. IsExact pk o.act) (look st a pk) →
         Every (λ o. IsExact pk o.act) (look st b pk) →
         ((y : List ℕ) (t : ℕ) → Sends st a pk y t → Sends st b pk y t) → (o : Out) → Has (look st a pk) o →
         Has (look st b pk) o
@@ -120,7 +120,7 @@ only (inl e) = e
 only (inr k) = absurd k
 
 -- a split diagram's acts are exact
-pub split_exact : (old new : Held) (d r : ℕ) → Grows old new →
+pub split_exact : (old new : StoreState) (d r : ℕ) → Grows old new →
     HasLeaves new r (λ pk. split_leaf old.maxes pk (look old d pk)) → AreExact new r
 split_exact old new d r g k = λ pk p.
     let range : InRange old.maxes pk = subst (λ ms. InRange ms pk) g.maxes p in
@@ -129,9 +129,9 @@ split_exact old new d r g k = λ pk p.
     subst (λ (x : Out). IsExact pk x.act) (only s.2) (exact_changes old.maxes pk s.0.act range)))
 
 -- a split diagram means what it was made of means
-pub split_means : (old new : Held) (d r : ℕ) → AreTidy old → Grows old new →
+pub split_means : (old new : StoreState) (d r : ℕ) → AreTidy old → Grows old new →
     HasLeaves new r (λ pk. split_leaf old.maxes pk (look old d pk)) → (pk y : List ℕ) (t : ℕ) →
-    IsPacket old pk → Sends new r pk y t ↔ Sends old d pk y t
+    IsStorePacket old pk → Sends new r pk y t ↔ Sends old d pk y t
 split_means old new d r tidy g k pk y t p = (
   λ s.
       let h = has_gathered (λ x. exact_out old.maxes pk x ∷ []) (look old d pk) (record { act = s.0; target = t }) (subst (λ os. Has os (record { act = s.0; target = t })) (k.leaf pk p.0) (contains_has (look new r pk) (record { act = s.0; target = t }) s.1)) in

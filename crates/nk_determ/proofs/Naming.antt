@@ -5,7 +5,7 @@ use Rattle.nk_field.proofs.Lists.{Decided, numbers_decided, from_mapped}
 use Rattle.nk_field.proofs.Ascending.{all_from_members, first_before, rest_in_order}
 use Rattle.std.proofs.lemmas.List.Elements.{All-nil, All-cons}
 use Rattle.std.proofs.lemmas.List.Kept.{AllPairs-cons}
-use Rattle.nk_store.specs.Held.{Held}
+use Rattle.nk_store.specs.StoreState.{StoreState}
 use Rattle.nk_determ.specs.Pairs.{Named, EachPair, IsPair, ArePairs}
 use Rattle.nk_determ.specs.InOrder.{AreEntries}
 
@@ -38,7 +38,7 @@ all_entries P Q f [] e = All-nil Q
 all_entries P Q f (p ∷ ps) e = All-cons Q p ps (f p e.0) (all_entries P Q f ps e.1)
 
 -- levels of pairs are levels of entries
-pub pairs_are_entries : (st : Held) (ss : List (List ℕ)) (states : ℕ) (ls : List (List (ℕ × ℕ)))
+pub pairs_are_entries : (st : StoreState) (ss : List (List ℕ)) (states : ℕ) (ls : List (List (ℕ × ℕ)))
     → ((i : ℕ) → i < length ls → ArePairs st ss states (slice_index_or ls i [])) → AreEntries ss ls
 pairs_are_entries st ss states ls pairs i lt =
     let h = pairs i lt in

@@ -6,7 +6,7 @@ use Rattle.nk_field.specs.Act.{applied}
 use Rattle.nk_store.specs.declared.node.Out.{Out}
 use Rattle.nk_store.specs.Nodes.{InRange}
 use Rattle.nk_store.specs.Leaves.{IsActFrom, Every, Suits}
-use Rattle.nk_store.specs.Held.{Held, IsWhole, IsPacket, look, Grows, HasLeaves, AreTidy}
+use Rattle.nk_store.specs.StoreState.{StoreState, IsWhole, IsStorePacket, look, Grows, HasLeaves, AreTidy}
 use Rattle.nk_apply.specs.Unions.{AreIds, unions}
 use Rattle.nk_apply.proofs.Members.{Has, has_contains, contains_has, every_has}
 use Rattle.nk_determ.specs.Exact.{Sends}
@@ -19,10 +19,10 @@ use Rattle.nk_determ.proofs.Together.{unions_has, has_unions}
 use Rattle.nk_determ.proofs.StatesAt.{met_same}
 use Rattle.nk_determ.proofs.Regrouped.{next_only, next_there, set_of_act}
 
--- the items behind the first one
-abbrev behind : List ℕ → List ℕ
-behind [] = []
-behind (x ∷ xs) = xs
+-- the items after the first one
+abbrev following : List ℕ → List ℕ
+following [] = []
+following (x ∷ xs) = xs
 
 -- two acts that assign the same fields and make one packet are one
 pub same_act : (maxes pk : List ℕ) (low : ℕ) (g h : List (ℕ × ℕ)) → IsWhole pk → IsActFrom maxes low g →
@@ -36,7 +36,7 @@ same_act maxes pk low (s ∷ ss) (t ∷ ts) w a b f e =
     let one : s ≡ t = λ i. (same i, value i) in
     let ts_too : IsActFrom maxes (s.0 + 1) ts = subst (λ k. IsActFrom maxes (k + 1) ts) (sym same) b.3 in
     let made : applied ss (set pk s.0 s.1) ≡ applied ts (set pk s.0 s.1) = e ∙ ap (λ (r : ℕ × ℕ). applied ts (set pk r.0 r.1)) (sym one) in
-    ap (λ r. r ∷ ss) one ∙ ap (λ rs. t ∷ rs) (same_act maxes (set pk s.0 s.1) (s.0 + 1) ss ts (length-set pk s.0 s.1 ∙ w) a.3 ts_too (ap behind f) made)
+    ap (λ r. r ∷ ss) one ∙ ap (λ rs. t ∷ rs) (same_act maxes (set pk s.0 s.1) (s.0 + 1) ss ts (length-set pk s.0 s.1 ∙ w) a.3 ts_too (ap following f) made)
 
 -- the labels of what a plain leaf makes are those of each act that makes it
 plain_one : (maxes pk : List ℕ) (os : List Out) → IsWhole pk → Every (Suits maxes) os → IsPlain os → (g h : List (ℕ × ℕ)) (l m : ℕ) → 0 < l → 0 < m →
@@ -52,7 +52,7 @@ plain_one maxes pk os w suits plain g h l m p q a b e =
     ]
 
 -- diagrams lead where their union does
-pub union_leads : (old mid : Held) (ds : List ℕ) (d : ℕ) → HasLeaves mid d (λ pk. unions old ds 0 (length ds) pk) → (pk y : List ℕ) (l : ℕ) → IsWhole pk →
+pub union_leads : (old mid : StoreState) (ds : List ℕ) (d : ℕ) → HasLeaves mid d (λ pk. unions old ds 0 (length ds) pk) → (pk y : List ℕ) (l : ℕ) → IsWhole pk →
     Sends mid d pk y l ↔ SomeLeads old ds pk y l
 union_leads old mid ds d u pk y l w = (
   λ s.
@@ -70,10 +70,10 @@ union_leads old mid ds d u pk y l w = (
       (s.2.0, has_contains (look mid d pk) o (subst (λ os. Has os o) (sym (u.leaf pk w)) (has_unions old ds 0 (length ds) k pk o (omega arith) within there)), s.2.2),
 )
 
-module _ (old mid new : Held) (sets : List (List ℕ)) (ds : List ℕ) (d r : ℕ) (u : HasLeaves mid d (λ pk. unions old ds 0 (length ds) pk)) (tidy : AreTidy mid)
+module _ (old mid new : StoreState) (sets : List (List ℕ)) (ds : List ℕ) (d r : ℕ) (u : HasLeaves mid d (λ pk. unions old ds 0 (length ds) pk)) (tidy : AreTidy mid)
     (k : HasLeaves new r (λ pk. regrouped sets (look mid d pk))) (held : HasSets sets mid d) where
   -- where the regrouped union leads the diagrams lead
-  pub plain_leads : ((pk : List ℕ) → IsPlain (look mid d pk)) → (pk y : List ℕ) (i : ℕ) → IsPacket old pk → Sends new r pk y (i + 1) → AreLedTo sets old ds pk y i
+  pub plain_leads : ((pk : List ℕ) → IsPlain (look mid d pk)) → (pk y : List ℕ) (i : ℕ) → IsStorePacket old pk → Sends new r pk y (i + 1) → AreLedTo sets old ds pk y i
   plain_leads plain pk y i p s =
       let os = look mid d pk in
       let o : Out = record { act = s.0; target = i + 1 } in
@@ -94,7 +94,7 @@ module _ (old mid new : Held) (sets : List (List ℕ)) (ds : List ℕ) (d r : �
       })
 
   -- and the other way round
-  pub plain_led : (pk y : List ℕ) (l : ℕ) → IsPacket old pk → 0 < l → SomeLeads old ds pk y l → (i : ℕ) × Sends new r pk y (i + 1)
+  pub plain_led : (pk y : List ℕ) (l : ℕ) → IsStorePacket old pk → 0 < l → SomeLeads old ds pk y l → (i : ℕ) × Sends new r pk y (i + 1)
   plain_led pk y l p pos s =
       let os = look mid d pk in
       let m = (union_leads old mid ds d u pk y l p.0).1 s in
@@ -103,7 +103,7 @@ module _ (old mid new : Held) (sets : List (List ℕ)) (ds : List ℕ) (d r : �
       let h = next_there sets os ((tidy d).sorted pk) m.0 l pos (contains_has os (record { act = m.0; target = l }) m.1) in
       (i, (m.0, has_contains (look new r pk) o (subst (λ us. Has us o) (sym (k.leaf pk p.0)) h), m.2))
 
-module _ (old mid : Held) (ds : List ℕ) (g : Grows old mid) (ids : AreIds old ds) where
+module _ (old mid : StoreState) (ds : List ℕ) (g : Grows old mid) (ids : AreIds old ds) where
   -- diagrams lead to the same in a store that grew
   pub grown_leads : (pk y : List ℕ) (l : ℕ) → SomeLeads mid ds pk y l ↔ SomeLeads old ds pk y l
   grown_leads pk y l = (
@@ -115,5 +115,5 @@ module _ (old mid : Held) (ds : List ℕ) (g : Grows old mid) (ids : AreIds old 
       same d c = subst (λ e. look mid e pk ≡ look old e pk) (get_or_default ds c.0 0 d c.1 ∙ c.2) (g.leaves (get_or ds c.0 0) pk (ids c.0 c.1))
 
 -- a packet stays one in a store that grew
-pub packet_later : (old mid : Held) (pk : List ℕ) → Grows old mid → IsPacket old pk → IsPacket mid pk
+pub packet_later : (old mid : StoreState) (pk : List ℕ) → Grows old mid → IsStorePacket old pk → IsStorePacket mid pk
 packet_later old mid pk g p = subst (λ ms. InRange ms pk) (sym g.maxes) p

@@ -6,7 +6,7 @@ use Rattle.nk_field.specs.contracts.act.ActPartialEq.TheImpl.{ghosts}
 use Rattle.nk_store.specs.declared.node.Out.{Out}
 use Rattle.nk_store.specs.Nodes.{InRange}
 use Rattle.nk_store.specs.Leaves.{IsActFrom, Every, Strict, Suits, AreOrdered}
-use Rattle.nk_store.specs.Held.{Held, IsWhole, look}
+use Rattle.nk_store.specs.StoreState.{StoreState, IsWhole, look}
 use Rattle.nk_apply.proofs.Members.{Has, has_contains, contains_has, every_from, gathered_has, has_gathered, gathered_strict}
 use Rattle.nk_determ.specs.Exact.{exact_out, split_leaf, IsExact, AreExact}
 use Rattle.nk_determ.specs.Sets.{holds, place_in}
@@ -28,7 +28,7 @@ has_front [] ys o h = absurd h
 has_front (x ∷ xs) ys o (inl e) = inl e
 has_front (x ∷ xs) ys o (inr h) = inr (has_front xs ys o h)
 
--- and behind them
+-- and after them
 has_back : {X : Type 0} (xs ys : List X) (o : X) → Has ys o → Has (xs ++ ys) o
 has_back [] ys o h = h
 has_back (x ∷ xs) ys o h = inr (has_back xs ys o h)
@@ -241,7 +241,7 @@ leaf_exact maxes pk os g t range c =
     let s = has_gathered (λ x. exact_out maxes pk x ∷ []) os (record { act = g; target = t }) (contains_has (split_leaf maxes pk os) (record { act = g; target = t }) c) in
     subst (IsExact pk) (ap (λ (x : Out). x.act) (only s.2)) (exact_changes maxes pk s.0.act range)
 
-module _ (old mid new : Held) (sets : List (List ℕ)) (ds : List ℕ) (d r : ℕ) (k : IsStateOf old mid new sets ds d r) where
+module _ (old mid new : StoreState) (sets : List (List ℕ)) (ds : List ℕ) (d r : ℕ) (k : IsStateOf old mid new sets ds d r) where
   -- what the leaf has is what was regrouped
   to_leaf : (pk : List ℕ) (o : Out) → IsWhole pk → Contains (look new r pk) o → Has (regrouped sets (look mid d pk)) o
   to_leaf pk o w c = subst (λ os. Has os o) (k.leaves.leaf pk w) (contains_has (look new r pk) o c)

@@ -63,7 +63,7 @@ branch_for b (y ∷ ys) o (inr h) = by (ghosts.eq y.act b.act) (branch_for (with
     by true r s = r
     by false r s = (s.0, inr s.1, s.2)
 
--- the branch and the outs behind it have the targets that all outs have
+-- the branch and the outs after it have the targets that all outs have
 record IsFit (b : Branch) (os all : List Out) : Type 0 where
   low : (y : Out) → Has os y → act_ord.ghosts.cmp b.act y.act ≡ Greater → ⊥
   here : b.targets ++ targets_of b.act os ≡ targets_of b.act all

@@ -6,7 +6,7 @@ use Rattle.nk_field.proofs.Thens.{then_applied}
 use Rattle.nk_store.specs.declared.node.Out.{Out}
 use Rattle.nk_store.specs.Leaves.{Suits, IsActFrom}
 use Rattle.nk_store.specs.Nodes.{InRange}
-use Rattle.nk_store.specs.Held.{Held, IsId, IsWhole, IsPacket, look, Grows, HasLeaves, AreTidy}
+use Rattle.nk_store.specs.StoreState.{StoreState, IsId, IsWhole, IsStorePacket, look, Grows, HasLeaves, AreTidy}
 use Rattle.nk_store.proofs.Same.{set_in_range}
 use Rattle.nk_apply.specs.Leaves.{merged}
 use Rattle.nk_apply.specs.Seqs.{seq_leaf}
@@ -19,12 +19,12 @@ abbrev pub out_of : List (ℕ × ℕ) → ℕ → Out
 out_of g t = record { act = g; target = t }
 
 -- where a diagram of an earlier store sends, it sends in the later one
-pub sends_on : (old new : Held) (d : ℕ) (pk y : List ℕ) (t : ℕ) → Grows old new → IsId old d →
+pub sends_on : (old new : StoreState) (d : ℕ) (pk y : List ℕ) (t : ℕ) → Grows old new → IsId old d →
     Sends old d pk y t → Sends new d pk y t
 sends_on old new d pk y t g id s = (s.0, subst (λ os. Contains os (out_of s.0 t)) (sym (g.leaves d pk id)) s.1, s.2)
 
 -- and where it sends in the later one, it did
-pub sends_back : (old new : Held) (d : ℕ) (pk y : List ℕ) (t : ℕ) → Grows old new → IsId old d →
+pub sends_back : (old new : StoreState) (d : ℕ) (pk y : List ℕ) (t : ℕ) → Grows old new → IsId old d →
     Sends new d pk y t → Sends old d pk y t
 sends_back old new d pk y t g id s = (s.0, subst (λ os. Contains os (out_of s.0 t)) (g.leaves d pk id) s.1, s.2)
 
@@ -34,7 +34,7 @@ ascends maxes low [] a = tt
 ascends maxes low (s ∷ ss) a = (a.0, ascends maxes (s.0 + 1) ss a.3)
 
 -- the act of a member ascends
-act_ascends : (st : Held) (d : ℕ) (pk : List ℕ) (o : Out) → AreTidy st → Has (look st d pk) o → AscendsFrom 0 o.act
+act_ascends : (st : StoreState) (d : ℕ) (pk : List ℕ) (o : Out) → AreTidy st → Has (look st d pk) o → AscendsFrom 0 o.act
 act_ascends st d pk o tidy h = ascends st.maxes 0 o.act (every_has (Suits st.maxes) (look st d pk) o ((tidy d).suits pk) h)
 
 -- an act in range leads from packets of the fields to packets of the fields
@@ -45,14 +45,14 @@ applied_in_range maxes low (s ∷ ss) x act r =
     applied_in_range maxes (s.0 + 1) ss (set x s.0 s.1) act.3 (set_in_range maxes x s.0 s.1 r act.2)
 
 -- from a packet of the fields a diagram sends to packets of the fields
-pub sent_in_range : (st : Held) (d : ℕ) (pk y : List ℕ) (t : ℕ) → AreTidy st → IsPacket st pk → Sends st d pk y t →
-    IsPacket st y
+pub sent_in_range : (st : StoreState) (d : ℕ) (pk y : List ℕ) (t : ℕ) → AreTidy st → IsStorePacket st pk → Sends st d pk y t →
+    IsStorePacket st y
 sent_in_range st d pk y t tidy r s =
     subst (InRange st.maxes) (sym s.2)
     (applied_in_range st.maxes 0 s.0 pk (every_has (Suits st.maxes) (look st d pk) (out_of s.0 t) ((tidy d).suits pk) (contains_has (look st d pk) (out_of s.0 t) s.1)) r)
 
 -- a sequence sends where the second diagram sends from where the first one sent
-pub seq_sends : (st new : Held) (a b r : ℕ) (pk y : List ℕ) (t : ℕ) → AreTidy new → Grows st new → IsId st a → IsId st b →
+pub seq_sends : (st new : StoreState) (a b r : ℕ) (pk y : List ℕ) (t : ℕ) → AreTidy new → Grows st new → IsId st a → IsId st b →
     HasLeaves new r (λ pk. seq_leaf (look st a pk) (look st b) pk) → IsWhole pk → Sends new r pk y t →
     (z : List ℕ) × (u : ℕ) × Sends st a pk z u × Sends st b z y t
 seq_sends st new a b r pk y t tidy grown ia ib h w s =
@@ -76,7 +76,7 @@ seq_sends st new a b r pk y t tidy grown ia ib h w s =
     )
 
 -- and there it sends
-pub sends_seq : (st new : Held) (a b r : ℕ) (pk z y : List ℕ) (u t : ℕ) → AreTidy new → Grows st new → IsId st a →
+pub sends_seq : (st new : StoreState) (a b r : ℕ) (pk z y : List ℕ) (u t : ℕ) → AreTidy new → Grows st new → IsId st a →
     IsId st b → HasLeaves new r (λ pk. seq_leaf (look st a pk) (look st b) pk) → IsWhole pk → Sends st a pk z u →
     Sends st b z y t → Sends new r pk y t
 sends_seq st new a b r pk z y u t tidy grown ia ib h w s m =
@@ -92,7 +92,7 @@ sends_seq st new a b r pk z y u t tidy grown ia ib h w s m =
     )
 
 -- two diagrams together send where one of them does
-pub union_sends : (st new : Held) (a b r : ℕ) (pk y : List ℕ) (t : ℕ) →
+pub union_sends : (st new : StoreState) (a b r : ℕ) (pk y : List ℕ) (t : ℕ) →
     HasLeaves new r (λ pk. merged (look st a pk) (look st b pk)) → IsWhole pk → Sends new r pk y t →
     Sends st a pk y t ⊎ Sends st b pk y t
 union_sends st new a b r pk y t h w s =
@@ -103,19 +103,19 @@ union_sends st new a b r pk y t h w s =
     (merged_has (out_of s.0 t) (look st a pk) (look st b pk) m)
 
 -- and they send where the first one does
-pub sends_left : (st new : Held) (a b r : ℕ) (pk y : List ℕ) (t : ℕ) →
+pub sends_left : (st new : StoreState) (a b r : ℕ) (pk y : List ℕ) (t : ℕ) →
     HasLeaves new r (λ pk. merged (look st a pk) (look st b pk)) → IsWhole pk → Sends st a pk y t → Sends new r pk y t
 sends_left st new a b r pk y t h w s =
     (s.0, has_contains _ _ (subst (λ os. Has os (out_of s.0 t)) (sym (h.leaf pk w)) (merged_left (out_of s.0 t) (look st a pk) (look st b pk) (contains_has _ _ s.1))), s.2)
 
 -- and where the second one does
-pub sends_right : (st new : Held) (a b r : ℕ) (pk y : List ℕ) (t : ℕ) →
+pub sends_right : (st new : StoreState) (a b r : ℕ) (pk y : List ℕ) (t : ℕ) →
     HasLeaves new r (λ pk. merged (look st a pk) (look st b pk)) → IsWhole pk → Sends st b pk y t → Sends new r pk y t
 sends_right st new a b r pk y t h w s =
     (s.0, has_contains _ _ (subst (λ os. Has os (out_of s.0 t)) (sym (h.leaf pk w)) (merged_right (out_of s.0 t) (look st a pk) (look st b pk) (contains_has _ _ s.1))), s.2)
 
 -- an out of many diagrams together is one of theirs
-pub unions_has : (st : Held) (ids : List ℕ) (from n : ℕ) (pk : List ℕ) (o : Out) → Has (unions st ids from n pk) o →
+pub unions_has : (st : StoreState) (ids : List ℕ) (from n : ℕ) (pk : List ℕ) (o : Out) → Has (unions st ids from n pk) o →
     (k : ℕ) × (k < from + n) × Has (look st (slice_index ids k) pk) o
 unions_has st ids from zero pk o h = absurd h
 unions_has st ids from (suc n) pk o h =
@@ -125,7 +125,7 @@ unions_has st ids from (suc n) pk o h =
     (merged_has o (look st (slice_index ids from) pk) (unions st ids (from + 1) n pk) h)
 
 -- and each of theirs is one
-pub has_unions : (st : Held) (ids : List ℕ) (from n : ℕ) (pk : List ℕ) (o : Out) (k : ℕ) → from ≤ k → k < from + n →
+pub has_unions : (st : StoreState) (ids : List ℕ) (from n : ℕ) (pk : List ℕ) (o : Out) (k : ℕ) → from ≤ k → k < from + n →
     Has (look st (slice_index ids k) pk) o → Has (unions st ids from n pk) o
 has_unions st ids from zero pk o k le lt h = absurd (omega arith)
 has_unions st ids from (suc n) pk o k le lt h = elim (from_here from k le) [

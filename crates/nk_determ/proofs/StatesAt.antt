@@ -3,7 +3,7 @@ use Rattle.std.proofs.Common.{◌≡◌, ℕ, ◌<◌, ◌↔◌, List, length, 
 use Rattle.std.specs.Prelude.{All, map}
 use Rattle.std.specs.List.{Contains}
 use Rattle.std.proofs.lemmas.List.{get_or_default, get_or-map, length-map}
-use Rattle.nk_store.specs.Held.{Held, IsId, look}
+use Rattle.nk_store.specs.StoreState.{StoreState, IsId, look}
 use Rattle.nk_apply.specs.Unions.{AreIds}
 use Rattle.nk_determ.specs.Exact.{split_leaf, Sends}
 use Rattle.nk_determ.specs.States.{SomeSends, SomeLeads, StateSends, StateLeads, IsSetOfMet}
@@ -38,7 +38,7 @@ met_same sets i P Q same s = record {
   );
 }
 
-module _ (st : Held) (states labels ds : List ℕ) (are : ds ≡ map (λ l. get_or states l 0) labels) where
+module _ (st : StoreState) (states labels ds : List ℕ) (are : ds ≡ map (λ l. get_or states l 0) labels) where
   state_count : length ds ≡ length labels
   state_count = ap (λ (xs : List ℕ). length xs) are ∙ length-map labels (λ l. get_or states l 0)
 

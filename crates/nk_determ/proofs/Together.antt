@@ -4,14 +4,14 @@ use Rattle.std.proofs.lemmas.List.{get_or_default, get_or_append_left}
 use Rattle.std.proofs.Math.Seq.{get_or-append_seam}
 use Rattle.std.proofs.lemmas.Bool.Decides.{leb_tells}
 use Rattle.nk_store.specs.declared.node.Out.{Out}
-use Rattle.nk_store.specs.Held.{Held, IsId, look, Grows, HasLeaves}
+use Rattle.nk_store.specs.StoreState.{StoreState, IsId, look, Grows, HasLeaves}
 use Rattle.nk_apply.specs.Unions.{AreIds, unions}
 use Rattle.nk_apply.proofs.Members.{Has, has_contains, contains_has, merged_left, merged_right, merged_has}
 use Rattle.nk_determ.specs.Exact.{split_leaf}
 use Rattle.nk_determ.specs.States.{HaveEach, IsTogether}
 
 -- what many leaves together have, one of them has
-pub unions_has : (st : Held) (ds : List ℕ) (from n : ℕ) (pk : List ℕ) (o : Out) → Has (unions st ds from n pk) o →
+pub unions_has : (st : StoreState) (ds : List ℕ) (from n : ℕ) (pk : List ℕ) (o : Out) → Has (unions st ds from n pk) o →
     (k : ℕ) × (from ≤ k) × (k < from + n) × Has (look st (get_or ds k 0) pk) o
 unions_has st ds from zero pk o h = absurd h
 unions_has st ds from (suc n) pk o h = elim (merged_has o (look st (get_or ds from 0) pk) (unions st ds (from + 1) n pk) h) [
@@ -20,7 +20,7 @@ unions_has st ds from (suc n) pk o h = elim (merged_has o (look st (get_or ds fr
 ]
 
 -- and the other way round
-pub has_unions : (st : Held) (ds : List ℕ) (from n k : ℕ) (pk : List ℕ) (o : Out) → from ≤ k → k < from + n →
+pub has_unions : (st : StoreState) (ds : List ℕ) (from n k : ℕ) (pk : List ℕ) (o : Out) → from ≤ k → k < from + n →
     Has (look st (get_or ds k 0) pk) o → Has (unions st ds from n pk) o
 has_unions st ds from zero k pk o a b h = absurd (omega (arith, a, b))
 has_unions st ds from (suc n) k pk o a b h = elim (leb_tells k from) [
@@ -31,7 +31,7 @@ has_unions st ds from (suc n) k pk o a b h = elim (leb_tells k from) [
 ]
 
 -- a diagram has the same leaves in a store that grew
-leaves_grow : (st new : Held) (d : ℕ) (F : List ℕ → List Out) → Grows st new → HasLeaves st d F → HasLeaves new d F
+leaves_grow : (st new : StoreState) (d : ℕ) (F : List ℕ → List Out) → Grows st new → HasLeaves st d F → HasLeaves new d F
 leaves_grow st new d F g h = record { id = g.ids d h.id; leaf = λ pk w. g.leaves d pk h.id ∙ h.leaf pk w }
 
 -- one diagram more
@@ -40,7 +40,7 @@ length_more [] d = refl
 length_more (x ∷ ds) d = let e = length_more ds d in omega (arith, e)
 
 -- one diagram more has its leaves
-pub each_more : (st new : Held) (ds more : List ℕ) (i d : ℕ) (F : ℕ → List ℕ → List Out) → Grows st new → length ds ≡ i → more ≡ ds ++ d ∷ [] →
+pub each_more : (st new : StoreState) (ds more : List ℕ) (i d : ℕ) (F : ℕ → List ℕ → List Out) → Grows st new → length ds ≡ i → more ≡ ds ++ d ∷ [] →
     HaveEach st ds F i → HasLeaves new d (F i) → HaveEach new more F (i + 1)
 each_more st new ds more i d F h len is all one k below = elim (leb_tells i k) [
   | inr before ↦
@@ -53,15 +53,15 @@ each_more st new ds more i d F h len is all one k below = elim (leb_tells i k) [
 ]
 
 -- diagrams with leaves are diagrams of the store
-pub each_ids : (st : Held) (ds : List ℕ) (n : ℕ) (F : ℕ → List ℕ → List Out) → n ≡ length ds → HaveEach st ds F n → AreIds st ds
+pub each_ids : (st : StoreState) (ds : List ℕ) (n : ℕ) (F : ℕ → List ℕ → List Out) → n ≡ length ds → HaveEach st ds F n → AreIds st ds
 each_ids st ds n F e all k l = (all k (omega (arith, l, e))).id
 
 -- what these diagrams have for leaves, split
-abbrev pub split_each : Held → List ℕ → ℕ → List ℕ → List Out
+abbrev pub split_each : StoreState → List ℕ → ℕ → List ℕ → List Out
 split_each st ds k pk = split_leaf st.maxes pk (look st (get_or ds k 0) pk)
 
 -- a diagram is split in a store that grew
-pub split_before : (old st new : Held) (ds : List ℕ) (i d r : ℕ) → Grows old st → IsId old d → d ≡ get_or ds i 0 →
+pub split_before : (old st new : StoreState) (ds : List ℕ) (i d r : ℕ) → Grows old st → IsId old d → d ≡ get_or ds i 0 →
     HasLeaves new r (λ pk. split_leaf st.maxes pk (look st d pk)) → HasLeaves new r (split_each old ds i)
 split_before old st new ds i d r g id is one = record {
   id = one.id;
@@ -71,7 +71,7 @@ split_before old st new ds i d r g id is one = record {
 }
 
 -- all split diagrams together
-pub all_together : (old st new : Held) (ds split : List ℕ) (r : ℕ) → length split ≡ length ds →
+pub all_together : (old st new : StoreState) (ds split : List ℕ) (r : ℕ) → length split ≡ length ds →
     HaveEach st split (split_each old ds) (length split) → HasLeaves new r (λ pk. unions st split 0 (length split) pk) → IsTogether old ds new r
 all_together old st new ds split r len all u = record {
   id = u.id;

@@ -17,7 +17,7 @@ front [] ys o h = absurd h
 front (x ∷ xs) ys o (inl e) = inl e
 front (x ∷ xs) ys o (inr h) = inr (front xs ys o h)
 
--- and behind them
+-- and after them
 pub back : {X : Type 0} (xs ys : List X) (o : X) → Has ys o → Has (xs ++ ys) o
 back [] ys o h = h
 back (x ∷ xs) ys o h = inr (back xs ys o h)

@@ -16,12 +16,12 @@ with_target b target = record { act = b.act; targets = b.targets ++ target ∷ [
 abbrev pub begun : List (ℕ × ℕ) → Branch
 begun g = record { act = g; targets = [] }
 
--- a branch and the outs behind it: outs that stand next to each other with one act are one branch
+-- a branch and the outs after it: outs that stand next to each other with one act are one branch
 abbrev pub runs : Branch → List Out → List Branch
 runs b [] = b ∷ []
 runs b (o ∷ os) = cond (ghosts.eq o.act b.act) (runs (with_target b o.target) os) (b ∷ runs (with_target (begun o.act) o.target) os)
 
--- the branches of a leaf's outs, behind one that assigns nothing
+-- the branches of a leaf's outs, after one that assigns nothing
 abbrev pub branches : List Out → List Branch
 branches outs = runs (begun []) outs
 

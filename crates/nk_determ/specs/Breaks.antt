@@ -1,9 +1,9 @@
--- Histories that follow set states and end at a bad final.
+-- Histories that follow set states and end at a violation.
 use Rattle.std.specs.Prelude.{◌≡◌, ℕ, List, [], ◌∷◌, Contains}
 use Rattle.nk_field.specs.Act.{applied}
 use Rattle.nk_field.specs.Order.{Found}
 use Rattle.nk_store.specs.declared.node.Out.{Out}
-use Rattle.nk_store.specs.Held.{Held}
+use Rattle.nk_store.specs.StoreState.{StoreState}
 use Rattle.nk_determ.specs.Pairs.{Node, IsStart, IsStep}
 
 -- the outs make the packet y, with that target
@@ -16,13 +16,13 @@ Walks Step m [] n = m ≡ n
 Walks Step m (y ∷ u) n = (set : List ℕ) × Step m (set, y) × Walks Step (set, y) u n
 
 -- the history starts at a packet that starts, its records follow the states' set states from the start set on, and its last
--- packet is made by a bad final with that target of the set where the records end
-pub record IsBreak (st : Held) (states set : List ℕ) (start : ℕ) (bad : List ℕ → List ℕ → List Out) (target : ℕ) (f : Found) : Type 0 where
+-- packet is made by a violation with that target of the set where the records end
+pub record IsBreak (st : StoreState) (states set : List ℕ) (start : ℕ) (bad : List ℕ → List ℕ → List Out) (target : ℕ) (f : Found) : Type 0 where
   pub starts : IsStart st set start (set, f.start)
   pub end : Node
   pub walk : Walks (IsStep st states) (set, f.start) f.records end
   pub makes : MakesWithTarget (bad end.0 end.1) end.1 f.last target
 
--- the same by a bad final with any target
-abbrev pub Breaks : Held → List ℕ → List ℕ → ℕ → (List ℕ → List ℕ → List Out) → Found → Type 0
+-- the same by a violation with any target
+abbrev pub Breaks : StoreState → List ℕ → List ℕ → ℕ → (List ℕ → List ℕ → List Out) → Found → Type 0
 Breaks st states set start bad f = (target : ℕ) × IsBreak st states set start bad target f

@@ -1,5 +1,5 @@
 -- The sets that levels name, in order: those that are named first come first, and of one level the members in dictionary
--- order; those at odd levels (Smolka et al., ICFP 2015: a tag for each state of the automaton), and those behind the first.
+-- order; those at odd levels (Smolka et al., ICFP 2015: a tag for each state of the automaton), and those after the first.
 use Rattle.std.specs.Prelude.{◌≡◌, ℕ, suc, ◌+◌, ◌*◌, ◌<◌, ◌⊎◌, ◌↔◌, List, [], length, slice_index_or, All, Contains, AllPairs}
 use Rattle.nk_field.specs.Order.{IsListedBefore}
 use Rattle.nk_policy.specs.Labels.{IsWithoutDoubles}
@@ -33,7 +33,7 @@ module _ (levels : ℕ → List (ℕ × ℕ)) where
 abbrev pub odd_level : List (List (ℕ × ℕ)) → ℕ → List (ℕ × ℕ)
 odd_level ls j = slice_index_or ls (2 * j + 1) []
 
--- the entries of the level with this place behind the first one, none where there is no such level
+-- the entries of the level with this place after the first one, none where there is no such level
 abbrev pub later_level : List (List (ℕ × ℕ)) → ℕ → List (ℕ × ℕ)
 later_level ls j = slice_index_or ls (suc j) []
 
@@ -53,7 +53,7 @@ IsNumberedBefore ss ls = IsNamedBefore (odd_level ls) ss
 abbrev pub AreNumbers : List (List ℕ) → List (List (ℕ × ℕ)) → List ℕ → Type 0
 AreNumbers ss ls r = AreInOrder (odd_level ls) ss r
 
--- the sets at levels behind the first one, each once, in order
+-- the sets at levels after the first one, each once, in order
 abbrev pub AreLaterSets : List (List ℕ) → List (List (ℕ × ℕ)) → List ℕ → Type 0
 AreLaterSets ss ls r = AreInOrder (later_level ls) ss r
 

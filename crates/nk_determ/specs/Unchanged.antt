@@ -4,7 +4,7 @@ use Rattle.std.specs.List.{Contains, flat_map, list_any}
 use Rattle.nk_field.specs.Act.{left_without}
 use Rattle.nk_store.specs.declared.node.Out.{Out}
 use Rattle.nk_store.specs.Operations.{gathered}
-use Rattle.nk_store.specs.Held.{Held, look}
+use Rattle.nk_store.specs.StoreState.{StoreState, look}
 
 -- whether the act assigns the value n to the field f
 abbrev pub assigns : ℕ → ℕ → List (ℕ × ℕ) → Bool
@@ -63,17 +63,17 @@ abbrev pub AreAmong : List ℕ → List ℕ → Type 0
 AreAmong xs ys = (v : ℕ) → Contains xs v → Contains ys v
 
 -- what each leaf of the diagram has is among the items
-abbrev pub HasItems : (List Out → List ℕ) → List ℕ → Held → ℕ → Type 0
+abbrev pub HasItems : (List Out → List ℕ) → List ℕ → StoreState → ℕ → Type 0
 HasItems F xs st d = (pk : List ℕ) → AreAmong (F (look st d pk)) xs
 
 -- that is so of each of these diagrams
-abbrev pub AllHaveItems : (List Out → List ℕ) → List ℕ → Held → List ℕ → Type 0
+abbrev pub AllHaveItems : (List Out → List ℕ) → List ℕ → StoreState → List ℕ → Type 0
 AllHaveItems F xs st ds = (d : ℕ) → list_any (eqb d) ds ≡ true → HasItems F xs st d
 
 -- what the acts of the diagram assign to the field f is among the values
-abbrev pub HasValues : ℕ → List ℕ → Held → ℕ → Type 0
+abbrev pub HasValues : ℕ → List ℕ → StoreState → ℕ → Type 0
 HasValues f vs st d = HasItems (leaf_values f) vs st d
 
 -- the fields that acts of the diagram assign are among these
-abbrev pub AssignsAmong : List ℕ → Held → ℕ → Type 0
+abbrev pub AssignsAmong : List ℕ → StoreState → ℕ → Type 0
 AssignsAmong fs st d = HasItems leaf_fields fs st d

@@ -3,7 +3,7 @@ ghost use Rattle.std.specs.Prelude.{◌≡◌, ℕ, ◌<◌, ◌≤◌, ◌++◌
 ghost use Rattle.std.specs.List.{Contains, list_any};
 ghost use Rattle.std.specs.List.Sorted.{IsNonDecreasing};
 ghost use Rattle.nk_store.specs.declared.node.Out.{Out};
-ghost use Rattle.nk_store.specs.Held.{IsId};
+ghost use Rattle.nk_store.specs.StoreState.{IsId};
 ghost use Rattle.nk_determ.specs.Unchanged.{act_values, leaf_values, act_fields, leaf_fields, AreAmong, HasItems, AllHaveItems, HasValues, AssignsAmong};
 
 use nk_field::{Fid, List};

@@ -3,7 +3,7 @@
 ghost use Rattle.std.specs.Prelude.{◌≡◌, ◌↔◌, ℕ, ◌+◌, ◌<◌, ◌≤◌, ◌++◌, ◌∷◌, [], true, length, slice_index_or, Contains, List as Items, IfOk, IfSome, OnOk};
 ghost use Rattle.std.specs.List.Sorted.{IsStrictlyIncreasing};
 ghost use Rattle.nk_store.specs.declared.node.Out.{Out};
-ghost use Rattle.nk_store.specs.Held.{IsId, IsPacket, top, Grows};
+ghost use Rattle.nk_store.specs.StoreState.{IsId, IsStorePacket, root_field, Grows};
 ghost use Rattle.nk_apply.specs.Seqs.{outs_of};
 ghost use Rattle.nk_apply.specs.Unions.{AreIds, AreFrom, outs_in_turn};
 ghost use Rattle.nk_determ.specs.Exact.{Sends};
@@ -42,7 +42,7 @@ pub(crate) fn acts_of(st: &Store, diagrams: &[Id]) -> Result<Option<List<Act>>, 
 /// two of them assign different fields.
 fn add_acts_of(st: &Store, acts: &mut List<Act>, d: Id) -> Result<bool, AllocError>
     requires { IsId st.now d }
-    ensures leaf { IfOk result (λ b. b ≡ true → 18 ≤ top st.now d) }
+    ensures leaf { IfOk result (λ b. b ≡ true → 18 ≤ root_field st.now d) }
     ensures acts { IfOk result (λ b. b ≡ true → (before : Items Out) → AreActsOf before acts.old → AreActsOf (before ++ outs_of st.now d) acts.new) }
 {
     match st.view(d) {
@@ -111,9 +111,9 @@ pub(crate) fn steps_by_act(
     ensures grows { Grows st.old st.new }
     ensures sets { SetsGrow ss.old ss.new }
     ensures id { IfOk result (λ r. IsId st.new r) }
-    ensures leads { IfOk result (λ r. (pk y : Items ℕ) (i : ℕ) → IsPacket st.old pk → Sends st.new r pk y (i + 1) →
+    ensures leads { IfOk result (λ r. (pk y : Items ℕ) (i : ℕ) → IsStorePacket st.old pk → Sends st.new r pk y (i + 1) →
         AreLedTo ss.new st.old diagrams.now pk y i) }
-    ensures led { IfOk result (λ r. (pk y : Items ℕ) (l : ℕ) → IsPacket st.old pk → 0 < l →
+    ensures led { IfOk result (λ r. (pk y : Items ℕ) (l : ℕ) → IsStorePacket st.old pk → 0 < l →
         SomeLeads st.old diagrams.now pk y l → (i : ℕ) × Sends st.new r pk y (i + 1)) }
 {
     st.laws();
@@ -155,7 +155,7 @@ fn target_of(st: &Store, ss: &mut Sets, diagrams: &[Id], act: &Act) -> Result<u6
     Ok(s.target())
 }
 
-/// The labels with which these leaves have an act, one leaf's behind the other's.
+/// The labels with which these leaves have an act, one leaf's after the other's.
 fn labels_by(st: &Store, diagrams: &[Id], act: &Act) -> Result<List<u64>, AllocError>
     requires { AreIds st.now diagrams.now }
     ensures { IfOk result (λ ls. ls ≡ labels_of act.now (outs_in_turn st.now diagrams.now)) }

@@ -2,8 +2,8 @@
 ghost use Rattle.std.specs.Prelude.{◌≡◌, ℕ, ◌<◌, ◌≤◌, map, min, cond, IfOk, List as Items, slice_index};
 ghost use Rattle.std.specs.List.Sorted.{IsNonDecreasing};
 ghost use Rattle.nk_store.specs.Nodes.{child_at};
-ghost use Rattle.nk_store.specs.Held.{IsId, IsWhole, look, top, Grows, HasLeaves, AreParts};
-ghost use Rattle.nk_apply.specs.Subs.{sub};
+ghost use Rattle.nk_store.specs.StoreState.{IsId, IsWhole, look, root_field, Grows, HasLeaves, AreParts};
+ghost use Rattle.nk_apply.specs.Cofactors.{cofactor};
 ghost use Rattle.nk_determ.specs.Unchanged.{assigns, act_without, out_without, leaf_without, leaf_changing, HasValues};
 
 use crate::assigned::{assigned, next_cut};
@@ -107,10 +107,10 @@ pub(crate) fn drop_unchanged(st: &mut Store, f: Fid, d: Id) -> Result<Id, AllocE
 fn drop_here(st: &mut Store, f: Fid, d: Id) -> Result<Id, AllocError>
     requires id { IsId st.old d }
     requires field { f < 18 }
-    requires first { f ≤ top st.old d }
+    requires first { f ≤ root_field st.old d }
     ensures grows { Grows st.old st.new }
     ensures ok { IfOk result (λ r. HasLeaves st.new r (λ pk. leaf_changing st.old.maxes f pk (look st.old d pk))) }
-    ensures later { IfOk result (λ r. f ≤ top st.new r) }
+    ensures later { IfOk result (λ r. f ≤ root_field st.new r) }
 {
     st.laws();
     let values = assigned(st, f, d)?;
@@ -126,12 +126,12 @@ fn drop_here(st: &mut Store, f: Fid, d: Id) -> Result<Id, AllocError>
 fn pieces_of(st: &mut Store, f: Fid, values: &[u64], d: Id) -> Result<List<(u64, Id)>, AllocError>
     requires id { IsId st.old d }
     requires field { f < 18 }
-    requires first { f ≤ top st.old d }
+    requires first { f ≤ root_field st.old d }
     requires has { HasValues f values.now st.old d }
     requires sorted { IsNonDecreasing values.now }
     ensures grows { Grows st.old st.new }
     ensures parts { IfOk result (λ ps. AreParts st.new f ps) }
-    ensures ok { IfOk result (λ ps. (v : ℕ) (pk : Items ℕ) → IsWhole pk → look st.new (child_at 0 ps v) pk ≡ leaf_without f (min v (slice_index st.old.maxes f)) (look st.old (sub st.old f v d) pk)) }
+    ensures ok { IfOk result (λ ps. (v : ℕ) (pk : Items ℕ) → IsWhole pk → look st.new (child_at 0 ps v) pk ≡ leaf_without f (min v (slice_index st.old.maxes f)) (look st.old (cofactor st.old f v d) pk)) }
 {
     st.laws();
     let max = st.max(f);
@@ -155,7 +155,7 @@ fn piece(st: &mut Store, f: Fid, n: u64, alone: bool, d: Id) -> Result<Id, Alloc
     requires { IsId st.old d }
     ensures grows { Grows st.old st.new }
     ensures ok { IfOk result (λ r. HasLeaves st.new r (λ pk. cond alone (leaf_without f n (look st.old d pk)) (look st.old d pk))) }
-    ensures later { IfOk result (λ r. top st.old d ≤ top st.new r) }
+    ensures later { IfOk result (λ r. root_field st.old d ≤ root_field st.new r) }
 {
     if alone {
         return map_leaves(st, &Without { field: f, value: n }, d);

@@ -10,7 +10,7 @@ use nk_store::Id;
 pub struct Levels {
     /// The levels, that of the start first. Each is a list of a set's number and its packets, each set once.
     pub levels: List<List<(SetId, Id)>>,
-    /// Whether they ended at a level with a bad final.
+    /// Whether they ended at a level with a violation.
     broken: bool,
 }
 
@@ -24,7 +24,7 @@ impl Drop for Levels {
 }
 
 impl Levels {
-    /// These levels, and whether they ended at a level with a bad final.
+    /// These levels, and whether they ended at a level with a violation.
     pub fn new(levels: List<List<(SetId, Id)>>, broken: bool) -> Levels
         ensures levels { result.levels ≡ levels }
         ensures broken { result.broken ≡ broken }
@@ -32,7 +32,7 @@ impl Levels {
         Levels { levels, broken }
     }
 
-    /// Whether the levels ended at a bad final: then the last level has one, and no level before it.
+    /// Whether the levels ended at a violation: then the last level has one, and no level before it.
     pub fn broken(&self) -> bool
         ensures { result ≡ self.now.broken }
     {

@@ -2,7 +2,7 @@
 ghost use Rattle.std.specs.Prelude.{◌≡◌, ℕ, ◌<◌, ◌||◌, true, eqb, List as Items, IfOk, OnOk};
 ghost use Rattle.std.specs.List.{Contains, list_all};
 ghost use Rattle.nk_store.specs.declared.node.Out.{Out};
-ghost use Rattle.nk_store.specs.Held.{IsId, look};
+ghost use Rattle.nk_store.specs.StoreState.{IsId, look};
 ghost use Rattle.nk_determ.specs.Plain.{fields_in, IsPlain};
 ghost use Rattle.nk_determ.specs.AllPlain.{HasPlainLeaves, AllHavePlainLeaves};
 

@@ -1,7 +1,7 @@
 //! Diagrams whose acts assign exactly the fields that they change.
 ghost use Rattle.std.specs.Prelude.{◌≡◌, ℕ, ◌<◌, ◌↔◌, cond, eqb, List as Items, Some, IfOk, true};
 ghost use Rattle.std.specs.List.{list_any};
-ghost use Rattle.nk_store.specs.Held.{IsId, IsPacket, look, recalled, Grows, HasLeaves};
+ghost use Rattle.nk_store.specs.StoreState.{IsId, IsStorePacket, look, recalled, Grows, HasLeaves};
 ghost use Rattle.nk_store.specs.KeptAnswers.{GivesKept};
 ghost use Rattle.nk_store.specs.declared.operation.Operation.TheVariants as operations;
 ghost use Rattle.nk_determ.specs.Unchanged.{leaf_changing};
@@ -20,7 +20,7 @@ pub fn split(st: &mut Store, d: Id) -> Result<Id, AllocError>
     ensures grows { Grows st.old st.new }
     ensures ok { IfOk result (λ r. HasLeaves st.new r (λ pk. split_leaf st.old.maxes pk (look st.old d pk))) }
     ensures exact { IfOk result (λ r. AreExact st.new r) }
-    ensures means { IfOk result (λ r. (pk : Items ℕ) (y : Items ℕ) (t : ℕ) → IsPacket st.old pk → Sends st.new r pk y t ↔ Sends st.old d pk y t) }
+    ensures means { IfOk result (λ r. (pk : Items ℕ) (y : Items ℕ) (t : ℕ) → IsStorePacket st.old pk → Sends st.new r pk y t ↔ Sends st.old d pk y t) }
     ensures kept { IfOk result (λ r. recalled st.new operations.Split d d ≡ Some r) }
     ensures again { GivesKept st.old st.new operations.Split d d result }
 {
@@ -79,7 +79,7 @@ pub fn mean_same(st: &Store, d: Id, e: Id) -> bool
     requires left_exact { AreExact st.now d }
     requires right_exact { AreExact st.now e }
     ensures yes { result ≡ true → d ≡ e }
-    ensures means { ((pk : Items ℕ) (y : Items ℕ) (t : ℕ) → IsPacket st.now pk → Sends st.now d pk y t ↔ Sends st.now e pk y t) → result ≡ true }
+    ensures means { ((pk : Items ℕ) (y : Items ℕ) (t : ℕ) → IsStorePacket st.now pk → Sends st.now d pk y t ↔ Sends st.now e pk y t) → result ≡ true }
 {
     let _tidy = st.view(d);
     st.same(d, e)

@@ -4,8 +4,8 @@ ghost use Rattle.std.specs.List.{Contains};
 ghost use Rattle.std.specs.List.Sorted.{IsStrictlyIncreasing};
 ghost use Rattle.nk_store.specs.Leaves.{Strict};
 ghost use Rattle.nk_store.specs.Nodes.{child_at};
-ghost use Rattle.nk_store.specs.Held.{Held, IsId, IsWhole, IsPacket, look, top, Grows, AreParts};
-ghost use Rattle.nk_apply.specs.Subs.{sub, IsSplit};
+ghost use Rattle.nk_store.specs.StoreState.{StoreState, IsId, IsWhole, IsStorePacket, look, root_field, Grows, AreParts};
+ghost use Rattle.nk_apply.specs.Cofactors.{cofactor, IsSplit};
 ghost use Rattle.nk_apply.specs.Unions.{AreIds};
 ghost use Rattle.nk_determ.specs.Exact.{split_leaf, AreExact, Sends};
 ghost use Rattle.nk_determ.specs.Sets.{SetsGrow};
@@ -47,11 +47,11 @@ pub fn state(st: &mut Store, ss: &mut Sets, states: &[Id], s: SetId) -> Result<I
     ensures once { IfOk result (λ r. (pk : Items ℕ) (g : Items (ℕ × ℕ)) (i j : ℕ) → IsWhole pk →
         Contains (look st.new r pk) (record { act = g; target = i + 1 }) →
         Contains (look st.new r pk) (record { act = g; target = j + 1 }) → i ≡ j) }
-    ensures ends { IfOk result (λ r. (pk y : Items ℕ) → IsPacket st.old pk →
+    ensures ends { IfOk result (λ r. (pk y : Items ℕ) → IsStorePacket st.old pk →
         Sends st.new r pk y 0 ↔ StateLeads st.old states.now (slice_index_or ss.old s []) pk y 0) }
-    ensures leads { IfOk result (λ r. (pk y : Items ℕ) (i : ℕ) → IsPacket st.old pk → Sends st.new r pk y (i + 1) →
+    ensures leads { IfOk result (λ r. (pk y : Items ℕ) (i : ℕ) → IsStorePacket st.old pk → Sends st.new r pk y (i + 1) →
         IsLedTo ss.new st.old states.now (slice_index_or ss.old s []) pk y i) }
-    ensures led { IfOk result (λ r. (pk y : Items ℕ) (l : ℕ) → IsPacket st.old pk → 0 < l →
+    ensures led { IfOk result (λ r. (pk y : Items ℕ) (l : ℕ) → IsStorePacket st.old pk → 0 < l →
         StateLeads st.old states.now (slice_index_or ss.old s []) pk y l → (i : ℕ) × Sends st.new r pk y (i + 1)) }
 {
     let diagrams = states_at(st.alloc(), states, ss.members(s))?;
@@ -100,11 +100,11 @@ pub fn state_of(st: &mut Store, ss: &mut Sets, diagrams: &[Id]) -> Result<Id, Al
     ensures once { IfOk result (λ r. (pk : Items ℕ) (g : Items (ℕ × ℕ)) (i j : ℕ) → IsWhole pk →
         Contains (look st.new r pk) (record { act = g; target = i + 1 }) →
         Contains (look st.new r pk) (record { act = g; target = j + 1 }) → i ≡ j) }
-    ensures ends { IfOk result (λ r. (pk y : Items ℕ) → IsPacket st.old pk →
+    ensures ends { IfOk result (λ r. (pk y : Items ℕ) → IsStorePacket st.old pk →
         Sends st.new r pk y 0 ↔ SomeLeads st.old diagrams.now pk y 0) }
-    ensures leads { IfOk result (λ r. (pk y : Items ℕ) (i : ℕ) → IsPacket st.old pk → Sends st.new r pk y (i + 1) →
+    ensures leads { IfOk result (λ r. (pk y : Items ℕ) (i : ℕ) → IsStorePacket st.old pk → Sends st.new r pk y (i + 1) →
         AreLedTo ss.new st.old diagrams.now pk y i) }
-    ensures led { IfOk result (λ r. (pk y : Items ℕ) (l : ℕ) → IsPacket st.old pk → 0 < l →
+    ensures led { IfOk result (λ r. (pk y : Items ℕ) (l : ℕ) → IsStorePacket st.old pk → 0 < l →
         SomeLeads st.old diagrams.now pk y l → (i : ℕ) × Sends st.new r pk y (i + 1)) }
 {
     st.laws();
@@ -117,7 +117,7 @@ fn regrouped_union(st: &mut Store, ss: &mut Sets, diagrams: &[Id]) -> Result<Id,
     requires { AreIds st.old diagrams.now }
     ensures grows { Grows st.old st.new }
     ensures sets { SetsGrow ss.old ss.new }
-    ensures made { IfOk result (λ r. (mid : Held) × (d : ℕ) × IsStateOf st.old mid st.new ss.new diagrams.now d r) }
+    ensures made { IfOk result (λ r. (mid : StoreState) × (d : ℕ) × IsStateOf st.old mid st.new ss.new diagrams.now d r) }
 {
     let d = together(st, diagrams)?;
     st.laws();
@@ -174,7 +174,7 @@ fn regroup_once(
     ensures grows { Grows st.old st.new }
     ensures sets { SetsGrow ss.old ss.new }
     ensures ok { IfOk result (λ r. IsRegrouped st.old d st.new ss.new r) }
-    ensures later { IfOk result (λ r. top st.old d ≤ top st.new r) }
+    ensures later { IfOk result (λ r. root_field st.old d ≤ root_field st.new r) }
     ensures seen { OnOk result (AreRegrouped st.new ss.new seen.new.entries) }
 {
     if let Some(r) = known(seen, d) {
@@ -198,7 +198,7 @@ fn regroup_new(
     ensures grows { Grows st.old st.new }
     ensures sets { SetsGrow ss.old ss.new }
     ensures ok { IfOk result (λ r. IsRegrouped st.old d st.new ss.new r) }
-    ensures later { IfOk result (λ r. top st.old d ≤ top st.new r) }
+    ensures later { IfOk result (λ r. root_field st.old d ≤ root_field st.new r) }
     ensures seen { OnOk result (AreRegrouped st.new ss.new seen.new.entries) }
 {
     match tested(st, d) {
@@ -221,14 +221,14 @@ fn regroup_parts(
 ) -> Result<List<(u64, Id)>, AllocError>
     requires id { IsId st.old d }
     requires field { f < 18 }
-    requires first { top st.old d ≡ f }
+    requires first { root_field st.old d ≡ f }
     requires split { IsSplit st.old f d }
     requires seen { AreRegrouped st.old ss.old seen.old.entries }
     ensures grows { Grows st.old st.new }
     ensures sets { SetsGrow ss.old ss.new }
     ensures parts { IfOk result (λ ps. AreParts st.new f ps) }
     ensures ok { IfOk result (λ ps. (later : Items (Items ℕ)) → SetsGrow ss.new later → (v : ℕ) (pk : Items ℕ) → IsWhole pk →
-        look st.new (child_at 0 ps v) pk ≡ regrouped later (look st.old (sub st.old f v d) pk)) }
+        look st.new (child_at 0 ps v) pk ≡ regrouped later (look st.old (cofactor st.old f v d) pk)) }
     ensures held { OnOk result (HasSets ss.new st.old d) }
     ensures seen { OnOk result (AreRegrouped st.new ss.new seen.new.entries) }
 {
@@ -250,11 +250,11 @@ fn regroup_parts(
 /// The regrouped diagram of a leaf. A leaf whose outs are all final is its own.
 fn regroup_leaf(st: &mut Store, ss: &mut Sets, d: Id) -> Result<Id, AllocError>
     requires id { IsId st.old d }
-    requires leaf { 18 ≤ top st.old d }
+    requires leaf { 18 ≤ root_field st.old d }
     ensures grows { Grows st.old st.new }
     ensures sets { SetsGrow ss.old ss.new }
     ensures ok { IfOk result (λ r. IsRegrouped st.old d st.new ss.new r) }
-    ensures later { IfOk result (λ r. top st.old d ≤ top st.new r) }
+    ensures later { IfOk result (λ r. root_field st.old d ≤ root_field st.new r) }
 {
     let outs = match st.view(d) {
         Node::Leaf(outs) => {
@@ -279,9 +279,9 @@ fn outs_to_sets(alloc: Global, sets: &mut Sets, outs: &[Out]) -> Result<List<Out
     let mut all = List::with_capacity(alloc, outs.len().min(FIRST_ROOM))?;
     let mut rest = outs;
     while !rest.is_empty() {
-        let (run, behind) = rest.split_at(run_length(rest));
+        let (run, following) = rest.split_at(run_length(rest));
         push_run(&mut all, sets, run)?;
-        rest = behind;
+        rest = following;
     }
     Ok(all)
 }

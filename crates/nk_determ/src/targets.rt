@@ -1,6 +1,6 @@
 //! Targets by a table.
 ghost use Rattle.std.specs.Prelude.{◌≡◌, ◌≤◌, ◌++◌, None, IfOk, OnOk, flat_map, slice_index_or};
-ghost use Rattle.nk_store.specs.Held.{IsId, look, top, Grows, HasLeaves};
+ghost use Rattle.nk_store.specs.StoreState.{IsId, look, root_field, Grows, HasLeaves};
 ghost use Rattle.nk_determ.specs.Targets.{out_by_table, retargeted};
 
 use nk_apply::{LeafMap, map_leaves};
@@ -70,7 +70,7 @@ pub fn retarget(st: &mut Store, d: Id, table: &[Option<u64>]) -> Result<Id, Allo
     requires { IsId st.old d }
     ensures grows { Grows st.old st.new }
     ensures ok { IfOk result (λ r. HasLeaves st.new r (λ pk. retargeted table.now (look st.old d pk))) }
-    ensures later { IfOk result (λ r. top st.old d ≤ top st.new r) }
+    ensures later { IfOk result (λ r. root_field st.old d ≤ root_field st.new r) }
 {
     map_leaves(st, &ByTable { table }, d)
 }

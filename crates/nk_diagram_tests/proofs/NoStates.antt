@@ -1,10 +1,10 @@
 -- No states.
 use Rattle.std.proofs.Common.{◌≡◌, ℕ, List, [], sym, subst, arith}
-use Rattle.nk_store.specs.Held.{Held}
+use Rattle.nk_store.specs.StoreState.{StoreState}
 use Rattle.nk_reach.specs.Pairs.{AreStates}
 
 -- no states
-pub no_states : (st : Held) (states : List ℕ) → states ≡ [] → AreStates st states
+pub no_states : (st : StoreState) (states : List ℕ) → states ≡ [] → AreStates st states
 no_states st states is = subst (AreStates st) (sym is) none
   where
     none : AreStates st []

@@ -2,7 +2,7 @@
 use Rattle.std.proofs.Common.{◌≡◌, ℕ, zero, suc, ◌<◌, List, [], ◌∷◌, sym, subst, arith}
 use Rattle.std.specs.Prelude.{All}
 use Rattle.std.specs.List.Sorted.{IsStrictlyIncreasing}
-use Rattle.nk_store.specs.Held.{Held, IsId}
+use Rattle.nk_store.specs.StoreState.{StoreState, IsId}
 use Rattle.nk_apply.specs.Unions.{AreIds}
 
 -- two numbers ascend
@@ -14,7 +14,7 @@ two_ascend xs a b e l = subst IsStrictlyIncreasing (sym e) two
     two (suc k) m = absurd (omega (arith, m))
 
 -- two diagrams of a store
-pub two_ids : (st : Held) (a b : ℕ) → IsId st a → IsId st b → AreIds st (a ∷ b ∷ [])
+pub two_ids : (st : StoreState) (a b : ℕ) → IsId st a → IsId st b → AreIds st (a ∷ b ∷ [])
 two_ids st a b x y zero l = x
 two_ids st a b x y (suc zero) l = y
 two_ids st a b x y (suc (suc k)) l = absurd (omega (arith, l))

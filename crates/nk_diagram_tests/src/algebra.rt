@@ -1,6 +1,6 @@
 //! Small diagrams put together.
 ghost use Rattle.std.specs.Prelude.{IfOk};
-ghost use Rattle.nk_store.specs.Held.{IsId};
+ghost use Rattle.nk_store.specs.StoreState.{IsId};
 
 use nk_algebra::{aim, assign, both, empty, negate, restrict, seq, test, union_all};
 use nk_field::{Fid, Packet};

@@ -1,5 +1,5 @@
 //! The diagrams of small policies.
-ghost use Rattle.nk_store.specs.Held.{IsId};
+ghost use Rattle.nk_store.specs.StoreState.{IsId};
 
 use crate::cases::DST;
 use crate::policies::{complement, either, in_turn, star};

@@ -2,7 +2,7 @@
 ghost use Rattle.std.specs.Prelude.{◌≡◌, ◌≤◌, ◌+◌, ◌^◌, true, IfOk};
 ghost use Rattle.nk_policy.specs.Policy.{marked_from, dups_of};
 ghost use Rattle.nk_policy.specs.Tree.{tree_of, trees_of};
-ghost use Rattle.nk_store.specs.Held.{Grows};
+ghost use Rattle.nk_store.specs.StoreState.{Grows};
 ghost use Rattle.nk_auto.specs.Continued.{IsFit, AreFit};
 ghost use Rattle.nk_deriv.specs.Part.{NegatesPredicates, AllNegatePredicates};
 ghost use Rattle.nk_reach.specs.Pairs.{AreStates};

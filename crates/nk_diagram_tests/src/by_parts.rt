@@ -3,7 +3,7 @@ ghost use Rattle.std.specs.Prelude.{◌≡◌, ◌≤◌, ◌+◌, ◌^◌};
 ghost use Rattle.nk_policy.specs.Policy.{marked_from, dups_of};
 ghost use Rattle.nk_policy.specs.Tree.{tree_of};
 ghost use Rattle.nk_apply.specs.Unions.{AreIds};
-ghost use Rattle.nk_store.specs.Held.{IsId};
+ghost use Rattle.nk_store.specs.StoreState.{IsId};
 ghost use Rattle.nk_auto.specs.Continued.{IsFit};
 ghost use Rattle.nk_deriv.specs.Part.{NegatesPredicates};
 
@@ -33,7 +33,7 @@ fn leads(st: &Store, d: Id, target: u64, value: u64) -> bool
         && outs[0].act.apply(&zero).get(Fid::new(DST)) == value
 }
 
-/// Whether there are two states: the start records the packet, and behind the dup it ends with `dst` 1.
+/// Whether there are two states: the start records the packet, and after the dup it ends with `dst` 1.
 fn are_two(st: &Store, states: &[Id]) -> bool
     requires { AreIds st.now states.now }
 {

@@ -26,7 +26,7 @@ fn home(alloc: Global, switches: u16) -> Result<Pol, AllocError> {
     Ok(Pol::Sum(Pols::new(terms)))
 }
 
-/// A link from each switch at one port to the one so many switches further on, at the port behind that one.
+/// A link from each switch at one port to the one so many switches further on, at the port after that one.
 fn ring(alloc: Global, switches: u16, port: u16, step: u16) -> Result<Pol, AllocError> {
     let mut links = Vec::new(alloc);
     for n in 1..=switches {

@@ -1,6 +1,6 @@
 //! The levels of a ring of two switches, and the numbers of its sets.
 ghost use Rattle.std.specs.Prelude.{◌≡◌, ◌≤◌, ◌<◌, [], ◌∷◌, refl, IfOk, IfSome, length};
-ghost use Rattle.nk_store.specs.Held.{Grows};
+ghost use Rattle.nk_store.specs.StoreState.{Grows};
 ghost use Rattle.nk_apply.proofs.Members.{contains_has};
 ghost use Rattle.nk_sets.specs.PacketSets.{IsSet};
 ghost use Rattle.nk_determ.specs.Sets.{IsSetOf};
@@ -37,21 +37,21 @@ pub fn start_set(alloc: Global, ss: &mut Sets) -> Result<SetId, AllocError>
 
 /// The goal for which nothing is bad.
 #[derive(Drop)]
-struct NothingBad {
+struct NoViolation {
     /// How many labels there are.
     labels: usize,
 }
 
-impl Goal for NothingBad {
+impl Goal for NoViolation {
     ghost fits = { λ g st. Unit {0} };
 
     ghost labels = { λ g. g.labels };
 
-    ghost bad_of = { λ g st set pk. [] };
+    ghost violations_of = { λ g st set pk. [] };
 
     ghost fits_on = { λ g old new fits grows. tt };
 
-    ghost bad_on = { λ g old new set pk fits grows places. refl };
+    ghost violations_grow = { λ g old new set pk fits grows places. refl };
 
     ghost sided = { λ g st set pk o fits whole among. absurd (contains_has [] o among) };
 
@@ -67,7 +67,7 @@ fn levels_of(st: &mut Store, ss: &mut Sets, states: &[Id], start: Id) -> Result<
     requires packets { IsSet st.old start }
     ensures entries { IfOk result (λ l. AreEntries ss.new l.levels) }
 {
-    let mut g = NothingBad {
+    let mut g = NoViolation {
         labels: states.len(),
     };
     let s = start_set(st.alloc(), ss)?;

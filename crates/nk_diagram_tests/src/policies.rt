@@ -11,7 +11,7 @@ pub fn either(alloc: Global, p: Pol, q: Pol) -> Result<Pol, AllocError> {
     Ok(Pol::Sum(Pols::new(vec![in alloc; p, q]?)))
 }
 
-/// A policy behind another.
+/// A policy after another.
 pub fn in_turn(alloc: Global, p: Pol, q: Pol) -> Result<Pol, AllocError> {
     Ok(Pol::Seq(Pols::new(vec![in alloc; p, q]?)))
 }

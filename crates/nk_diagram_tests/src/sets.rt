@@ -1,6 +1,6 @@
 //! Small sets of one field, what is made of them, and how they are printed.
 ghost use Rattle.std.specs.Prelude.{IfOk};
-ghost use Rattle.nk_store.specs.Held.{Grows, IsId};
+ghost use Rattle.nk_store.specs.StoreState.{Grows, IsId};
 ghost use Rattle.nk_store.specs.Leaves.{IsActFrom};
 ghost use Rattle.nk_sets.specs.PacketSets.{IsSet};
 

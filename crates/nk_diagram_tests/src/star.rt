@@ -1,7 +1,7 @@
 //! Copies of small diagrams, one after another.
 ghost use Rattle.std.specs.Prelude.{◌<◌, ◌≤◌, IfOk, slice_index};
-ghost use Rattle.nk_store.specs.Held.{IsId, look, Grows};
-ghost use Rattle.nk_apply.specs.Predicates.{Ends};
+ghost use Rattle.nk_store.specs.StoreState.{IsId, look, Grows};
+ghost use Rattle.nk_apply.specs.Predicates.{HasOnlyFinals};
 
 use crate::cases::DST;
 use nk_algebra::{assign, both, test, union};
@@ -17,7 +17,7 @@ fn step(st: &mut Store, f: Fid, from: u64, to: u64) -> Result<Id, AllocError>
     requires to { to ≤ slice_index st.old.maxes f }
     ensures grows { Grows st.old st.new }
     ensures id { IfOk result (λ d. IsId st.new d) }
-    ensures ends { IfOk result (λ d. Ends (look st.new d)) }
+    ensures ends { IfOk result (λ d. HasOnlyFinals (look st.new d)) }
 {
     let is = test(st, f, from)?;
     let set = assign(st, f, to)?;

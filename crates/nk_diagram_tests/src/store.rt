@@ -1,6 +1,6 @@
 //! Leaves in a store.
 ghost use Rattle.std.specs.Prelude.{◌≡◌, [], ◌∷◌, IfOk};
-ghost use Rattle.nk_store.specs.Held.{Grows, IsId};
+ghost use Rattle.nk_store.specs.StoreState.{Grows, IsId};
 
 use nk_field::{Act, List, Packet};
 use nk_store::{Id, Out, Store};

@@ -151,7 +151,7 @@ without_avoids tag f (s ∷ ss) a = by (eqb s.0 f) (without_avoids tag f ss a.2)
     by true h = h
     by false h = (a.0, a.1, h)
 
--- the tag put among assignments of other fields is the act with the tag assigned behind it
+-- the tag put among assignments of other fields is the act with the tag assigned after it
 pub put_is : (tag t : ℕ) (h : List (ℕ × ℕ)) → Avoids tag h → act_then h ((tag, t) ∷ []) ≡ put (tag, t) h
 put_is tag t [] a = refl
 put_is tag t (s ∷ ss) a =

@@ -1,4 +1,4 @@
--- A field's bit is above all the bits of the fields behind it together.
+-- A field's bit is above all the bits of the fields after it together.
 use Rattle.std.proofs.Common.{◌≡◌, ◌≢◌, ℕ, zero, suc, ◌+◌, ◌-◌, ◌*◌, ◌^◌, ◌<◌, ◌≤◌, Bool, true, false, cond, inl, inr, List, [], ◌∷◌, length, replicate, refl, sym, ap, ◌∙◌, arith, get_or-set_other}
 use Rattle.std.specs.Prelude.{◌==◌, ◌&&◌, not, nat_lt, count_by, slice_index, slice_set}
 use Rattle.std.proofs.lemmas.Grind.{get_or-set_at}
@@ -44,35 +44,35 @@ count_lt p q from (suc n) z h a b e f =
           omega (arith, counts p from (counted (from + 1) n), counts q from (counted (from + 1) n), one_le (p from) (q from) (h from), count_lt p q (from + 1) n z h (omega (arith, a, other.1)) (omega (arith, b)) e f)
     ]
 
--- a matchable field behind f
-abbrev behind : ℕ → ℕ → ℕ → Bool
-behind tag f g = nat_lt f g && not (g == tag)
+-- a matchable field after f
+abbrev following : ℕ → ℕ → ℕ → Bool
+following tag f g = nat_lt f g && not (g == tag)
 
--- what is behind a later field is behind an earlier one
-behind_less : (tag f g x : ℕ) → f < g → behind tag g x ≡ true → behind tag f x ≡ true
-behind_less tag f g x h e = grind (arith, nat_tests, h, e)
+-- what is after a later field is after an earlier one
+after_less : (tag f g x : ℕ) → f < g → following tag g x ≡ true → following tag f x ≡ true
+after_less tag f g x h e = grind (arith, nat_tests, h, e)
 
--- no field is behind itself
-behind_self : (tag g : ℕ) → behind tag g g ≡ false
-behind_self tag g = grind (arith, nat_tests)
+-- no field is after itself
+after_self : (tag g : ℕ) → following tag g g ≡ false
+after_self tag g = grind (arith, nat_tests)
 
--- a later field but the tag is behind
-behind_here : (tag f g : ℕ) → f < g → g ≢ tag → behind tag f g ≡ true
-behind_here tag f g h n = grind (arith, nat_tests, h, n)
+-- a later field but the tag is after
+after_here : (tag f g : ℕ) → f < g → g ≢ tag → following tag f g ≡ true
+after_here tag f g h n = grind (arith, nat_tests, h, n)
 
 -- twice the bit of a field is at most the bit of one before it
 pub bits_double :
     (width tag f g : ℕ) → f < g → g < width → g ≢ tag → 2 * bit_of width tag g ≤ bit_of width tag f
 bits_double width tag f g h w n =
-    let few = count_by (behind tag g) (counted 0 width) in
-    let many = count_by (behind tag f) (counted 0 width) in
-    let lt : few < many = count_lt (behind tag g) (behind tag f) 0 width g (λ x e. behind_less tag f g x h e) (omega arith) (omega (arith, w)) (behind_self tag g) (behind_here tag f g h n) in
+    let few = count_by (following tag g) (counted 0 width) in
+    let many = count_by (following tag f) (counted 0 width) in
+    let lt : few < many = count_lt (following tag g) (following tag f) 0 width g (λ x e. after_less tag f g x h e) (omega arith) (omega (arith, w)) (after_self tag g) (after_here tag f g h n) in
     let le : 2 ^ suc few ≤ 2 ^ many = pow_mono (omega (arith, lt)) in
     omega (arith, le, pow-suc 2 few)
 
 -- a bit is above 0
 pub bit_positive : (width tag f : ℕ) → 0 < bit_of width tag f
-bit_positive width tag f = pow_pos (count_by (behind tag f) (counted 0 width))
+bit_positive width tag f = pow_pos (count_by (following tag f) (counted 0 width))
 
 -- all of so many values are so many
 all_count : (from n : ℕ) → count_by (λ g. true) (counted from n) ≡ n
@@ -81,15 +81,15 @@ all_count from (suc n) =
     let rest = all_count (from + 1) n in
     omega (arith, counts (λ g. true) from (counted (from + 1) n), rest)
 
--- with a tag behind the port, eighteen fields have sixteen bits
+-- with a tag after the port, eighteen fields have sixteen bits
 pub bits_fit : (width tag : ℕ) → 2 ≤ tag → tag < width → width ≤ 18 → bit_of width tag 0 ≤ 65536
 bits_fit width tag past declared few =
-    let untagged = count_lt (behind tag 0) (λ g. nat_lt 0 g) 0 width tag (λ x e. grind (arith, nat_tests, e)) (omega arith) (omega (arith, declared)) (grind (arith, nat_tests)) (grind (arith, nat_tests, past)) in
+    let untagged = count_lt (following tag 0) (λ g. nat_lt 0 g) 0 width tag (λ x e. grind (arith, nat_tests, e)) (omega arith) (omega (arith, declared)) (grind (arith, nat_tests)) (grind (arith, nat_tests, past)) in
     let named = count_lt (λ g. nat_lt 0 g) (λ g. true) 0 width 0 (λ x e. refl) (omega arith) (omega (arith, declared)) refl refl in
-    let most : count_by (behind tag 0) (counted 0 width) ≤ 16 = let all = all_count 0 width in omega (arith, untagged, named, all, few) in
-    pow_mono {i = count_by (behind tag 0) (counted 0 width)} {j = 16} most
+    let most : count_by (following tag 0) (counted 0 width) ≤ 16 = let all = all_count 0 width in omega (arith, untagged, named, all, few) in
+    pow_mono {i = count_by (following tag 0) (counted 0 width)} {j = 16} most
 
--- a test that fails at the first values counts behind them
+-- a test that fails at the first values counts after them
 count_past :
     (p : ℕ → Bool) (from k n : ℕ) → ((x : ℕ) → x < from + k → p x ≡ false)
     → count_by p (counted from (k + n)) ≡ count_by p (counted (from + k) n)
@@ -126,13 +126,13 @@ untagged tag g = not (g == tag)
 abbrev pub bit_from : ℕ → ℕ → ℕ → ℕ
 bit_from width tag k = 2 ^ count_by (λ g. not (g == tag)) (counted k (width - k))
 
--- a field up to f is not behind it
-not_behind : (tag f x : ℕ) → x < 0 + (f + 1) → behind tag f x ≡ false
-not_behind tag f x h = grind (arith, nat_tests, h)
+-- a field up to f is not after it
+not_after : (tag f x : ℕ) → x < 0 + (f + 1) → following tag f x ≡ false
+not_after tag f x h = grind (arith, nat_tests, h)
 
 -- a field from f + 1 on is, but for the tag
-past_behind : (tag f x : ℕ) → f + 1 ≤ x → behind tag f x ≡ untagged tag x
-past_behind tag f x h = grind (arith, nat_tests, h)
+past_after : (tag f x : ℕ) → f + 1 ≤ x → following tag f x ≡ untagged tag x
+past_after tag f x h = grind (arith, nat_tests, h)
 
 -- a field's bit is by the fields from the next one on
 bit_is : (width tag f : ℕ) → f < width → bit_of width tag f ≡ bit_from width tag (f + 1)
@@ -140,18 +140,18 @@ bit_is width tag f h =
     let all : width ≡ f + 1 + (width - (f + 1)) = omega (arith, h) in
     let next : 0 + (f + 1) ≡ f + 1 = omega arith in
     ap (λ n. 2 ^ n)
-    (ap (λ n. count_by (behind tag f) (counted 0 n)) all
-    ∙ count_past (behind tag f) 0 (f + 1) (width - (f + 1)) (not_behind tag f)
-    ∙ ap (λ k. count_by (behind tag f) (counted k (width - (f + 1)))) next
-    ∙ count_same (behind tag f) (untagged tag) (f + 1) (width - (f + 1)) (past_behind tag f))
+    (ap (λ n. count_by (following tag f) (counted 0 n)) all
+    ∙ count_past (following tag f) 0 (f + 1) (width - (f + 1)) (not_after tag f)
+    ∙ ap (λ k. count_by (following tag f) (counted k (width - (f + 1)))) next
+    ∙ count_same (following tag f) (untagged tag) (f + 1) (width - (f + 1)) (past_after tag f))
 
--- behind all fields there is none
+-- after all fields there is none
 bit_past : (width tag f : ℕ) → width ≤ f → bit_of width tag f ≡ 1
 bit_past width tag f h =
     let all : width ≡ width + 0 = omega arith in
     ap (λ n. 2 ^ n)
-    (ap (λ n. count_by (behind tag f) (counted 0 n)) all
-    ∙ count_past (behind tag f) 0 width 0 (λ x l. not_behind tag f x (omega (arith, l, h))))
+    (ap (λ n. count_by (following tag f) (counted 0 n)) all
+    ∙ count_past (following tag f) 0 width 0 (λ x l. not_after tag f x (omega (arith, l, h))))
 
 -- from there on there are no bits
 pub bits_end : (width tag : ℕ) → 1 ≡ bit_from width tag width
@@ -193,7 +193,7 @@ bits_small width tag k bit few is =
 abbrev pub HasBitsFrom : ℕ → ℕ → ℕ → List ℕ → Type 0
 HasBitsFrom k width tag bits = (f : ℕ) → k ≤ f → f < 18 → slice_index bits f ≡ bit_of width tag f
 
--- a table of ones has those behind all fields
+-- a table of ones has those after all fields
 pub ones_end : (width tag : ℕ) → HasBitsFrom width width tag (replicate 18 1)
 ones_end width tag f h l = get_or-replicate 18 f 1 0 l ∙ sym (bit_past width tag f h)
 

@@ -10,8 +10,8 @@ use Rattle.nk_field.proofs.Lists.{In, in_from_contains}
 use Rattle.nk_table.specs.declared.Bucket.{Bucket}
 use Rattle.nk_table.specs.Buckets.{same_buckets}
 use Rattle.nk_extract.specs.RuleTree.{Path, PathInterval, is_drop_leaf, with_match, block_paths, paths_of, path_intervals, bit_of, priority_of}
-use Rattle.nk_extract.specs.Chosen.{Apart, IsTop}
-use Rattle.nk_extract.proofs.Lists.{every_in, every_weaker, every_append, every_map, every_flat_map, every_filter, every_true, filter_append_is, apart_append, apart_map, top_map, top_append}
+use Rattle.nk_extract.specs.Chosen.{NoDupBy, IsTop}
+use Rattle.nk_extract.proofs.Lists.{every_in, every_weaker, every_append, every_map, every_flat_map, every_filter, every_true, filter_append_is, no_dup_append, no_dup_map, top_map, top_append}
 use Rattle.nk_extract.proofs.Bits.{bits_double, bit_positive}
 use Rattle.nk_extract.proofs.Trees.{Tree, TestsOnly, TestOnly, IsMatchable, Rising, rising_all, leaf_among_is, EachChild, IsInterval, intervals_are, interval_at, ends_before, with_most_has, same_tree_tells}
 use Rattle.nk_extract.proofs.Paths.{goes, is_printed, met, block_met, block_at}
@@ -73,7 +73,7 @@ module _ (width tag : ℕ) (maxima : List ℕ) where
 
   pub record Law (pk : List ℕ) (d : Tree) : Type 0 where
     pub outcome : (e : Bool) → Outcome pk e d
-    pub apart : (e : Bool) → Apart (weight width tag) (met maxima pk e (paths_of maxima d))
+    pub apart : (e : Bool) → NoDupBy (weight width tag) (met maxima pk e (paths_of maxima d))
 
   -- the else-child, as an interval of the node
   pub other_is :
@@ -147,7 +147,7 @@ module _ (width tag : ℕ) (maxima : List ℕ) where
 
   -- the ways met at a node, where the packet's value is not of the else-child
   module _ (f : ℕ) (b : ℕ × ℕ) (drops : Bool) where
-    -- the highest way behind the packet's block is the highest of all
+    -- the highest way after the packet's block is the highest of all
     pub lifted :
         (xs ys : List Path) (q : Path) → AllByRecursion (λ p. weight width tag p < bit_of width tag f) ys
         → IsTop Path (weight width tag) xs q
@@ -158,13 +158,13 @@ module _ (width tag : ℕ) (maxima : List ℕ) where
         (every_weaker (λ p. weight width tag p < bit_of width tag f) (λ p. weight width tag p < weight width tag (with_match f drops b q)) ys (λ p s. omega (arith, s)) small)
 
     -- and no two have one priority
-    lifted_apart :
+    lifted_no_dup :
         (xs ys : List Path) → AllByRecursion (λ p. weight width tag p < bit_of width tag f) ys
-        → Apart (weight width tag) xs → Apart (weight width tag) ys
-        → Apart (weight width tag) (map (with_match f drops b) xs ++ ys)
-    lifted_apart xs ys small below above =
-        apart_append (weight width tag) (map (with_match f drops b) xs) ys
-        (apart_map (weight width tag) (weight width tag) (with_match f drops b) xs (λ x y n s. n (omega (arith, s))) below)
+        → NoDupBy (weight width tag) xs → NoDupBy (weight width tag) ys
+        → NoDupBy (weight width tag) (map (with_match f drops b) xs ++ ys)
+    lifted_no_dup xs ys small below above =
+        no_dup_append (weight width tag) (map (with_match f drops b) xs) ys
+        (no_dup_map (weight width tag) (weight width tag) (with_match f drops b) xs (λ x y n s. n (omega (arith, s))) below)
         above
         (every_map (λ x. AllByRecursion (λ y. weight width tag x ≢ weight width tag y) ys) (with_match f drops b) xs (every_true (λ x. AllByRecursion (λ y. weight width tag (with_match f drops b x) ≢ weight width tag y) ys) xs (λ x. every_weaker (λ p. weight width tag p < bit_of width tag f) (λ y. weight width tag (with_match f drops b x) ≢ weight width tag y) ys (λ y s. omega (arith, s)) small)))
 
@@ -202,9 +202,9 @@ module _ (width tag : ℕ) (maxima : List ℕ) where
         (lc.outcome (not (is_drop_leaf t) || e))
 
     -- no two ways met at the node have one priority
-    node_apart : (same : Bool) (e : Bool) → Apart (weight width tag) (parts pk f b c t same e)
-    node_apart true e = lt.apart e
-    node_apart false e = lifted_apart f b (is_drop_leaf t) (met maxima pk (not (is_drop_leaf t) || e) (paths_of maxima c)) (met maxima pk e (paths_of maxima t)) (small e) (lc.apart (not (is_drop_leaf t) || e)) (lt.apart e)
+    node_no_dup : (same : Bool) (e : Bool) → NoDupBy (weight width tag) (parts pk f b c t same e)
+    node_no_dup true e = lt.apart e
+    node_no_dup false e = lifted_no_dup f b (is_drop_leaf t) (met maxima pk (not (is_drop_leaf t) || e) (paths_of maxima c)) (met maxima pk e (paths_of maxima t)) (small e) (lc.apart (not (is_drop_leaf t) || e)) (lt.apart e)
 
   module _ (pk : List ℕ) (within : (f : ℕ) → f ≢ tag → slice_index pk f ≤ slice_index maxima f) where
     -- the law at a node
@@ -228,7 +228,7 @@ module _ (width tag : ℕ) (maxima : List ℕ) where
         record {
           outcome = λ e. subst (λ l. ((p : Path) × IsTop Path (weight width tag) (met maxima pk e (paths_of maxima (case f (branch end d bs)))) p × (p.buckets ≡ l)) ⊎ ((met maxima pk e (paths_of maxima (case f (branch end d bs))) ≡ []) × (l ≡ []) × (e ≡ false))) (sym leaf_is)
               (subst (λ ms. NodeOutcome pk c e ms) (sym (split e)) (node_outcome pk f x.block c other.child small part.holds it.holds (same_tree other.child same_buckets c) refl e));
-          apart = λ e. subst (Apart (weight width tag)) (sym (split e)) (node_apart pk f x.block c other.child small part.holds it.holds (same_tree other.child same_buckets c) e);
+          apart = λ e. subst (NoDupBy (weight width tag)) (sym (split e)) (node_no_dup pk f x.block c other.child small part.holds it.holds (same_tree other.child same_buckets c) e);
         }
 
     -- a leaf's one way
@@ -238,16 +238,16 @@ module _ (width tag : ℕ) (maxima : List ℕ) where
     leaf_outcome (b ∷ bs) e = inl (record { matches = []; buckets = b ∷ bs; shown = false }, record { before = []; after = []; is = refl; lower_before = tt; lower_after = tt }, refl)
 
     -- a leaf has one way at most
-    leaf_apart :
-        (bs : List Bucket) (e : Bool) → Apart (weight width tag) (met maxima pk e (paths_of maxima (leaf bs)))
-    leaf_apart [] true = (tt, tt)
-    leaf_apart [] false = tt
-    leaf_apart (b ∷ bs) e = (tt, tt)
+    leaf_no_dup :
+        (bs : List Bucket) (e : Bool) → NoDupBy (weight width tag) (met maxima pk e (paths_of maxima (leaf bs)))
+    leaf_no_dup [] true = (tt, tt)
+    leaf_no_dup [] false = tt
+    leaf_no_dup (b ∷ bs) e = (tt, tt)
 
     mutual
       pub law :
           (d : Tree) (low : ℕ) → IsReduced d maxima low → TestsOnly (IsMatchable width tag) d → Law pk d
-      law (leaf bs) low r m = record { outcome = leaf_outcome bs; apart = leaf_apart bs }
+      law (leaf bs) low r m = record { outcome = leaf_outcome bs; apart = leaf_no_dup bs }
       law (case f bs) low r m = node_law f bs m.0.1 r.1 r.2 m.1 (laws bs f r.2 m.1)
 
       -- and of each branch

@@ -2,8 +2,8 @@
 use Rattle.std.proofs.Common.{◌≡◌, ◌≢◌, ℕ, ◌<◌, Bool, true, false, cond, ◌⊎◌, inl, inr, ⊎_elim, List, [], ◌∷◌, ◌++◌, refl, sym, ap, subst, ◌∙◌, append_assoc, append-nil}
 use Rattle.std.specs.Prelude.{map, filter, ◌&&◌}
 use Rattle.std.specs.List.{flat_map, AllByRecursion}
-use Rattle.nk_field.proofs.Lists.{In, Apart as AreApart}
-use Rattle.nk_extract.specs.Chosen.{Apart, IsTop}
+use Rattle.nk_field.proofs.Lists.{In, NoDup as AreApart}
+use Rattle.nk_extract.specs.Chosen.{NoDupBy, IsTop}
 
 -- a weaker property
 pub every_weaker :
@@ -142,19 +142,19 @@ map_append_is g [] ys = refl
 map_append_is g (x ∷ xs) ys = ap (λ l. g x ∷ l) (map_append_is g xs ys)
 
 -- values differ in two lists joined
-pub apart_append :
-    {A : Type 0} (value : A → ℕ) (xs ys : List A) → Apart value xs → Apart value ys
-    → AllByRecursion (λ x. AllByRecursion (λ y. value x ≢ value y) ys) xs → Apart value (xs ++ ys)
-apart_append value [] ys a b c = b
-apart_append value (x ∷ xs) ys a b c = (every_append (λ y. value x ≢ value y) xs ys a.0 c.0, apart_append value xs ys a.1 b c.1)
+pub no_dup_append :
+    {A : Type 0} (value : A → ℕ) (xs ys : List A) → NoDupBy value xs → NoDupBy value ys
+    → AllByRecursion (λ x. AllByRecursion (λ y. value x ≢ value y) ys) xs → NoDupBy value (xs ++ ys)
+no_dup_append value [] ys a b c = b
+no_dup_append value (x ∷ xs) ys a b c = (every_append (λ y. value x ≢ value y) xs ys a.0 c.0, no_dup_append value xs ys a.1 b c.1)
 
 -- values differ in images
-pub apart_map :
+pub no_dup_map :
     {A B : Type 0} (low : A → ℕ) (high : B → ℕ) (g : A → B) (xs : List A)
-    → ((x y : A) → low x ≢ low y → high (g x) ≢ high (g y)) → Apart low xs → Apart high (map g xs)
-apart_map low high g [] f a = tt
-apart_map low high g (x ∷ xs) f a =
-    (every_map (λ y. high (g x) ≢ high y) g xs (every_weaker (λ y. low x ≢ low y) (λ y. high (g x) ≢ high (g y)) xs (λ y n. f x y n) a.0), apart_map low high g xs f a.1)
+    → ((x y : A) → low x ≢ low y → high (g x) ≢ high (g y)) → NoDupBy low xs → NoDupBy high (map g xs)
+no_dup_map low high g [] f a = tt
+no_dup_map low high g (x ∷ xs) f a =
+    (every_map (λ y. high (g x) ≢ high y) g xs (every_weaker (λ y. low x ≢ low y) (λ y. high (g x) ≢ high (g y)) xs (λ y n. f x y n) a.0), no_dup_map low high g xs f a.1)
 
 -- the highest of images
 pub top_map :
@@ -169,7 +169,7 @@ top_map low high g xs x f t = record {
   lower_after = every_map (λ y. high y < high (g x)) g t.after (every_weaker (λ y. low y < low x) (λ y. high (g y) < high (g x)) t.after f t.lower_after);
 }
 
--- the highest stays so with lower ones behind
+-- the highest stays so with lower ones after
 pub top_append :
     {A : Type 0} (value : A → ℕ) (xs ys : List A) (x : A) → IsTop A value xs x
     → AllByRecursion (λ y. value y < value x) ys → IsTop A value (xs ++ ys) x

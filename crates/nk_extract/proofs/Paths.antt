@@ -15,7 +15,7 @@ use Rattle.nk_extract.specs.RuleTree.{Path, PathInterval, is_drop_list, is_drop_
 use Rattle.nk_extract.specs.Chosen.{agrees_with}
 use Rattle.nk_extract.proofs.Lists.{filter_same, filter_none, filter_map_is, filter_append_is}
 use Rattle.nk_extract.proofs.Bits.{one_if}
-use Rattle.nk_extract.proofs.Trees.{Tree, Rising, rising_end, begins_behind, ends_before}
+use Rattle.nk_extract.proofs.Trees.{Tree, Rising, rising_end, begins_after, ends_before}
 
 -- the packet goes this way
 abbrev pub goes : (maxima pk : List ℕ) → Path → Bool
@@ -150,7 +150,7 @@ module _ (maxima pk : List ℕ) (e : Bool) (f : ℕ) (other : PathInterval) (wit
           in_none maxima pk e f (is_drop_leaf other.child) i.made (blocks_of i.first i.last max)
           (counted_once i.first i.last max (slice_index pk f) o within ∙ outside i.first i.last (slice_index pk f) h)
 
-  -- in the interval with it the ways of its child are met, behind the block with it
+  -- in the interval with it the ways of its child are met, after the block with it
   interval_in :
       (i : PathInterval) (b : ℕ × ℕ) → i.last ≤ max → In (blocks_of i.first i.last max) b
       → is_in_block max (slice_index pk f) b ≡ true → i.made ≡ paths_of maxima i.child
@@ -175,7 +175,7 @@ module _ (maxima pk : List ℕ) (e : Bool) (f : ℕ) (other : PathInterval) (wit
   met_next i is =
       filter_append_is (λ p. goes maxima pk p && (is_printed p || e)) (block_paths max f other i) (flat_map (block_paths max f other) is)
 
-  -- nothing is met in intervals behind the value
+  -- nothing is met in intervals after the value
   blocks_before :
       (bs : Branches (List Bucket)) (from : ℕ) → slice_index pk f < from → Rising max from bs
       → met maxima pk e (flat_map (block_paths max f other) (path_intervals maxima bs from)) ≡ []
@@ -206,9 +206,9 @@ module _ (maxima pk : List ℕ) (e : Bool) (f : ℕ) (other : PathInterval) (wit
       ∙ interval_in j b low among' h refl
       ∙ ap (λ z. block_met maxima pk e f other.child b z.child) (sym s))
       (λ l.
-      let behind = begins_behind maxima bs max (end + 1) i r.1 l in
+      let following = begins_after maxima bs max (end + 1) i r.1 l in
       let high : i.last ≤ max = ends_before maxima bs max (end + 1) i r.1 l in
       let lies = in_interval i.first i.last max (slice_index pk f) b high within (contains_from_in (blocks_of i.first i.last max) b among) h in
-      ap (λ l. l ++ met maxima pk e (flat_map (block_paths max f other) (path_intervals maxima bs (end + 1)))) (interval_out j low (inr (omega (arith, behind, lies.0))))
+      ap (λ l. l ++ met maxima pk e (flat_map (block_paths max f other) (path_intervals maxima bs (end + 1)))) (interval_out j low (inr (omega (arith, following, lies.0))))
       ∙ block_at bs (end + 1) r.1 i l b among h)
       m

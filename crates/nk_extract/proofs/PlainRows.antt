@@ -10,8 +10,8 @@ use Rattle.nk_table.specs.declared.Plain.{Plain}
 use Rattle.nk_table.specs.Rules.{agrees_at}
 use Rattle.nk_table.proofs.SameBuckets.{eq_self}
 use Rattle.nk_extract.specs.RuleTree.{Path, is_drop_list, paths_of, put_match, exactly, plain_row, rows_for}
-use Rattle.nk_extract.specs.Chosen.{Apart, IsTop, agrees_with, rank, matching, RowsGiveLeaves, RowsDiffer, RowsAreChosen}
-use Rattle.nk_extract.proofs.Lists.{filter_same, filter_map_is, filter_twice, top_map, apart_map, in_filter}
+use Rattle.nk_extract.specs.Chosen.{NoDupBy, IsTop, agrees_with, rank, matching, RowsGiveLeaves, RowsDiffer, RowsAreChosen}
+use Rattle.nk_extract.proofs.Lists.{filter_same, filter_map_is, filter_twice, top_map, no_dup_map, in_filter}
 use Rattle.nk_extract.proofs.Trees.{Tree, tests_only}
 use Rattle.nk_extract.proofs.Paths.{goes, is_printed, met}
 use Rattle.nk_extract.proofs.Highest.{weight, law}
@@ -91,8 +91,8 @@ rows_give_leaves maxima tag t d ok pk at =
 pub rows_differ : RowsDiffer
 rows_differ maxima tag t d ok pk at =
     let width = length maxima in
-    subst (Apart rank) (sym (matching_is maxima tag t d pk at.tagged))
-    (apart_map (weight width tag) rank (plain_row maxima tag t) (met maxima pk false (paths_of maxima d)) (λ x y n. n)
+    subst (NoDupBy rank) (sym (matching_is maxima tag t d pk at.tagged))
+    (no_dup_map (weight width tag) rank (plain_row maxima tag t) (met maxima pk false (paths_of maxima d)) (λ x y n. n)
     ((law width tag maxima pk at.within d 1 ok.reduced (tests_only maxima tag 1 d ok.reduced ok.tag_free)).apart false))
 
 -- each row is chosen somewhere

@@ -5,7 +5,7 @@ use Rattle.std.proofs.lemmas.List.{length-set}
 use Rattle.nk_store.specs.declared.node.Node.{Node}
 use Rattle.nk_store.specs.declared.node.Node.TheVariants.{Leaf, Case}
 use Rattle.nk_store.specs.Leaves.{Every, Suits}
-use Rattle.nk_store.specs.Nodes.{child_at, node_at, look_in, node_top, top_in, Rises, Each, IsLater, Differ, Sound, InRange}
+use Rattle.nk_store.specs.Nodes.{child_at, node_at, look_in, field_of_node, root_field_in, Rises, Each, TestsLater, Differ, Sound, InRange}
 use Rattle.nk_store.specs.Diagram.{leaf_at, IsReduced, AreReduced, EndsRight, IsOther, IsFreeOf, AreFreeOf}
 use Rattle.nk_store.proofs.Children.{each_value}
 use Rattle.nk_store.proofs.Looks.{look_tidy, fits_at, joined_some, each_child}
@@ -130,7 +130,7 @@ module _ (maxes : List ℕ) (ns : List Node) (sound : Sound maxes ns) where
 
   -- a good number's tree is reduced over later fields, and doesn't test the tag
   shape_below :
-      (tag m i low : ℕ) → slice_index maxes 1 ≡ 65535 → i < m → IsGood tag i → low ≤ top_in ns i
+      (tag m i low : ℕ) → slice_index maxes 1 ≡ 65535 → i < m → IsGood tag i → low ≤ root_field_in ns i
       → IsReduced (tree_in (bucket_list tag) ns i) maxes low × IsFreeOf tag (tree_in (bucket_list tag) ns i)
   shape_below tag zero i low ports l g t = absurd (omega (arith, l))
   shape_below tag (suc m) i low ports l g t =
@@ -138,17 +138,17 @@ module _ (maxes : List ℕ) (ns : List Node) (sound : Sound maxes ns) where
     where
       by :
           (n : Node) → node_at ns i ≡ n
-          → ((c k : ℕ) → c < i → IsGood tag c → k ≤ top_in ns c → IsReduced (tree_in (bucket_list tag) ns c) maxes k × IsFreeOf tag (tree_in (bucket_list tag) ns c))
+          → ((c k : ℕ) → c < i → IsGood tag c → k ≤ root_field_in ns c → IsReduced (tree_in (bucket_list tag) ns c) maxes k × IsFreeOf tag (tree_in (bucket_list tag) ns c))
           → IsReduced (tree_in (bucket_list tag) ns i) maxes low × IsFreeOf tag (tree_in (bucket_list tag) ns i)
       by (Leaf outs) e ih = subst (λ z. IsReduced z maxes low × IsFreeOf tag z) (sym (tree_leaf (bucket_list tag) ns i outs g.id e)) (tt, tt)
       by (Case f ps) e ih =
           let fits = fits_at maxes ns i f ps sound g.id e in
           let good = good_children tag i f ps g e in
           let shapes : Each (λ c. IsReduced (tree_in (bucket_list tag) ns c) maxes (f + 1) × IsFreeOf tag (tree_in (bucket_list tag) ns c)) ps =
-          each_of (λ c. (c < i) × (IsGood tag c × IsLater ns f c)) (λ c. IsReduced (tree_in (bucket_list tag) ns c) maxes (f + 1) × IsFreeOf tag (tree_in (bucket_list tag) ns c)) ps
+          each_of (λ c. (c < i) × (IsGood tag c × TestsLater ns f c)) (λ c. IsReduced (tree_in (bucket_list tag) ns c) maxes (f + 1) × IsFreeOf tag (tree_in (bucket_list tag) ns c)) ps
           (λ c a. let later = a.1.1.1 in ih c (f + 1) a.0 a.1.0 (omega (arith, later)))
-          (both_each (λ c. c < i) (λ c. IsGood tag c × IsLater ns f c) ps fits.1 (both_each (IsGood tag) (IsLater ns f) ps good fits.0.2)) in
-          let low_f : low ≤ f = subst (λ n. low ≤ node_top n) e t in
+          (both_each (λ c. c < i) (λ c. IsGood tag c × TestsLater ns f c) ps fits.1 (both_each (IsGood tag) (TestsLater ns f) ps good fits.0.2)) in
+          let low_f : low ≤ f = subst (λ n. low ≤ field_of_node n) e t in
           let d = differ ps fits.0.3 in
           subst (λ z. IsReduced z maxes low × IsFreeOf tag z) (sym (tree_case (bucket_list tag) ns i f ps g.id e fits.1)) (
             (
@@ -164,6 +164,6 @@ module _ (maxes : List ℕ) (ns : List Node) (sound : Sound maxes ns) where
 
   -- a good number's tree is reduced, and does not test the tag
   pub shape :
-      (tag i low : ℕ) → slice_index maxes 1 ≡ 65535 → IsGood tag i → low ≤ top_in ns i
+      (tag i low : ℕ) → slice_index maxes 1 ≡ 65535 → IsGood tag i → low ≤ root_field_in ns i
       → IsReduced (tree_in (bucket_list tag) ns i) maxes low × IsFreeOf tag (tree_in (bucket_list tag) ns i)
   shape tag i low ports g t = shape_below tag (suc i) i low ports (omega arith) g t

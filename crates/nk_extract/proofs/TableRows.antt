@@ -10,8 +10,8 @@ use Rattle.nk_store.specs.declared.node.Node.{Node}
 use Rattle.nk_store.specs.declared.node.Node.TheVariants.{Leaf, Case}
 use Rattle.nk_store.specs.declared.node.Out.{Out}
 use Rattle.nk_store.specs.Leaves.{Every, Suits, IsActFrom}
-use Rattle.nk_store.specs.Nodes.{child_at, node_at, look_in, node_top, top_in, Sound, InRange}
-use Rattle.nk_store.specs.Held.{Held, IsId, node_of, look}
+use Rattle.nk_store.specs.Nodes.{child_at, node_at, look_in, field_of_node, root_field_in, Sound, InRange}
+use Rattle.nk_store.specs.StoreState.{StoreState, IsId, node_of, look}
 use Rattle.nk_store.specs.Diagram.{Branches, leaf, case, no_branch, branch, leaf_at, IsReduced, AreReduced, EndsRight}
 use Rattle.nk_store.proofs.Looks.{look_same, look_tidy, fits_at, child_later, joined_some}
 use Rattle.nk_store.proofs.Same.{set_in_range, look_child}
@@ -20,7 +20,7 @@ use Rattle.nk_table.specs.declared.Bucket.{Bucket}
 use Rattle.nk_table.specs.declared.Plain.{Plain}
 use Rattle.nk_extract.specs.RuleTree.{paths_of, bit_of, exactly}
 use Rattle.nk_store.specs.Trees.{tree_in}
-use Rattle.nk_extract.specs.Ways.{bucket_list, ways, ways_in, rows_behind, at_switch}
+use Rattle.nk_extract.specs.Ways.{bucket_list, ways, ways_in, rows_following, at_switch}
 use Rattle.nk_extract.specs.Buckets.{AreBuckets}
 use Rattle.nk_extract.specs.RowsOf.{IsFrame, IsPrintable, AreRowsOf}
 use Rattle.nk_extract.proofs.Acts.{value, ascends, applied_value, IsChange, Avoids, IsActAt}
@@ -46,13 +46,13 @@ mutual
   same_all m n f no_branch e r = tt
   same_all m n f (branch end d bs) e r = (subst (λ z. EndsRight z end bs) (e f) r.0, same_reduced m n (f + 1) d e r.1, r.2, same_all m n f bs e r.3)
 
--- the declared fields' largest values, where there is 0 behind them
+-- the declared fields' largest values, where there is 0 after them
 taken :
     (maxes : List ℕ) (width : ℕ) → ((f : ℕ) → width ≤ f → slice_index maxes f ≡ 0) → (f : ℕ)
     → slice_index maxes f ≡ slice_index (take width maxes) f
-taken maxes width behind f =
+taken maxes width following f =
     elim (leb_tells width f) [
-      | inl past ↦ behind f past.1 ∙ sym (get_or_past (take width maxes) f 0 (let short = length-take width maxes in let h = past.1 in omega (arith, short, h)))
+      | inl past ↦ following f past.1 ∙ sym (get_or_past (take width maxes) f 0 (let short = length-take width maxes in let h = past.1 in omega (arith, short, h)))
       | inr within ↦ sym (get_or-take width maxes f 0 within.1)
     ]
 
@@ -87,7 +87,7 @@ changes_all P maxes tag low high [] a f = tt
 changes_all P maxes tag low high (s ∷ ss) a f =
     let h = f s (inl refl) a.2 in (a.0, h.0, h.1.0, h.1.1.0, h.1.1.1, changes_all P maxes tag (s.0 + 1) high ss a.3 (λ t i. f t (inr i)))
 
-module _ (st : Held) (width tag sw d : ℕ) (places : length st.maxes ≡ 18) (sound : Sound st.maxes st.nodes) (id : d < length st.nodes) (frame : IsFrame st width tag) (ok : IsPrintable st tag sw d) (small : sw ≤ 65535) where
+module _ (st : StoreState) (width tag sw d : ℕ) (places : length st.maxes ≡ 18) (sound : Sound st.maxes st.nodes) (id : d < length st.nodes) (frame : IsFrame st width tag) (ok : IsPrintable st tag sw d) (small : sw ≤ 65535) where
   -- what the diagram sends
   abbrev sends : List ℕ → List ℕ → ℕ → Type 0
   sends pk y t = (g : List (ℕ × ℕ)) × Contains (look_in st.nodes d pk) (record { act = g; target = t }) × (y ≡ applied g pk)
@@ -143,7 +143,7 @@ module _ (st : Held) (width tag sw d : ℕ) (places : length st.maxes ≡ 18) (s
             let differ = exact pk o s r at i j in
             let within : s.0 < width = elim (leb_tells width s.0) [
               | inl past ↦
-                  let none = frame.behind s.0 past.1 in
+                  let none = frame.following s.0 past.1 in
                   let here = r.1 s.0 in
                   absurd (differ (omega (arith, none, here, le)))
               | inr under ↦ under.1
@@ -154,13 +154,13 @@ module _ (st : Held) (width tag sw d : ℕ) (places : length st.maxes ≡ 18) (s
   -- the part of the diagram for the switch
   record IsRoot (r : ℕ) : Type 0 where
     below : r < length st.nodes
-    later : 1 ≤ top_in st.nodes r
+    later : 1 ≤ root_field_in st.nodes r
     leaves : (pk : List ℕ) → length pk ≡ 18 → look_in st.nodes r pk ≡ look_in st.nodes d (slice_set pk 0 sw)
 
   -- it is found by the first node
   root_is : (n : Node) → node_at st.nodes d ≡ n → IsRoot (at_switch sw d n)
   root_is (Leaf outs) e =
-      let top : top_in st.nodes d ≡ 18 = ap node_top e in
+      let top : root_field_in st.nodes d ≡ 18 = ap field_of_node e in
       record {
         below = id;
         later = omega (arith, top);
@@ -179,8 +179,8 @@ module _ (st : Held) (width tag sw d : ℕ) (places : length st.maxes ≡ 18) (s
               leaves = λ pk l. sym (look_child st.maxes st.nodes d 0 sw ps pk sound id e' l);
             }
         | inr other ↦
-            let top : top_in st.nodes d ≡ f = ap node_top e in
-            let past : 1 ≤ top_in st.nodes d = let n = other.1 in omega (arith, top, n) in
+            let top : root_field_in st.nodes d ≡ f = ap field_of_node e in
+            let past : 1 ≤ root_field_in st.nodes d = let n = other.1 in omega (arith, top, n) in
             subst (λ b. IsRoot (cond b (child_at 0 ps sw) d)) (sym other.0) record {
               below = id;
               later = past;
@@ -224,14 +224,14 @@ module _ (st : Held) (width tag sw d : ℕ) (places : length st.maxes ≡ 18) (s
   -- the rows of the part are those of its tree
   rows_are :
       (to len r : ℕ) (rows : List Plain) → IsRoot r → len ≡ digits_of (slice_index st.maxes tag)
-      → rows ≡ rows_behind width (tag, to, len) [] false (ways_in st.maxes tag st.nodes r)
+      → rows ≡ rows_following width (tag, to, len) [] false (ways_in st.maxes tag st.nodes r)
       → AreRowsOf st width tag sw to d rows
   unfolding look
   rows_are to len r rows root all e =
       let g = good r root in
       let few = frame.few in
       let maxima = take width st.maxes in
-      let same = taken st.maxes width frame.behind in
+      let same = taken st.maxes width frame.following in
       let tree = tree_in (bucket_list tag) st.nodes r in
       let count : length maxima ≡ width = let l = length-take width st.maxes in omega (arith, l, places, few) in
       let shaped = shape st.maxes st.nodes sound tag r 1 frame.ports g root.later in
@@ -248,9 +248,9 @@ module _ (st : Held) (width tag sw d : ℕ) (places : length st.maxes ≡ 18) (s
         tree = tree;
         rows_are =
             e
-            ∙ ap (rows_behind width (tag, to, len) [] false) ways_is
-            ∙ ap (λ m. rows_behind width m [] false (paths_of maxima tree)) exact
-            ∙ ap (λ w. rows_behind w (exactly maxima tag to) [] false (paths_of maxima tree)) (sym count)
+            ∙ ap (rows_following width (tag, to, len) [] false) ways_is
+            ∙ ap (λ m. rows_following width m [] false (paths_of maxima tree)) exact
+            ∙ ap (λ w. rows_following w (exactly maxima tag to) [] false (paths_of maxima tree)) (sym count)
             ∙ made;
         reduced = reduced;
         tag_free = shaped.1;
@@ -260,16 +260,16 @@ module _ (st : Held) (width tag sw d : ℕ) (places : length st.maxes ≡ 18) (s
   -- the rows made of the ways of the part for the switch
   pub are_rows :
       (to len : ℕ) (rows : List Plain) → len ≡ digits_of (slice_index st.maxes tag)
-      → rows ≡ rows_behind width (tag, to, len) [] false (ways_in st.maxes tag st.nodes (at_switch sw d (node_at st.nodes d)))
+      → rows ≡ rows_following width (tag, to, len) [] false (ways_in st.maxes tag st.nodes (at_switch sw d (node_at st.nodes d)))
       → AreRowsOf st width tag sw to d rows
   are_rows to len rows all e = rows_are to len (at_switch sw d (node_at st.nodes d)) rows (root_is (node_at st.nodes d) refl) all e
 
 -- the same in words of the store
 pub table_rows :
-    (st : Held) (width tag sw d to len : ℕ) (rows : List Plain) → length st.maxes ≡ 18
+    (st : StoreState) (width tag sw d to len : ℕ) (rows : List Plain) → length st.maxes ≡ 18
     → Sound st.maxes st.nodes → IsId st d → IsFrame st width tag → IsPrintable st tag sw d → sw ≤ 65535
     → len ≡ digits_of (slice_index st.maxes tag)
-    → rows ≡ rows_behind width (tag, to, len) [] false (ways tag st (at_switch sw d (node_of st d)))
+    → rows ≡ rows_following width (tag, to, len) [] false (ways tag st (at_switch sw d (node_of st d)))
     → AreRowsOf st width tag sw to d rows
 unfolding IsId node_of ways
 table_rows st width tag sw d to len rows places sound id frame ok small all e =

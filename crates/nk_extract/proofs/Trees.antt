@@ -187,15 +187,15 @@ intervals_are maxima P o (branch end d bs) most from e r = (
   every_weaker (IsInterval maxima P o bs most (end + 1)) (IsInterval maxima P o (branch end d bs) most from) (path_intervals maxima bs (end + 1)) (λ i k. earlier_end maxima P o d bs most from end i r.0 k) (intervals_are maxima P o bs most (end + 1) e.1 r.1),
 )
 
--- an interval begins where its branches do, or behind that
-pub begins_behind :
+-- an interval begins where its branches do, or after that
+pub begins_after :
     (maxima : List ℕ) (bs : Branches (List Bucket)) (most from : ℕ) (i : PathInterval) → Rising most from bs
     → In (path_intervals maxima bs from) i → from ≤ i.first
-begins_behind maxima no_branch most from i r m = absurd m
-begins_behind maxima (branch end d bs) most from i r m =
+begins_after maxima no_branch most from i r m = absurd m
+begins_after maxima (branch end d bs) most from i r m =
     ⊎_elim
     (λ s. let e : i.first ≡ from = ap (λ z. z.first) s in omega (arith, e))
-    (λ l. let h = begins_behind maxima bs most (end + 1) i r.1 l in omega (arith, h, r.0))
+    (λ l. let h = begins_after maxima bs most (end + 1) i r.1 l in omega (arith, h, r.0))
     m
 
 -- and ends at the largest value, or before it

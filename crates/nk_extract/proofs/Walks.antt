@@ -9,13 +9,13 @@ use Rattle.nk_store.specs.declared.node.Node.{Node}
 use Rattle.nk_store.specs.declared.node.Node.TheVariants.{Leaf, Case}
 use Rattle.nk_store.specs.declared.node.Out.{Out}
 use Rattle.nk_store.specs.Nodes.{node_at, Each}
-use Rattle.nk_store.specs.Held.{Held, IsId, node_of}
+use Rattle.nk_store.specs.StoreState.{StoreState, IsId, node_of}
 use Rattle.nk_prefix.specs.Blocks.{blocks_of}
 use Rattle.nk_store.proofs.Looks.{node_at-old, node_at-new}
 use Rattle.nk_table.specs.declared.Plain.{Plain}
 use Rattle.nk_extract.specs.RuleTree.{Path, is_drop_list, with_match, priority_of, put_match}
 use Rattle.nk_store.specs.ElseChild.{Span, spans, else_of}
-use Rattle.nk_extract.specs.Ways.{span_ways, node_ways, is_empty_leaf, ways_in, ways, row_behind, rows_behind, span_rows, bucket_list}
+use Rattle.nk_extract.specs.Ways.{span_ways, node_ways, is_empty_leaf, ways_in, ways, row_after, rows_following, span_rows, bucket_list}
 use Rattle.nk_extract.proofs.Lists.{filter_same, filter_map_is, filter_append_is, map_append_is}
 use Rattle.nk_extract.proofs.Paths.{flags}
 
@@ -83,7 +83,7 @@ ways_at_case maxes tag (n ∷ older) i f ps h e some below =
 
 -- the ways of a choice in the store
 pub ways_case :
-    (tag : ℕ) (st : Held) (i f : ℕ) (ps : List (ℕ × ℕ)) → IsId st i → node_of st i ≡ Case f ps
+    (tag : ℕ) (st : StoreState) (i f : ℕ) (ps : List (ℕ × ℕ)) → IsId st i → node_of st i ≡ Case f ps
     → 0 < length ps → Each (λ c. c < i) ps
     → ways tag st i ≡ node_ways st.maxes tag (Case f ps) (λ c. is_empty_leaf (node_of st c)) (ways tag st)
 unfolding IsId node_of ways
@@ -103,11 +103,11 @@ ways_at_leaf maxes tag (n ∷ older) i outs h e =
     ]
 
 -- the way of a leaf in the store
-pub ways_leaf : (tag : ℕ) (st : Held) (i : ℕ) (outs : List Out) → IsId st i → node_of st i ≡ Leaf outs → ways tag st i ≡ record { matches = []; buckets = bucket_list tag outs; shown = false } ∷ []
+pub ways_leaf : (tag : ℕ) (st : StoreState) (i : ℕ) (outs : List Out) → IsId st i → node_of st i ≡ Leaf outs → ways tag st i ≡ record { matches = []; buckets = bucket_list tag outs; shown = false } ∷ []
 unfolding IsId node_of ways
 ways_leaf tag st i outs h e = ways_at_leaf st.maxes tag st.nodes i outs h e
 
--- rows behind a way
+-- rows after a way
 map_twice :
     {A B C : Type 0} (g : B → C) (h : A → B) (xs : List A) → map g (map h xs) ≡ map (λ x. g (h x)) xs
 map_twice g h [] = refl
@@ -120,64 +120,64 @@ map_same g h (x ∷ xs) e = ap (λ y. y ∷ map g xs) (e x) ∙ ap (λ l. h x �
 
 module _ (width : ℕ) (tag : ℕ × ℕ × ℕ) (ms : List (ℕ × ℕ × ℕ)) (all : Bool) where
   -- the rows of ways joined
-  behind_append :
+  after_append :
       (ps qs : List Path)
-      → rows_behind width tag ms all (ps ++ qs) ≡ rows_behind width tag ms all ps ++ rows_behind width tag ms all qs
-  behind_append ps qs =
-      ap (map (row_behind width tag ms)) (filter_append_is (λ p. (not (is_drop_list p.buckets) || p.shown) || all) ps qs)
-      ∙ map_append_is (row_behind width tag ms) (filter (λ p. (not (is_drop_list p.buckets) || p.shown) || all) ps) (filter (λ p. (not (is_drop_list p.buckets) || p.shown) || all) qs)
+      → rows_following width tag ms all (ps ++ qs) ≡ rows_following width tag ms all ps ++ rows_following width tag ms all qs
+  after_append ps qs =
+      ap (map (row_after width tag ms)) (filter_append_is (λ p. (not (is_drop_list p.buckets) || p.shown) || all) ps qs)
+      ∙ map_append_is (row_after width tag ms) (filter (λ p. (not (is_drop_list p.buckets) || p.shown) || all) ps) (filter (λ p. (not (is_drop_list p.buckets) || p.shown) || all) qs)
 
   -- the rows of ways with one more match
-  behind_match :
+  after_match :
       (f : ℕ) (b : ℕ × ℕ) (drops : Bool) (ps : List Path)
-      → rows_behind width tag ms all (map (with_match f drops b) ps) ≡ rows_behind width tag (ms ++ (f, b.0, b.1) ∷ []) (not drops || all) ps
-  behind_match f b drops ps =
-      ap (map (row_behind width tag ms))
+      → rows_following width tag ms all (map (with_match f drops b) ps) ≡ rows_following width tag (ms ++ (f, b.0, b.1) ∷ []) (not drops || all) ps
+  after_match f b drops ps =
+      ap (map (row_after width tag ms))
       (filter_map_is (λ p. (not (is_drop_list p.buckets) || p.shown) || all) (with_match f drops b) ps
       ∙ ap (map (with_match f drops b)) (filter_same _ (λ p. (not (is_drop_list p.buckets) || p.shown) || (not drops || all)) ps (λ q. flags (not (is_drop_list q.buckets)) drops q.shown all)))
-      ∙ map_twice (row_behind width tag ms) (with_match f drops b) (filter (λ p. (not (is_drop_list p.buckets) || p.shown) || (not drops || all)) ps)
-      ∙ map_same _ (row_behind width tag (ms ++ (f, b.0, b.1) ∷ [])) (filter (λ p. (not (is_drop_list p.buckets) || p.shown) || (not drops || all)) ps)
+      ∙ map_twice (row_after width tag ms) (with_match f drops b) (filter (λ p. (not (is_drop_list p.buckets) || p.shown) || (not drops || all)) ps)
+      ∙ map_same _ (row_after width tag (ms ++ (f, b.0, b.1) ∷ [])) (filter (λ p. (not (is_drop_list p.buckets) || p.shown) || (not drops || all)) ps)
       (λ q. ap (λ (l : List (ℕ × ℕ × ℕ)). (record { priority = min 65535 (priority_of width tag.0 l); matches = put_match tag l; buckets = q.buckets })) (sym (append_assoc ms ((f, b.0, b.1) ∷ []) q.matches)))
 
   -- the rows of several blocks
-  behind_blocks :
+  after_blocks :
       (f : ℕ) (drops : Bool) (ps : List Path) (bs : List (ℕ × ℕ))
-      → rows_behind width tag ms all (flat_map (λ b. map (with_match f drops b) ps) bs) ≡ flat_map (λ b. rows_behind width tag (ms ++ (f, b.0, b.1) ∷ []) (not drops || all) ps) bs
-  behind_blocks f drops ps [] = refl
-  behind_blocks f drops ps (b ∷ bs) =
-      behind_append (map (with_match f drops b) ps) (flat_map (λ c. map (with_match f drops c) ps) bs)
-      ∙ ap (λ l. l ++ rows_behind width tag ms all (flat_map (λ c. map (with_match f drops c) ps) bs)) (behind_match f b drops ps)
-      ∙ ap (λ l. rows_behind width tag (ms ++ (f, b.0, b.1) ∷ []) (not drops || all) ps ++ l) (behind_blocks f drops ps bs)
+      → rows_following width tag ms all (flat_map (λ b. map (with_match f drops b) ps) bs) ≡ flat_map (λ b. rows_following width tag (ms ++ (f, b.0, b.1) ∷ []) (not drops || all) ps) bs
+  after_blocks f drops ps [] = refl
+  after_blocks f drops ps (b ∷ bs) =
+      after_append (map (with_match f drops b) ps) (flat_map (λ c. map (with_match f drops c) ps) bs)
+      ∙ ap (λ l. l ++ rows_following width tag ms all (flat_map (λ c. map (with_match f drops c) ps) bs)) (after_match f b drops ps)
+      ∙ ap (λ l. rows_following width tag (ms ++ (f, b.0, b.1) ∷ []) (not drops || all) ps ++ l) (after_blocks f drops ps bs)
 
   -- the rows of an interval
-  behind_span :
+  after_span :
       (max f : ℕ) (drops : Bool) (other : ℕ) (w : ℕ → List Path) (s : Span)
-      → rows_behind width tag ms all (span_ways max f drops other w s) ≡ span_rows width tag ms max f (not drops || all) other w s
-  behind_span max f drops other w s = by (s.child == other)
+      → rows_following width tag ms all (span_ways max f drops other w s) ≡ span_rows width tag ms max f (not drops || all) other w s
+  after_span max f drops other w s = by (s.child == other)
     where
       by :
           (t : Bool)
-          → rows_behind width tag ms all (cond t [] (flat_map (λ b. map (with_match f drops b) (w s.child)) (blocks_of s.first s.last max))) ≡ cond t [] (flat_map (λ b. rows_behind width tag (ms ++ (f, b.0, b.1) ∷ []) (not drops || all) (w s.child)) (blocks_of s.first s.last max))
+          → rows_following width tag ms all (cond t [] (flat_map (λ b. map (with_match f drops b) (w s.child)) (blocks_of s.first s.last max))) ≡ cond t [] (flat_map (λ b. rows_following width tag (ms ++ (f, b.0, b.1) ∷ []) (not drops || all) (w s.child)) (blocks_of s.first s.last max))
       by true = refl
-      by false = behind_blocks f drops (w s.child) (blocks_of s.first s.last max)
+      by false = after_blocks f drops (w s.child) (blocks_of s.first s.last max)
 
   -- the rows of intervals
-  behind_spans :
+  after_spans :
       (max f : ℕ) (drops : Bool) (other : ℕ) (w : ℕ → List Path) (ss : List Span)
-      → rows_behind width tag ms all (flat_map (span_ways max f drops other w) ss) ≡ flat_map (span_rows width tag ms max f (not drops || all) other w) ss
-  behind_spans max f drops other w [] = refl
-  behind_spans max f drops other w (s ∷ ss) =
-      behind_append (span_ways max f drops other w s) (flat_map (span_ways max f drops other w) ss)
-      ∙ ap (λ l. l ++ rows_behind width tag ms all (flat_map (span_ways max f drops other w) ss)) (behind_span max f drops other w s)
-      ∙ ap (λ l. span_rows width tag ms max f (not drops || all) other w s ++ l) (behind_spans max f drops other w ss)
+      → rows_following width tag ms all (flat_map (span_ways max f drops other w) ss) ≡ flat_map (span_rows width tag ms max f (not drops || all) other w) ss
+  after_spans max f drops other w [] = refl
+  after_spans max f drops other w (s ∷ ss) =
+      after_append (span_ways max f drops other w s) (flat_map (span_ways max f drops other w) ss)
+      ∙ ap (λ l. l ++ rows_following width tag ms all (flat_map (span_ways max f drops other w) ss)) (after_span max f drops other w s)
+      ∙ ap (λ l. span_rows width tag ms max f (not drops || all) other w s ++ l) (after_spans max f drops other w ss)
 
   -- the rows of a choice
-  pub behind_node :
+  pub after_node :
       (maxes : List ℕ) (f : ℕ) (ps : List (ℕ × ℕ)) (d : ℕ → Bool) (w : ℕ → List Path)
-      → rows_behind width tag ms all (node_ways maxes tag.0 (Case f ps) d w) ≡ flat_map (span_rows width tag ms (slice_index maxes f) f (not (d (else_of ps)) || all) (else_of ps) w) (spans ps 0) ++ rows_behind width tag ms all (w (else_of ps))
-  behind_node maxes f ps d w =
-      behind_append (flat_map (span_ways (slice_index maxes f) f (d (else_of ps)) (else_of ps) w) (spans ps 0)) (w (else_of ps))
-      ∙ ap (λ l. l ++ rows_behind width tag ms all (w (else_of ps))) (behind_spans (slice_index maxes f) f (d (else_of ps)) (else_of ps) w (spans ps 0))
+      → rows_following width tag ms all (node_ways maxes tag.0 (Case f ps) d w) ≡ flat_map (span_rows width tag ms (slice_index maxes f) f (not (d (else_of ps)) || all) (else_of ps) w) (spans ps 0) ++ rows_following width tag ms all (w (else_of ps))
+  after_node maxes f ps d w =
+      after_append (flat_map (span_ways (slice_index maxes f) f (d (else_of ps)) (else_of ps) w) (spans ps 0)) (w (else_of ps))
+      ∙ ap (λ l. l ++ rows_following width tag ms all (w (else_of ps))) (after_spans (slice_index maxes f) f (d (else_of ps)) (else_of ps) w (spans ps 0))
 
 -- what holds of an Ok answer
 pub on_ok : {T E : Type 0} (r : Result T E) (P Q : Type 0) → (P → Q) → OnOk r P → OnOk r Q
@@ -189,16 +189,16 @@ pub case_returns :
     (width : ℕ) (tag : ℕ × ℕ × ℕ) (ms : List (ℕ × ℕ × ℕ)) (all : Bool) (maxes : List ℕ) (max f : ℕ) (ps : List (ℕ × ℕ)) (d : ℕ → Bool) (w : ℕ → List Path) (before mid after : List Plain) (other : ℕ) (shown : Bool) (rest : List (ℕ × ℕ)) (from : ℕ)
     → max ≡ slice_index maxes f → other ≡ else_of ps → shown ≡ (not (d other) || all) → rest ≡ []
     → mid ++ flat_map (span_rows width tag ms max f shown other w) (spans rest from) ≡ before ++ flat_map (span_rows width tag ms max f shown other w) (spans ps 0)
-    → after ≡ mid ++ rows_behind width tag ms all (w other)
-    → after ≡ before ++ rows_behind width tag ms all (node_ways maxes tag.0 (Case f ps) d w)
+    → after ≡ mid ++ rows_following width tag ms all (w other)
+    → after ≡ before ++ rows_following width tag ms all (node_ways maxes tag.0 (Case f ps) d w)
 case_returns width tag ms all maxes max f ps d w before mid after other shown rest from top is s none made h =
     let mid_is : mid ≡ before ++ flat_map (span_rows width tag ms max f shown other w) (spans ps 0) =
     sym (append-nil mid) ∙ ap (λ l. mid ++ flat_map (span_rows width tag ms max f shown other w) (spans l from)) (sym none) ∙ made in
     let flag : shown ≡ (not (d (else_of ps)) || all) = s ∙ ap (λ o. not (d o) || all) is in
     h
-    ∙ ap (λ l. l ++ rows_behind width tag ms all (w other)) mid_is
-    ∙ append_assoc before (flat_map (span_rows width tag ms max f shown other w) (spans ps 0)) (rows_behind width tag ms all (w other))
-    ∙ ap (λ o. before ++ (flat_map (span_rows width tag ms max f shown o w) (spans ps 0) ++ rows_behind width tag ms all (w o))) is
-    ∙ ap (λ b. before ++ (flat_map (span_rows width tag ms max f b (else_of ps) w) (spans ps 0) ++ rows_behind width tag ms all (w (else_of ps)))) flag
-    ∙ ap (λ m. before ++ (flat_map (span_rows width tag ms m f (not (d (else_of ps)) || all) (else_of ps) w) (spans ps 0) ++ rows_behind width tag ms all (w (else_of ps)))) top
-    ∙ ap (λ l. before ++ l) (sym (behind_node width tag ms all maxes f ps d w))
+    ∙ ap (λ l. l ++ rows_following width tag ms all (w other)) mid_is
+    ∙ append_assoc before (flat_map (span_rows width tag ms max f shown other w) (spans ps 0)) (rows_following width tag ms all (w other))
+    ∙ ap (λ o. before ++ (flat_map (span_rows width tag ms max f shown o w) (spans ps 0) ++ rows_following width tag ms all (w o))) is
+    ∙ ap (λ b. before ++ (flat_map (span_rows width tag ms max f b (else_of ps) w) (spans ps 0) ++ rows_following width tag ms all (w (else_of ps)))) flag
+    ∙ ap (λ m. before ++ (flat_map (span_rows width tag ms m f (not (d (else_of ps)) || all) (else_of ps) w) (spans ps 0) ++ rows_following width tag ms all (w (else_of ps)))) top
+    ∙ ap (λ l. before ++ l) (sym (after_node width tag ms all maxes f ps d w))

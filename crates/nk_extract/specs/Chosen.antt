@@ -10,9 +10,9 @@ use Rattle.nk_table.specs.Rules.{agrees_at}
 use Rattle.nk_extract.specs.RuleTree.{rows_for}
 
 -- no two elements have one value
-abbrev pub Apart : {A : Type 0} → (A → ℕ) → List A → Type 0
-Apart value [] = Unit {0}
-Apart value (x ∷ xs) = AllByRecursion (λ y. value x ≢ value y) xs × Apart value xs
+abbrev pub NoDupBy : {A : Type 0} → (A → ℕ) → List A → Type 0
+NoDupBy value [] = Unit {0}
+NoDupBy value (x ∷ xs) = AllByRecursion (λ y. value x ≢ value y) xs × NoDupBy value xs
 
 -- x stands once, and the value of every other element is lower
 pub record IsTop (A : Type 0) (value : A → ℕ) (xs : List A) (x : A) : Type 0 where
@@ -59,7 +59,7 @@ RowsGiveLeaves =
 abbrev pub RowsDiffer : Type 0
 RowsDiffer =
     (maxima : List ℕ) (tag t : ℕ) (d : Diagram (List Bucket)) → IsRowTree maxima tag d
-    → (pk : List ℕ) → IsTagged maxima tag t pk → Apart rank (matching maxima (rows_for maxima tag t d) pk)
+    → (pk : List ℕ) → IsTagged maxima tag t pk → NoDupBy rank (matching maxima (rows_for maxima tag t d) pk)
 
 -- each row is the one chosen for some packet in range, at each switch: like base at the switch and the tag
 abbrev pub RowsAreChosen : Type 0

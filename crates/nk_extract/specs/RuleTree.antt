@@ -60,7 +60,7 @@ abbrev mutual
   path_intervals maxima (branch end d bs) from =
       record { first = from; last = end; child = d; made = paths_of maxima d } ∷ path_intervals maxima bs (end + 1)
 
--- the bit of a field: one for each matchable field behind it
+-- the bit of a field: one for each matchable field after it
 abbrev pub bit_of : ℕ → ℕ → ℕ → ℕ
 bit_of width tag f = 2 ^ count_by (λ g. nat_lt f g && not (g == tag)) (counted 0 width)
 

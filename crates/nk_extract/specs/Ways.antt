@@ -8,7 +8,7 @@ use Rattle.nk_store.specs.declared.node.Node.TheVariants.{Leaf, Case}
 use Rattle.nk_store.specs.declared.node.Out.{Out}
 use Rattle.nk_store.specs.Nodes.{node_at, child_at}
 pub use Rattle.nk_store.specs.Nodes.{is_empty_leaf}
-use Rattle.nk_store.specs.Held.{Held}
+use Rattle.nk_store.specs.StoreState.{StoreState}
 use Rattle.nk_store.specs.Diagram.{Diagram}
 use Rattle.nk_store.specs.Trees.{tree_in}
 use Rattle.nk_prefix.specs.Blocks.{blocks_of}
@@ -52,31 +52,31 @@ ways_in maxes tag (n ∷ older) i =
     (ways_in maxes tag older i)
 
 -- the ways of a diagram of the store
-unfoldable pub ways : ℕ → Held → ℕ → List Path
+unfoldable pub ways : ℕ → StoreState → ℕ → List Path
 ways tag st d = ways_in st.maxes tag st.nodes d
 
 -- a table of the bit of each field
 abbrev pub AreBits : ℕ → ℕ → List ℕ → Type 0
 AreBits width tag bits = (f : ℕ) → f < 18 → slice_index bits f ≡ bit_of width tag f
 
--- the row of a way behind the matches made before it, of which the tag is to be matched
-abbrev pub row_behind : ℕ → ℕ × ℕ × ℕ → List (ℕ × ℕ × ℕ) → Path → Plain
-row_behind width tag before p = record {
+-- the row of a way after the matches made before it, of which the tag is to be matched
+abbrev pub row_after : ℕ → ℕ × ℕ × ℕ → List (ℕ × ℕ × ℕ) → Path → Plain
+row_after width tag before p = record {
   priority = min 65535 (priority_of width tag.0 (before ++ p.matches));
   matches = put_match tag (before ++ p.matches);
   buckets = p.buckets;
 }
 
 -- the rows of ways, all of them where all holds
-abbrev pub rows_behind : ℕ → ℕ × ℕ × ℕ → List (ℕ × ℕ × ℕ) → Bool → List Path → List Plain
-rows_behind width tag before all ps =
-    map (row_behind width tag before) (filter (λ p. (not (is_drop_list p.buckets) || p.shown) || all) ps)
+abbrev pub rows_following : ℕ → ℕ × ℕ × ℕ → List (ℕ × ℕ × ℕ) → Bool → List Path → List Plain
+rows_following width tag before all ps =
+    map (row_after width tag before) (filter (λ p. (not (is_drop_list p.buckets) || p.shown) || all) ps)
 
--- the rows of an interval's blocks, behind a way
+-- the rows of an interval's blocks, after a way
 abbrev pub span_rows : ℕ → ℕ × ℕ × ℕ → List (ℕ × ℕ × ℕ) → (max f : ℕ) → Bool → ℕ → (ℕ → List Path) → Span → List Plain
 span_rows width tag before max f all other ways s =
     if s.child == other then []
-    else flat_map (λ b. rows_behind width tag (before ++ (f, b.0, b.1) ∷ []) all (ways s.child)) (blocks_of s.first s.last max)
+    else flat_map (λ b. rows_following width tag (before ++ (f, b.0, b.1) ∷ []) all (ways s.child)) (blocks_of s.first s.last max)
 
 -- the child of a node for a switch, or the diagram itself where it doesn't test the switch
 abbrev pub at_switch : ℕ → ℕ → Node → ℕ
@@ -84,11 +84,11 @@ at_switch sw d (Leaf outs) = d
 at_switch sw d (Case f parts) = if f == 0 then child_at 0 parts sw else d
 
 -- the tree of bucket lists of a diagram of the store
-unfoldable pub tree_of : ℕ → Held → ℕ → Diagram (List Bucket)
+unfoldable pub tree_of : ℕ → StoreState → ℕ → Diagram (List Bucket)
 tree_of tag st d = tree_in (bucket_list tag) st.nodes d
 
 -- the rows made of a tree's ways are its rows, where all bits fit
 abbrev pub RowsAreMade : Type 0
 RowsAreMade =
     (maxima : List ℕ) (tag t : ℕ) (d : Diagram (List Bucket)) → IsRowTree maxima tag d → bit_of (length maxima) tag 0 ≤ 65536
-    → rows_behind (length maxima) (exactly maxima tag t) [] false (paths_of maxima d) ≡ rows_for maxima tag t d
+    → rows_following (length maxima) (exactly maxima tag t) [] false (paths_of maxima d) ≡ rows_for maxima tag t d

@@ -1,7 +1,7 @@
 //! One row: its priority, its matches and its buckets.
 ghost use Rattle.std.specs.Prelude.{◌≡◌, ◌≤◌, ◌<◌, ◌*◌, ◌++◌, ℕ, [], ◌∷◌, length, min, take, drop, false, not, ◌==◌, if◌then◌else◌, IfOk, OnOk};
 ghost use Rattle.nk_extract.specs.RuleTree.{put_match, priority_of};
-ghost use Rattle.nk_extract.specs.Ways.{bucket_list, rows_behind, AreBits};
+ghost use Rattle.nk_extract.specs.Ways.{bucket_list, rows_following, AreBits};
 
 use crate::bucket::buckets;
 use nk_field::{Fid, List};
@@ -18,7 +18,7 @@ pub(crate) struct Frame {
     pub bits: [u32; 18],
 }
 
-/// The row of a leaf behind the matches of a way; none for a drop, but where `shown` holds.
+/// The row of a leaf after the matches of a way; none for a drop, but where `shown` holds.
 pub(crate) fn leaf_row(
     alloc: Global,
     frame: &Frame,
@@ -29,7 +29,7 @@ pub(crate) fn leaf_row(
 ) -> Result<(), AllocError>
     requires { AreBits frame.now.width frame.now.tag.0 frame.now.bits }
     ensures { OnOk result (rows.new.items ≡ rows.old.items
-        ++ rows_behind frame.now.width frame.now.tag matches.now shown
+        ++ rows_following frame.now.width frame.now.tag matches.now shown
         (record { matches = []; buckets = bucket_list frame.now.tag.0 outs.now; shown = false } ∷ [])) }
 {
     if outs.len() == 0 && !shown {
@@ -57,7 +57,7 @@ fn priority(frame: &Frame, matches: &[(Fid, u64, u8)]) -> u16
     all as u16
 }
 
-/// The bit of the field at each place: one for each matchable field behind it.
+/// The bit of the field at each place: one for each matchable field after it.
 pub(crate) fn bits_of(width: usize, tag: Fid) -> [u32; 18]
     requires { width ≤ 18 }
     ensures { AreBits width tag result }

@@ -1,7 +1,7 @@
 //! The rows of a diagram at a switch.
 ghost use Rattle.std.specs.Prelude.{◌≡◌, ℕ, Some, IfOk, slice_index};
 ghost use Rattle.nk_prefix.specs.Prefix as prefix;
-ghost use Rattle.nk_store.specs.Held.{IsId, node_of};
+ghost use Rattle.nk_store.specs.StoreState.{IsId, node_of};
 ghost use Rattle.nk_extract.specs.Ways.{at_switch, AreBits};
 ghost use Rattle.nk_extract.specs.RowsOf.{IsFrame, IsPrintable, AreRowsOf};
 

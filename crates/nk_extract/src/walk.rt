@@ -1,8 +1,8 @@
 //! The walk through a diagram, down each way, that makes the rows in order.
 ghost use Rattle.std.specs.Prelude.{◌≡◌, ◌≤◌, [], ◌∷◌, ◌++◌, not, ◌||◌, OnOk};
-ghost use Rattle.nk_store.specs.Held.{IsId, node_of, IsCase};
+ghost use Rattle.nk_store.specs.StoreState.{IsId, node_of, IsCase};
 ghost use Rattle.nk_store.specs.declared.node.Node.TheVariants.{Case};
-ghost use Rattle.nk_extract.specs.Ways.{node_ways, span_rows, ways, rows_behind, is_empty_leaf, AreBits};
+ghost use Rattle.nk_extract.specs.Ways.{node_ways, span_rows, ways, rows_following, is_empty_leaf, AreBits};
 
 use crate::row::{Frame, leaf_row};
 use nk_field::Fid;
@@ -19,7 +19,7 @@ struct Choice {
     /// The field's largest value.
     max: u64,
     other: Id,
-    /// Whether a drop is printed behind a block.
+    /// Whether a drop is printed after a block.
     shown: bool,
 }
 
@@ -31,7 +31,7 @@ struct Span {
     child: Id,
 }
 
-/// The rows of a diagram behind the matches of a way, to which more are put and from which they are taken again. Where
+/// The rows of a diagram after the matches of a way, to which more are put and from which they are taken again. Where
 /// `shown` holds, each drop is printed.
 #[cycle(walk)]
 pub(crate) fn walk(
@@ -45,7 +45,7 @@ pub(crate) fn walk(
     requires id { IsId st.now d }
     requires bits { AreBits frame.now.width frame.now.tag.0 frame.now.bits }
     ensures rows { OnOk result (rows.new.items ≡ rows.old.items
-        ++ rows_behind frame.now.width frame.now.tag matches.old.items shown
+        ++ rows_following frame.now.width frame.now.tag matches.old.items shown
         (ways frame.now.tag.0 st.now d)) }
     ensures matches { OnOk result (matches.new.items ≡ matches.old.items) }
 {
@@ -62,7 +62,7 @@ pub(crate) fn walk(
     }
 }
 
-/// The rows of a choice behind the matches of a way: those of the blocks ascending, and the else-child's last.
+/// The rows of a choice after the matches of a way: those of the blocks ascending, and the else-child's last.
 #[cycle(walk)]
 fn walk_case(
     st: &Store,
@@ -77,21 +77,21 @@ fn walk_case(
     requires case { IsCase st.now d f parts.now }
     requires bits { AreBits frame.now.width frame.now.tag.0 frame.now.bits }
     ensures rows { OnOk result (rows.new.items ≡ rows.old.items
-        ++ rows_behind frame.now.width frame.now.tag matches.old.items shown
+        ++ rows_following frame.now.width frame.now.tag matches.old.items shown
         (node_ways st.now.maxes frame.now.tag.0 (Case f parts.now) (λ c. is_empty_leaf (node_of st.now c))
         (ways frame.now.tag.0 st.now))) }
     ensures matches { OnOk result (matches.new.items ≡ matches.old.items) }
 {
     let max = st.max(f);
     let other = else_child(st.alloc(), max, parts)?;
-    let behind_block = printed(st.drops(other), shown);
+    let after_block = printed(st.drops(other), shown);
     let mut from: u128 = 0;
     for (end, c) in parts {
         let choice = Choice {
             field: f,
             max,
             other,
-            shown: behind_block,
+            shown: after_block,
         };
         let span = Span {
             first: from as u64,
@@ -104,7 +104,7 @@ fn walk_case(
     walk(st, frame, other, matches, shown, rows)
 }
 
-/// The rows of a span's child, for each of its blocks behind the matches of a way; none where it is the else-child.
+/// The rows of a span's child, for each of its blocks after the matches of a way; none where it is the else-child.
 #[cycle(walk)]
 fn walk_span(
     st: &Store,
@@ -139,7 +139,7 @@ fn walk_span(
     Ok(())
 }
 
-/// The rows of a child for one block of values behind the matches of a way.
+/// The rows of a child for one block of values after the matches of a way.
 #[cycle(walk)]
 fn walk_block(
     st: &Store,
@@ -153,7 +153,7 @@ fn walk_block(
     requires id { IsId st.now child }
     requires bits { AreBits frame.now.width frame.now.tag.0 frame.now.bits }
     ensures rows { OnOk result (rows.new.items ≡ rows.old.items
-        ++ rows_behind frame.now.width frame.now.tag (matches.old.items ++ (choice.field, block.0, block.1) ∷ [])
+        ++ rows_following frame.now.width frame.now.tag (matches.old.items ++ (choice.field, block.0, block.1) ∷ [])
         choice.shown (ways frame.now.tag.0 st.now child)) }
     ensures matches { OnOk result (matches.new.items ≡ matches.old.items) }
 {
@@ -164,7 +164,7 @@ fn walk_block(
     Ok(())
 }
 
-/// Whether a drop is printed behind a block, by the else-child's being the empty leaf.
+/// Whether a drop is printed after a block, by the else-child's being the empty leaf.
 fn printed(else_drops: bool, shown: bool) -> bool
     ensures { result ≡ (not else_drops || shown) }
 {

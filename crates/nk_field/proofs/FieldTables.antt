@@ -54,7 +54,7 @@ fails_each p xs none k d lt =
     let within : k < position_or_len p xs = omega (arith, not_found p xs none) in
     passes_not (p (get_or xs k d)) (prefix_len_passes (λ x. not (p x)) xs k d within)
 
--- the names with a new one behind them are still distinct
+-- the names with a new one after them are still distinct
 pub distinct_with : (names : List (List ℕ)) (name : List ℕ) → AllPairs (λ a b. a ≢ b) names →
     IsNone (position (bytes_eq name) names) → AllPairs (λ a b. a ≢ b) (names ++ name ∷ [])
 distinct_with names name apart none i j d less within =

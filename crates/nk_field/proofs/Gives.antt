@@ -9,7 +9,7 @@ use Rattle.std.proofs.lemmas.Grind.{same_number_lists}
 use Rattle.std.proofs.lemmas.List.{get_or-replicate}
 use Rattle.std.proofs.Math.ListN.{get_or-eq_default}
 use Rattle.nk_field.specs.Packet.{FieldTable, IsPacket, erased, IsUntagged}
-use Rattle.nk_field.specs.Texts.{is_tag, is_shown, shown, name_of, behind, number_upto, number_if_any, value_in, with_value, read_items}
+use Rattle.nk_field.specs.Texts.{is_tag, is_shown, shown, name_of, rest_after_prefix, number_upto, number_if_any, value_in, with_value, read_items}
 use Rattle.nk_field.specs.declared.packet.Packet.{Packet}
 use Rattle.nk_field.specs.declared.reading.PacketError.{PacketError}
 use Rattle.nk_field.proofs.ReadBack.{kept, cleared, without_length}
@@ -85,7 +85,7 @@ read_given t [] [] n qk r plain is e = subst (IsGiven t) (ap (in_ok qk) e) is
 read_given t [] (i ∷ rest) n qk r plain is e = absurd cc
 read_given t (f ∷ fs) [] n qk r plain is e = absurd cc
 read_given t (f ∷ fs) (i ∷ rest) n qk r plain is e =
-    by_value (value_in t f i) refl (λ v gives. read_given t fs rest (n + 1) (slice_set qk f v) r plain.1 (set_given t qk f v plain.0 (value_below (slice_index t.maxima f) v (behind (name_of t f ++ codes "=") i) gives) is)) e
+    by_value (value_in t f i) refl (λ v gives. read_given t fs rest (n + 1) (slice_set qk f v) r plain.1 (set_given t qk f v plain.0 (value_below (slice_index t.maxima f) v (rest_after_prefix (name_of t f ++ codes "=") i) gives) is)) e
   where
     by_value : (o : Option ℕ) → value_in t f i ≡ o
         → ((v : ℕ) → value_in t f i ≡ Some v → read_items t fs rest (n + 1) (slice_set qk f v) ≡ Ok r → IsGiven t r)

@@ -1,4 +1,4 @@
--- Items of a text: what stands behind a name, numbers, and one item for each field.
+-- Items of a text: what stands after a name, numbers, and one item for each field.
 use Rattle.std.proofs.Common.{◌≡◌, ◌≢◌, ◌<◌, ◌≤◌, ◌+◌, ◌-◌, ◌^◌, ℕ, suc, Bool, true, false, not, cond, Option, None, Some, Result, Ok, Err, List, [], ◌∷◌, ◌++◌, length, drop, get_or, refl, sym, ap, ◌∙◌, arith}
 use Rattle.std.specs.Prelude.{◌==◌, ◌&&◌, nat_le, MatchOption, filter, map, option_map, replicate, slice_set}
 use Rattle.std.specs.List.{range_with_len}
@@ -11,7 +11,7 @@ use Rattle.std.proofs.lemmas.List.{drop_all, length-map, get_or-map}
 use Rattle.std.proofs.lemmas.Bool.Decides.{nat_tests}
 use Rattle.std.proofs.lemmas.Str.Parse.{IsNumeralModel, numerals_by_value, tells_all_ascii_digits, parse_plain}
 use Rattle.nk_field.specs.Packet.{FieldTable}
-use Rattle.nk_field.specs.Texts.{is_tag, is_shown, shown, behind, number_upto, value_in, with_value, read_items}
+use Rattle.nk_field.specs.Texts.{is_tag, is_shown, shown, rest_after_prefix, number_upto, value_in, with_value, read_items}
 use Rattle.nk_field.specs.declared.packet.Packet.{Packet}
 use Rattle.nk_field.specs.declared.reading.PacketError.{PacketError}
 use Rattle.nk_field.specs.declared.reading.PacketError.TheVariants.{BadPacket}
@@ -20,34 +20,34 @@ use Rattle.nk_field.proofs.Printing.{range_first, range_done}
 same_true : (c : ℕ) → (c == c) ≡ true
 same_true c = grind (arith, nat_tests)
 
--- what stands behind a front
-pub behind_here : (xs ys : List ℕ) → behind xs (xs ++ ys) ≡ Some ys
-behind_here [] ys = refl
-behind_here (x ∷ xs) ys = ap (λ t. cond t (behind xs (xs ++ ys)) None) (same_true x) ∙ behind_here xs ys
+-- what stands after a front
+pub after_here : (xs ys : List ℕ) → rest_after_prefix xs (xs ++ ys) ≡ Some ys
+after_here [] ys = refl
+after_here (x ∷ xs) ys = ap (λ t. cond t (rest_after_prefix xs (xs ++ ys)) None) (same_true x) ∙ after_here xs ys
 
 -- a text that doesn't begin so
-pub behind_none : (xs s : List ℕ) → ((rest : List ℕ) → s ≢ xs ++ rest) → behind xs s ≡ None
-behind_none [] s h = absurd (h s refl)
-behind_none (x ∷ xs) [] h = refl
-behind_none (x ∷ xs) (b ∷ bs) h =
-    by_test (b == x) refl (λ same. behind_none xs bs (λ rest at. h rest (ap (λ c. c ∷ bs) same ∙ ap (λ l. x ∷ l) at)))
+pub after_none : (xs s : List ℕ) → ((rest : List ℕ) → s ≢ xs ++ rest) → rest_after_prefix xs s ≡ None
+after_none [] s h = absurd (h s refl)
+after_none (x ∷ xs) [] h = refl
+after_none (x ∷ xs) (b ∷ bs) h =
+    by_test (b == x) refl (λ same. after_none xs bs (λ rest at. h rest (ap (λ c. c ∷ bs) same ∙ ap (λ l. x ∷ l) at)))
   where
-    by_test : (t : Bool) → (b == x) ≡ t → (b ≡ x → behind xs bs ≡ None) → cond t (behind xs bs) None ≡ None
+    by_test : (t : Bool) → (b == x) ≡ t → (b ≡ x → rest_after_prefix xs bs ≡ None) → cond t (rest_after_prefix xs bs) None ≡ None
     by_test false e k = refl
     by_test true e k = k (grind (arith, nat_tests))
 
-abbrev pub and_behind : List ℕ → Option (List ℕ) → Option (List ℕ)
-and_behind ys None = None
-and_behind ys (Some s) = behind ys s
+abbrev pub and_after : List ℕ → Option (List ℕ) → Option (List ℕ)
+and_after ys None = None
+and_after ys (Some s) = rest_after_prefix ys s
 
--- behind one front and then another
-pub behind_both : (xs ys s : List ℕ) → behind (xs ++ ys) s ≡ and_behind ys (behind xs s)
-behind_both [] ys s = refl
-behind_both (x ∷ xs) ys [] = refl
-behind_both (x ∷ xs) ys (b ∷ bs) = by_test (b == x) (behind_both xs ys bs)
+-- after one front and then another
+pub after_both : (xs ys s : List ℕ) → rest_after_prefix (xs ++ ys) s ≡ and_after ys (rest_after_prefix xs s)
+after_both [] ys s = refl
+after_both (x ∷ xs) ys [] = refl
+after_both (x ∷ xs) ys (b ∷ bs) = by_test (b == x) (after_both xs ys bs)
   where
-    by_test : (t : Bool) → behind (xs ++ ys) bs ≡ and_behind ys (behind xs bs)
-        → cond t (behind (xs ++ ys) bs) None ≡ and_behind ys (cond t (behind xs bs) None)
+    by_test : (t : Bool) → rest_after_prefix (xs ++ ys) bs ≡ and_after ys (rest_after_prefix xs bs)
+        → cond t (rest_after_prefix (xs ++ ys) bs) None ≡ and_after ys (cond t (rest_after_prefix xs bs) None)
     by_test true e = e
     by_test false e = refl
 
@@ -59,15 +59,15 @@ stripped name item rest h = h.1.1 ∙ ap (λ l. name ++ l) (sym h.2)
 -- a name is there, and then an equals sign or not
 pub digits_some : (name item rest : List ℕ) (r : Option (Bor (List ℕ))) → item ≡ name ++ rest
     → MatchOption r ((more : List ℕ) → rest ≢ 61 ∷ more) (λ x. rest ≡ 61 ∷ x.now)
-    → option_map (λ d. d.now) r ≡ behind (name ++ 61 ∷ []) item
+    → option_map (λ d. d.now) r ≡ rest_after_prefix (name ++ 61 ∷ []) item
 digits_some name item rest None e h =
-    sym (ap (behind (name ++ 61 ∷ [])) e ∙ behind_both name (61 ∷ []) (name ++ rest) ∙ ap (and_behind (61 ∷ [])) (behind_here name rest) ∙ behind_none (61 ∷ []) rest h)
+    sym (ap (rest_after_prefix (name ++ 61 ∷ [])) e ∙ after_both name (61 ∷ []) (name ++ rest) ∙ ap (and_after (61 ∷ [])) (after_here name rest) ∙ after_none (61 ∷ []) rest h)
 digits_some name item rest (Some x) e h =
-    sym (ap (behind (name ++ 61 ∷ [])) e ∙ behind_both name (61 ∷ []) (name ++ rest) ∙ ap (and_behind (61 ∷ [])) (behind_here name rest) ∙ ap (behind (61 ∷ [])) h ∙ behind_here (61 ∷ []) x.now)
+    sym (ap (rest_after_prefix (name ++ 61 ∷ [])) e ∙ after_both name (61 ∷ []) (name ++ rest) ∙ ap (and_after (61 ∷ [])) (after_here name rest) ∙ ap (rest_after_prefix (61 ∷ [])) h ∙ after_here (61 ∷ []) x.now)
 
 -- the name isn't there
-pub digits_none : (name item : List ℕ) → ((rest : List ℕ) → item ≢ name ++ rest) → None ≡ behind (name ++ 61 ∷ []) item
-digits_none name item h = sym (behind_both name (61 ∷ []) item ∙ ap (and_behind (61 ∷ [])) (behind_none name item h))
+pub digits_none : (name item : List ℕ) → ((rest : List ℕ) → item ≢ name ++ rest) → None ≡ rest_after_prefix (name ++ 61 ∷ []) item
+digits_none name item h = sym (after_both name (61 ∷ []) item ∙ ap (and_after (61 ∷ [])) (after_none name item h))
 
 -- digits and their value
 pub own : IsNumeralModel (λ ds. all_ascii_digits ds ≡ true) (digits_value 10)

@@ -14,7 +14,7 @@ use Rattle.nk_field.specs.Packet.{FieldTable, IsPacket, without, erased}
 use Rattle.nk_field.specs.Texts.{is_this, is_tag, is_shown, shown, name_of, item_text, packet_bytes, number_if_any, value_in, with_value, read_items, ReadsPrinted}
 use Rattle.nk_field.specs.declared.packet.Packet.{Packet}
 use Rattle.nk_field.proofs.Printing.{shown_first}
-use Rattle.nk_field.proofs.Items.{behind_here, number_is, own}
+use Rattle.nk_field.proofs.Items.{after_here, number_is, own}
 
 -- a text without a comma
 abbrev pub NoComma : List ℕ → Type 0
@@ -58,7 +58,7 @@ item_value : (t : FieldTable) (pk : List ℕ) (f : ℕ) → slice_index pk f ≤
     → value_in t f (item_text t pk f) ≡ Some (slice_index pk f)
 item_value t pk f le small =
     let is = decimal_is_IsNumeral (slice_index pk f) small in
-    ap (number_if_any (slice_index t.maxima f)) (behind_here (name_of t f ++ codes "=") (decimal (slice_index pk f)))
+    ap (number_if_any (slice_index t.maxima f)) (after_here (name_of t f ++ codes "=") (decimal (slice_index pk f)))
     ∙ number_is (slice_index t.maxima f) (slice_index pk f) (decimal (slice_index pk f)) (own.from (decimal (slice_index pk f)) is.0.1) is.0.0 is.1 le
 
 -- a packet with the values of another at these fields

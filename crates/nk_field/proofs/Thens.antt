@@ -36,7 +36,7 @@ lay-more s t ss ts rest h =
     let k : eqb s.0 t.0 ≡ false = grind (arith, nat_tests) in
     rw (e, k) refl
 
--- the assignments laid under an ascending act ascend, where those behind the first one do
+-- the assignments laid under an ascending act ascend, where those after the first one do
 lay_ascends : (s : ℕ × ℕ) (ss : List (ℕ × ℕ)) (rest : List (ℕ × ℕ) → List (ℕ × ℕ)) →
     ((low : ℕ) (h : List (ℕ × ℕ)) → AscendsFrom low ss → AscendsFrom low h → AscendsFrom low (rest h)) →
     (low : ℕ) (h : List (ℕ × ℕ)) → AscendsFrom low (s ∷ ss) → AscendsFrom low h →
@@ -71,7 +71,7 @@ applied-set (s ∷ ss) low f n pk a l =
     ap (λ p. applied ss p) (set_comm pk f s.0 n s.1 ne)
     ∙ applied-set ss (s.0 + 1) f n (set pk s.0 s.1) a.1 (omega (arith, a.0))
 
--- the assignments laid under an act do what both do in turn, where those behind the first one do
+-- the assignments laid under an act do what both do in turn, where those after the first one do
 lay_applied : (s : ℕ × ℕ) (ss : List (ℕ × ℕ)) (rest : List (ℕ × ℕ) → List (ℕ × ℕ)) →
     ((low : ℕ) (h : List (ℕ × ℕ)) (pk : List ℕ) → AscendsFrom low ss → AscendsFrom low h →
     applied (rest h) pk ≡ applied h (applied ss pk)) →

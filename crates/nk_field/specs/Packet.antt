@@ -33,7 +33,7 @@ pub record IsFieldTable (fields : FieldTable) : Type 0 where
 abbrev pub field_named : FieldTable → List ℕ → Option ℕ
 field_named fields name = position (bytes_eq name) fields.names
 
--- the fields with one more behind them
+-- the fields with one more after them
 abbrev pub with_field : FieldTable → List ℕ → ℕ → FieldTable
 with_field fields name max = record fields {
   names = fields.names ++ name ∷ [];

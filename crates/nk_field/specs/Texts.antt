@@ -42,11 +42,11 @@ packet_bytes fields with_tag pk = join_by (item_text fields pk) (codes ",") (sho
 abbrev pub history_bytes : FieldTable → Bool → History → List ℕ
 history_bytes fields with_tag h = join_by (packet_bytes fields with_tag) (codes " ") (h.records ++ h.last ∷ [])
 
--- what stands behind the front in a text, if it begins so
-abbrev pub behind : List ℕ → List ℕ → Option (List ℕ)
-behind [] text = Some text
-behind (c ∷ cs) [] = None
-behind (c ∷ cs) (b ∷ bs) = if b == c then behind cs bs else None
+-- what stands after the front in a text, if it begins so
+abbrev pub rest_after_prefix : List ℕ → List ℕ → Option (List ℕ)
+rest_after_prefix [] text = Some text
+rest_after_prefix (c ∷ cs) [] = None
+rest_after_prefix (c ∷ cs) (b ∷ bs) = if b == c then rest_after_prefix cs bs else None
 
 -- the number that digits alone write, one at least, if it is at most this one
 abbrev pub number_upto : ℕ → List ℕ → Option ℕ
@@ -59,7 +59,7 @@ number_if_any max (Some ds) = number_upto max ds
 
 -- the value that an item gives a field: `name=digits` with a value in the field's range
 abbrev pub value_in : FieldTable → ℕ → List ℕ → Option ℕ
-value_in fields f item = number_if_any (slice_index fields.maxima f) (behind (name_of fields f ++ codes "=") item)
+value_in fields f item = number_if_any (slice_index fields.maxima f) (rest_after_prefix (name_of fields f ++ codes "=") item)
 
 -- what becomes of a value, or that the item of this number is at fault
 abbrev pub with_value : Option ℕ → ℕ → (ℕ → Result Packet PacketError) → Result Packet PacketError
@@ -80,8 +80,8 @@ abbrev pub packet_of : FieldTable → List ℕ → Result Packet PacketError
 packet_of fields text = read_items fields (shown fields false) (slice_split (λ b. b == 44) text) 0 (replicate 18 0)
 
 -- the answer is this one, or that memory ran out
-abbrev pub Returns : Result Packet PacketError → Result Packet PacketError → Type 0
-Returns result answer = result ≢ Err NoMemory → result ≡ answer
+abbrev pub TextReturns : Result Packet PacketError → Result Packet PacketError → Type 0
+TextReturns result answer = result ≢ Err NoMemory → result ≡ answer
 
 -- no name of a field but the tag has a comma
 abbrev pub HasNoComma : FieldTable → Type 0

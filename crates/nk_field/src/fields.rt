@@ -78,7 +78,7 @@ impl Fields {
         })
     }
 
-    /// Declares a field with values from 0 to `max`, behind the others, and gives its number. It is refused, and
+    /// Declares a field with values from 0 to `max`, after the others, and gives its number. It is refused, and
     /// nothing changes, where a field has the name already, or else sixteen are declared already.
     pub fn add(&mut self, name: &str, max: u64) -> Result<Fid, FieldsError>
         ensures place { IfOk result (λ f. f ≡ length self.old.maxima) }
@@ -102,7 +102,7 @@ impl Fields {
         }
     }
 
-    /// Puts a new field behind the others.
+    /// Puts a new field after the others.
     fn append(&mut self, name: &str, max: u64) -> Result<(), AllocError>
         requires new { IsNone (field_named self.old name.now) }
         requires room { length self.old.maxima < 18 }

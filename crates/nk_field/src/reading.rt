@@ -2,7 +2,7 @@
 ghost use Rattle.std.specs.Prelude.{◌≡◌, ◌==◌, ◌+◌, ◌<◌, ◌≤◌, ◌++◌, ℕ, MatchResult, List, ◌∷◌, false, filter, map, option_map, drop, length, replicate, slice_set, codes, IfOk};
 ghost use Rattle.std.specs.List.{slice_split};
 ghost use Rattle.nk_field.specs.Packet.{IsPacket, IsUntagged};
-ghost use Rattle.nk_field.specs.Texts.{Returns, packet_of, read_items, shown, is_shown};
+ghost use Rattle.nk_field.specs.Texts.{TextReturns, packet_of, read_items, shown, is_shown};
 ghost use Rattle.nk_field.specs.Texts as texts;
 
 use crate::fields::Fields;
@@ -28,7 +28,7 @@ pub enum PacketError {
 /// The packet that a text such as `sw=1,pt=2,dst=3` gives: items between commas, one `name=digits` for each field
 /// but the tag, in the order of the fields, each value in its field's range. The tag is 0.
 pub fn read_packet(alloc: Global, fields: &Fields, text: &str) -> Result<Packet, PacketError>
-    ensures answer { Returns result (packet_of fields.now text.now) }
+    ensures answer { TextReturns result (packet_of fields.now text.now) }
     ensures packet { IfOk result (λ p. IsPacket fields.now p × IsUntagged fields.now p) }
 {
     match items_of(alloc, text) {
@@ -126,9 +126,9 @@ fn value_in(fields: &Fields, f: Fid, item: &str) -> Option<u64>
     }
 }
 
-/// What stands behind a name and `=`, if the item begins so.
+/// What stands after a name and `=`, if the item begins so.
 fn digits_in<'a>(name: &str, item: &'a str) -> Option<&'a str>
-    ensures { option_map (λ d. d.now) result ≡ texts.behind (name.now ++ codes "=") item.now }
+    ensures { option_map (λ d. d.now) result ≡ texts.rest_after_prefix (name.now ++ codes "=") item.now }
 {
     match item.strip_prefix(name) {
         Some(rest) => rest.strip_prefix('='),

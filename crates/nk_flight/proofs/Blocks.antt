@@ -1,4 +1,4 @@
--- Places in blocks: what becomes of all of them, one block behind the other, where one block changes.
+-- Places in blocks: what becomes of all of them, one block after the other, where one block changes.
 use Rattle.std.proofs.Common.{◌≡◌, ℕ, zero, suc, ◌+◌, ◌-◌, ◌<◌, ◌≤◌, ◌⊎◌, ⊎_elim, List, [], ◌∷◌, ◌++◌, length, take, refl, sym, ap, ◌∙◌, arith, append_assoc, length-append}
 use Rattle.std.specs.Prelude.{remove, slice_index, slice_index_or, slice_set}
 use Rattle.std.specs.List.{concat}
@@ -54,10 +54,10 @@ taken_out (y ∷ bs) zero j x new lt inside is gone =
 taken_out (y ∷ bs) (suc b) j x new lt inside is gone =
     let less : b < length bs = omega (arith, lt) in
     let sum = length-append y (concat (take b bs)) in
-    let behind : length y ≤ length (y ++ concat (take b bs)) + j = omega (arith, sum) in
+    let following : length y ≤ length (y ++ concat (take b bs)) + j = omega (arith, sum) in
     let left : (length (y ++ concat (take b bs)) + j) - length y ≡ length (concat (take b bs)) + j = omega (arith, sum) in
     ap (λ l. y ++ l) (taken_out bs b j x new less inside is gone ∙ ap (remove (concat bs)) (sym left))
-    ∙ sym (remove-append_right y (concat bs) (length y) (length (y ++ concat (take b bs)) + j) refl behind)
+    ∙ sym (remove-append_right y (concat bs) (length y) (length (y ++ concat (take b bs)) + j) refl following)
 
 -- a block without places is taken out
 pub emptied : (bs : List (List ℕ)) (b : ℕ) (x : List ℕ) → b < length bs → x ≡ slice_index_or bs b x → length x ≡ 0
@@ -72,7 +72,7 @@ emptied (y ∷ bs) (suc b) x lt is none =
     let less : b < length bs = omega (arith, lt) in
     ap (λ l. y ++ l) (emptied bs b x less is none)
 
--- a place behind a block is one of a later block
+-- a place after a block is one of a later block
 pub goes_on : (bs : List (List ℕ)) (i b w : ℕ) (x : List ℕ) → i < length (concat bs) → b < length bs → length (concat (take b bs)) + w ≡ i
     → x ≡ slice_index_or bs b x → length x ≤ w
     → (b + 1 < length bs) × (length (concat (take (b + 1) bs)) + (w - length x) ≡ i)

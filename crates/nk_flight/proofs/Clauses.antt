@@ -4,7 +4,7 @@ use Rattle.std.specs.Prelude.{◌==◌, filter, slice_get}
 use Rattle.std.specs.List.{flat_map}
 use Rattle.std.specs.List.Sorted.{IsPermutation}
 use Rattle.std.proofs.lemmas.List.Sorted.{IsPermutation-map}
-use Rattle.nk_field.proofs.Lists.{In, in_mapped, from_mapped, map_joined, map_over_joined, Apart}
+use Rattle.nk_field.proofs.Lists.{In, in_mapped, from_mapped, map_joined, map_over_joined, NoDup}
 use Rattle.nk_table.specs.declared.Tables.{Tables}
 use Rattle.nk_table.specs.Hops.{Copy, left_after}
 use Rattle.nk_flight.specs.Flights.{FlightState, Event, nothing_in_flight, after_events}
@@ -12,7 +12,7 @@ use Rattle.nk_flight.specs.Owed.{flying_from, left_from, crossings, with_crossin
 use Rattle.nk_flight.specs.Once.{IsWithoutDoubles, all_erased, IsEachOnce, LeaveOnce}
 use Rattle.nk_flight.proofs.Owing.{eq_true}
 use Rattle.nk_flight.proofs.Schedules.{every_order, events_tables}
-use Rattle.nk_flight.proofs.Once.{each_once, apart_from_doubles, doubles_from_apart}
+use Rattle.nk_flight.proofs.Once.{each_once, no_dup_from_doubles, doubles_from_no_dup}
 
 -- the same with tags set to 0
 pub every_order_erased : (t : Tables) (es : List Event) (i k : ℕ) (pk : List ℕ) → slice_get (after_events es (nothing_in_flight t)).packets i ≡ Some pk
@@ -55,23 +55,23 @@ in_kept p (d ∷ ds) c i e =
 
 module _ (t : Tables) where
   -- one history more or not
-  put_apart : (b : Bool) (c : Copy) (cs : List Copy) → Apart (all_erased t (cond b (c ∷ cs) cs)) → Apart (all_erased t cs)
-  put_apart true c cs a = a.1
-  put_apart false c cs a = a
+  put_no_dup : (b : Bool) (c : Copy) (cs : List Copy) → NoDup (all_erased t (cond b (c ∷ cs) cs)) → NoDup (all_erased t cs)
+  put_no_dup true c cs a = a.1
+  put_no_dup false c cs a = a
 
   -- histories of which those of each number of crossings have no doubles have none
-  pub all_apart : (hs : List Copy) → ((k : ℕ) → Apart (all_erased t (with_crossings k hs))) → Apart (all_erased t hs)
-  all_apart [] a = tt
-  all_apart (h ∷ hs) a = (
+  pub all_no_dup : (hs : List Copy) → ((k : ℕ) → NoDup (all_erased t (with_crossings k hs))) → NoDup (all_erased t hs)
+  all_no_dup [] a = tt
+  all_no_dup (h ∷ hs) a = (
     λ i.
         let m = from_mapped (erased_copy t) hs (erased_copy t h) i in
         let k = crossings h in
         let same : crossings m.0 ≡ k = sym (ap crossings m.2) in
         let kept = with_crossings k hs in
-        let first : Apart (all_erased t (h ∷ kept)) = subst (λ b. Apart (all_erased t (cond b (h ∷ kept) kept))) (eq_true k k refl) (a k) in
+        let first : NoDup (all_erased t (h ∷ kept)) = subst (λ b. NoDup (all_erased t (cond b (h ∷ kept) kept))) (eq_true k k refl) (a k) in
         let there : In kept m.0 = in_kept (λ c. crossings c == k) hs m.0 m.1 (eq_true (crossings m.0) k same) in
         first.0 (subst (In (all_erased t kept)) (sym m.2) (in_mapped (erased_copy t) kept m.0 there)),
-    all_apart hs (λ k. put_apart (crossings h == k) h (with_crossings k hs) (a k)),
+    all_no_dup hs (λ k. put_no_dup (crossings h == k) h (with_crossings k hs) (a k)),
   )
 
 -- then no history has left twice, whatever it has crossed
@@ -80,7 +80,7 @@ pub none_left_twice : (t : Tables) (es : List Event) (i : ℕ) (pk : List ℕ) �
     → IsWithoutDoubles (all_erased t (left_from (i + 1) (after_events es (nothing_in_flight t)).left))
 none_left_twice t es i pk e once =
     let s = after_events es (nothing_in_flight t) in
-    doubles_from_apart (all_erased t (left_from (i + 1) s.left))
-    (all_apart t (left_from (i + 1) s.left) (λ k.
+    doubles_from_no_dup (all_erased t (left_from (i + 1) s.left))
+    (all_no_dup t (left_from (i + 1) s.left) (λ k.
     let each = once_in_flight t es i k pk (all_erased t (left_after t k pk)) e record { once = once k; exactly = λ h. (λ c. c, λ c. c) } in
-    apart_from_doubles (all_erased t (with_crossings k (left_from (i + 1) s.left))) each.once))
+    no_dup_from_doubles (all_erased t (with_crossings k (left_from (i + 1) s.left))) each.once))

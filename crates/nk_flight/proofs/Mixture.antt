@@ -271,7 +271,7 @@ module _ (p : Pair) (ok : IsPlannable p) (tags : HaveTheirTags p) where
     abbrev next : List Flying
     next = flying_next (tables_by p v) f
 
-    -- the flight and the state behind the step
+    -- the flight and the state after the step
     abbrev flight_then : FlightState
     flight_then = record s.flight { flying = (A ++ B) ++ next; left = s.flight.left ++ left_next (tables_by p v) f }
 
@@ -395,7 +395,7 @@ module _ (p : Pair) (ok : IsPlannable p) (tags : HaveTheirTags p) where
           version_other n other' ∙ none.2,
         )
 
-    -- so all holds behind the step
+    -- so all holds after the step
     step_held : Held p then_state
     step_held = record {
       second = h.second;

@@ -16,7 +16,7 @@ use Rattle.nk_flight.specs.declared.copies.Left.{Left}
 use Rattle.nk_flight.specs.declared.hops.Hop.{Hop}
 use Rattle.nk_flight.specs.Flights.{FlightState, Event, inject, step, nothing_in_flight, flying_next, left_next, handled, injected, stepped, after_event, after_events, IsReached}
 use Rattle.nk_flight.specs.Owed.{left_or_owed}
-use Rattle.nk_flight.specs.Trails.{hop_at, hop_of, first_hop, copy_at, copies_at, FollowsHop, AreHops, state_at, IsSound}
+use Rattle.nk_flight.specs.Trails.{hop_at, hop_of, first_hop, copy_at, copies_at, FollowsHop, AreHops, state_of_trails, IsSound}
 use Rattle.nk_flight.proofs.Schedules.{every_order, handled_tables}
 use Rattle.nk_flight.proofs.Steps.{next_is}
 use Rattle.nk_flight.proofs.Trails.{across_is, below_end, copies_more, fresh_copies, hops_more, mapped_at, next_follow, removed_all, removed_copies}
@@ -58,7 +58,7 @@ wider hs more places all =
 pub injected_sound : (t : Tables) (pks qks : List (List ℕ)) (hs gs : List Hop) (places qlaces : List ℕ) (ls : List Left) (pk : List ℕ)
     → qks ≡ pks ++ pk ∷ [] → gs ≡ hs ++ first_hop (length pks + 1) pk ∷ [] → qlaces ≡ places ++ length hs ∷ []
     → IsSound t pks hs places ls
-    → (state_at t qks gs qlaces ls ≡ injected pk (state_at t pks hs places ls)) × IsSound t qks gs qlaces ls
+    → (state_of_trails t qks gs qlaces ls ≡ injected pk (state_of_trails t pks hs places ls)) × IsSound t qks gs qlaces ls
 injected_sound t pks qks hs gs places qlaces ls pk p h f s =
     let hop : Hop = first_hop (length pks + 1) pk in
     let more : List Hop = hop ∷ [] in
@@ -67,8 +67,8 @@ injected_sound t pks qks hs gs places qlaces ls pk p h f s =
     let copies : copies_at t.fields (hs ++ more) (places ++ length hs ∷ []) ≡ copies_at t.fields hs places ++ copy_at t.fields hs hop ∷ [] =
     map_joined (λ i. copy_at t.fields (hs ++ more) (hop_at (hs ++ more) i)) places (length hs ∷ [])
     ∙ (λ j. copies_more t.fields hs more s.hops places s.there j ++ fresh j) in
-    let is : state_at t qks gs qlaces ls ≡ injected pk (state_at t pks hs places ls) =
-    (λ j. state_at t (p j) (h j) (f j) ls) ∙ (λ j. record { tables = t; packets = pks ++ pk ∷ []; flying = copies j; left = ls }) in
+    let is : state_of_trails t qks gs qlaces ls ≡ injected pk (state_of_trails t pks hs places ls) =
+    (λ j. state_of_trails t (p j) (h j) (f j) ls) ∙ (λ j. record { tables = t; packets = pks ++ pk ∷ []; flying = copies j; left = ls }) in
     let longer : length (hs ++ more) ≡ length hs + 1 = omega (arith, length-append hs more) in
     let within : length hs < length (hs ++ more) = omega (arith, longer) in (
       is,
@@ -82,7 +82,7 @@ injected_sound t pks qks hs gs places qlaces ls pk p h f s =
             let held : length qlaces ≡ length places + 1 = ap length f ∙ length-append places (length hs ∷ []) in
             let all : length gs ≡ length hs + 1 = ap length h ∙ longer in
             omega (arith, held, all, s.few);
-        reached = event_reached (state_at t pks hs places ls) (state_at t qks gs qlaces ls) (inject pk) s.reached is;
+        reached = event_reached (state_of_trails t pks hs places ls) (state_of_trails t qks gs qlaces ls) (inject pk) s.reached is;
       },
     )
 
@@ -92,7 +92,7 @@ pub stepped_sound : (t : Tables) (pks : List (List ℕ)) (hs gs next : List Hop)
     → next ≡ flat_map (hop_of t p (hop_at hs p)) (sent_for t (hop_at hs p).packet)
     → gs ≡ hs ++ next → qlaces ≡ remove places i ++ range_with_len (length hs) (length next)
     → ms ≡ ls ++ left_next t (copy_at t.fields hs (hop_at hs p))
-    → (state_at t pks gs qlaces ms ≡ stepped i (state_at t pks hs places ls)) × IsSound t pks gs qlaces ms
+    → (state_of_trails t pks gs qlaces ms ≡ stepped i (state_of_trails t pks hs places ls)) × IsSound t pks gs qlaces ms
 stepped_sound t pks hs gs next places qlaces ls ms i p s here lt made h f m =
     let F = t.fields in
     let at : ℕ → Flying = λ j. copy_at F hs (hop_at hs j) in
@@ -109,10 +109,10 @@ stepped_sound t pks hs gs next places qlaces ls ms i p s here lt made h f m =
     let copies : copies_at F (hs ++ next) (remove places i ++ range_with_len (length hs) (length next)) ≡ remove (copies_at F hs places) i ++ flying_next t (at p) =
     map_joined (λ j. copy_at F (hs ++ next) (hop_at (hs ++ next) j)) (remove places i) (range_with_len (length hs) (length next))
     ∙ (λ j. old j ++ new j) in
-    let is : state_at t pks gs qlaces ms ≡ stepped i (state_at t pks hs places ls) =
-    (λ j. state_at t pks (h j) (f j) (m j))
+    let is : state_of_trails t pks gs qlaces ms ≡ stepped i (state_of_trails t pks hs places ls) =
+    (λ j. state_of_trails t pks (h j) (f j) (m j))
     ∙ (λ j. record { tables = t; packets = pks; flying = copies j; left = ls ++ left_next t (at p) })
-    ∙ ap (λ o. handled (state_at t pks hs places ls) o (remove (copies_at F hs places) i)) (sym (mapped_at at places i p here)) in
+    ∙ ap (λ o. handled (state_of_trails t pks hs places ls) o (remove (copies_at F hs places) i)) (sym (mapped_at at places i p here)) in
     let most : length hs + length next ≤ length (hs ++ next) = omega (arith, length-append hs next) in (
       is,
       record {
@@ -131,7 +131,7 @@ stepped_sound t pks hs gs next places qlaces ls ms i p s here lt made h f m =
             ∙ ap (λ n. length (remove places i) + n) (length-range_with_len (length hs) (length next)) in
             let all : length gs ≡ length hs + length next = ap length h ∙ length-append hs next in
             omega (arith, fewer, held, all, s.few);
-        reached = event_reached (state_at t pks hs places ls) (state_at t pks gs qlaces ms) (step i) s.reached is;
+        reached = event_reached (state_of_trails t pks hs places ls) (state_of_trails t pks gs qlaces ms) (step i) s.reached is;
       },
     )
 

@@ -1,4 +1,4 @@
--- Trails of hops: more hops behind them leave them as they are, and the hops that a copy leads to are those of its next copies.
+-- Trails of hops: more hops after them leave them as they are, and the hops that a copy leads to are those of its next copies.
 use Rattle.std.proofs.Common.{◌≡◌, ◌<◌, ◌≤◌, ◌+◌, ◌-◌, ◌⊎◌, ℕ, zero, suc, Option, None, Some, List, [], ◌∷◌, ◌++◌, length, take, drop, refl, sym, ap, subst, ◌∙◌, inl, inr, ⊎_elim, arith, append_assoc, length-append}
 use Rattle.std.specs.Prelude.{reverse, map, All, remove, slice_index, slice_get}
 use Rattle.std.specs.List.{flat_map, range_with_len}
@@ -13,7 +13,7 @@ use Rattle.nk_flight.specs.declared.hops.Hop.{Hop}
 use Rattle.nk_flight.specs.Flights.{flying_as, flying_across}
 use Rattle.nk_flight.specs.Trails.{hop_at, records_at, copy_at, copies_at, hop_over, hop_of, FollowsHop, AreHops}
 
--- what goes on from one of the first n hops goes on from one of the first m, also where more hops stand behind
+-- what goes on from one of the first n hops goes on from one of the first m, also where more hops stand after
 pub follows_on : (hs more : List Hop) (n m : ℕ) (h : Hop) → n ≤ length hs → n ≤ m → FollowsHop hs n h → FollowsHop (hs ++ more) m h
 follows_on hs more n m h there less f =
     ⊎_elim
@@ -24,7 +24,7 @@ follows_on hs more n m h there less f =
     inr (lower, r.1 ∙ ap (λ (e : Hop). suc e.crossings) (sym (get_or_append_left hs more _ h.earlier within))))
     f
 
--- the same where no more stand behind
+-- the same where no more stand after
 pub follows_wider : (hs : List Hop) (n m : ℕ) (h : Hop) → n ≤ m → FollowsHop hs n h → FollowsHop hs m h
 follows_wider hs n m h less f =
     ⊎_elim
@@ -32,7 +32,7 @@ follows_wider hs n m h less f =
     (λ r. let lower : h.earlier < m = omega (arith, r.0, less) in inr (lower, r.1))
     f
 
--- what was recorded stays where more hops are held behind
+-- what was recorded stays where more hops are held after
 pub trail_more : (fields : FieldTable) (hs more : List Hop) → AreHops hs → (k : ℕ) (h : Hop) → k ≡ h.crossings → FollowsHop hs (length hs) h
     → records_at fields (hs ++ more) k h ≡ records_at fields hs k h
 trail_more fields hs more are zero h e f = refl
@@ -78,7 +78,7 @@ copies_more fields hs more are (i ∷ places) there =
     let rest = copies_more fields hs more are places (All-tail (λ j. j < length hs) i places there) in
     λ j. same j ∷ rest j
 
--- hops that go on from held ones may stand behind them
+-- hops that go on from held ones may stand after them
 pub hops_more : (hs more : List Hop) → AreHops hs → All (FollowsHop hs (length hs)) more → AreHops (hs ++ more)
 hops_more hs more are all =
     λ i lt.
@@ -87,10 +87,10 @@ hops_more hs more are all =
     let less : i ≤ length hs = omega (arith, here) in
     subst (FollowsHop (hs ++ more) i) (sym (get_or_append_left hs more _ i here))
     (follows_on hs more i i (hop_at hs i) less (omega arith) (are i here)))
-    (λ behind.
-    let within : i - length hs < length more = omega (arith, lt, behind, length-append hs more) in
-    subst (FollowsHop (hs ++ more) i) (sym (get_or-append_right hs more (length hs) i _ refl behind))
-    (follows_on hs more (length hs) i (hop_at more (i - length hs)) (omega arith) behind (all (i - length hs) _ within)))
+    (λ following.
+    let within : i - length hs < length more = omega (arith, lt, following, length-append hs more) in
+    subst (FollowsHop (hs ++ more) i) (sym (get_or-append_right hs more (length hs) i _ refl following))
+    (follows_on hs more (length hs) i (hop_at more (i - length hs)) (omega arith) following (all (i - length hs) _ within)))
     (sides i (length hs))
   where
     sides : (m n : ℕ) → (m < n) ⊎ (n ≤ m)
@@ -126,7 +126,7 @@ next_follow t hs p (y ∷ ys) lt =
     (over_follows hs p y (link_from t.topo (slice_index y 0) (slice_index y 1)) lt)
     (next_follow t hs p ys lt)
 
--- the copies behind links are those of the hops over them
+-- the copies after links are those of the hops over them
 pub across_is : (t : Tables) (hs : List Hop) (p : ℕ) (sent : List (List ℕ))
     → map (copy_at t.fields hs) (flat_map (hop_of t p (hop_at hs p)) sent) ≡ flat_map (flying_across t (copy_at t.fields hs (hop_at hs p))) sent
 across_is t hs p [] = refl
@@ -138,7 +138,7 @@ across_is t hs p (y ∷ ys) =
     one None = refl
     one (Some to) = refl
 
--- the copies at the places of hops that stand behind those that were held
+-- the copies at the places of hops that stand after those that were held
 fresh : (fields : FieldTable) (hs more : List Hop) → AreHops hs → (a : ℕ) (xs : List Hop) → ((i : ℕ) → i < length xs → hop_at (hs ++ more) (a + i) ≡ hop_at xs i)
     → All (FollowsHop hs (length hs)) xs → copies_at fields (hs ++ more) (range_with_len a (length xs)) ≡ map (copy_at fields hs) xs
 fresh fields hs more are a [] at all = refl

@@ -116,10 +116,10 @@ module _ (g : Stages) (s t : UpdateState) (w : List ℕ) (i : ℕ) (distinct : I
   pub wait_on : ¬ (length (remove w i) ≡ 0) → Wait g t (remove w i)
   wait_on more = subst (λ u. Wait g u (remove w i)) (sym after) (others_on g s w i h lt distinct at_one (remove w i) refl more)
 
--- what stands behind the first one, and behind others
-behind_first : {X : Type 0} (x : X) (xs : List X) (k : ℕ) (d : X) → k ≢ 0 → get_or (x ∷ xs) k d ≡ get_or xs (k - 1) d
-behind_first x xs zero d other = absurd (other refl)
-behind_first x xs (suc k) d other = let same : k ≡ suc k - 1 = omega arith in ap (λ j. get_or xs j d) same
+-- what stands after the first one, and after others
+following_first : {X : Type 0} (x : X) (xs : List X) (k : ℕ) (d : X) → k ≢ 0 → get_or (x ∷ xs) k d ≡ get_or xs (k - 1) d
+following_first x xs zero d other = absurd (other refl)
+following_first x xs (suc k) d other = let same : k ≡ suc k - 1 = omega arith in ap (λ j. get_or xs j d) same
 
 -- what can happen in a turn, and what a draw takes of it
 module _ (g : Stages) (pk : List ℕ) (s : UpdateState) (copies may x at : ℕ) (c : copies ≡ length s.flight.flying) (m : may ≡ length (those_that_may g s))
@@ -153,7 +153,7 @@ module _ (g : Stages) (pk : List ℕ) (s : UpdateState) (copies may x at : ℕ) 
       let lt : at - 1 < length moves = omega (arith, le, moves_many, other) in
       let less : at - 1 < length s.flight.flying = omega (arith, le, c, other) in
       let same : 0 + (at - 1) ≡ at - 1 = omega arith in
-      is_at ∙ behind_first (inject pk) (moves ++ plans) at (inject pk) other
+      is_at ∙ following_first (inject pk) (moves ++ plans) at (inject pk) other
       ∙ get_or_append_left moves plans (inject pk) (at - 1) lt
       ∙ get_or-map-range_with_len move 0 (length s.flight.flying) (at - 1) (at - 1) (inject pk) less same
 
@@ -161,9 +161,9 @@ module _ (g : Stages) (pk : List ℕ) (s : UpdateState) (copies may x at : ℕ) 
   takes_plan gt =
       let other : at ≢ 0 = λ q. omega (arith, gt, q) in
       let lt : at - 1 - copies < length (those_that_may g s) = omega (arith, gt, below, m) in
-      let behind : copies ≤ at - 1 = omega (arith, gt) in
-      is_at ∙ behind_first (inject pk) (moves ++ plans) at (inject pk) other
-      ∙ get_or-append_right moves plans copies (at - 1) (inject pk) moves_many behind
+      let following : copies ≤ at - 1 = omega (arith, gt) in
+      is_at ∙ following_first (inject pk) (moves ++ plans) at (inject pk) other
+      ∙ get_or-append_right moves plans copies (at - 1) (inject pk) moves_many following
       ∙ get_or-map plan (those_that_may g s) (at - 1 - copies) 0 (inject pk) lt
 
   pub plan_there : copies < at → at - 1 - copies < may

@@ -1,6 +1,6 @@
 -- Schedules that are drawn: at each step the next draw says which copy is handled.
 use Rattle.std.specs.Prelude.{ℕ, zero, suc, ◌%◌, length}
-pub use Rattle.nk_draws.specs.Draws.{next_draw}
+pub use Rattle.nk_random.specs.Draws.{next_draw}
 use Rattle.nk_flight.specs.Flights.{FlightState, stepped}
 
 -- the draw of this number from a seed

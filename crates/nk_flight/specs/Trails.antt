@@ -48,12 +48,12 @@ abbrev pub AreHops : List Hop → Type 0
 AreHops hs = (i : ℕ) → i < length hs → FollowsHop hs i (hop_at hs i)
 
 -- the state of these tables, packets, hops, places of copies and histories
-abbrev pub state_at : Tables → List (List ℕ) → List Hop → List ℕ → List Left → FlightState
-state_at t pks hs places ls = state_of t pks (copies_at t.fields hs places) ls
+abbrev pub state_of_trails : Tables → List (List ℕ) → List Hop → List ℕ → List Left → FlightState
+state_of_trails t pks hs places ls = state_of t pks (copies_at t.fields hs places) ls
 
 -- hops go on from one another, each copy has one, copies are no more than hops, and some events lead here from the start
 pub record IsSound (t : Tables) (pks : List (List ℕ)) (hs : List Hop) (places : List ℕ) (ls : List Left) : Type 0 where
   pub hops : AreHops hs
   pub there : All (λ i. i < length hs) places
   pub few : length places ≤ length hs
-  pub reached : IsReached (state_at t pks hs places ls)
+  pub reached : IsReached (state_of_trails t pks hs places ls)

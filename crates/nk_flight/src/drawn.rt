@@ -4,8 +4,8 @@ ghost use Rattle.nk_flight.specs.Draws as draws;
 ghost use Rattle.nk_flight.specs.Flights.{injected, nothing_in_flight};
 
 use crate::flight::Flight;
-use nk_draws::next_draw;
 use nk_field::Packet;
+use nk_random::next_draw;
 use nk_table::Tables;
 use std::alloc::{AllocError, Global};
 

@@ -7,8 +7,8 @@ ghost use Rattle.nk_flight.specs.UpdateDraws.{those_that_may, after_turns, turne
 use crate::flight::places_from;
 use crate::updating::UpdateFlight;
 use crate::waiting::Waiting;
-use nk_draws::next_draw;
 use nk_field::Packet;
+use nk_random::next_draw;
 use nk_update::Plan;
 use std::alloc::{AllocError, Global};
 
@@ -65,7 +65,7 @@ fn turn(
     }
 }
 
-/// The place of an action at a draw: that of the injection is 0, copies and then switches that may stand behind it.
+/// The place of an action at a draw: that of the injection is 0, copies and then switches that may stand after it.
 fn drawn_place(draw: u64, copies: usize, may: usize) -> usize
     ensures { result ≡ draw % (1 + (copies + may)) }
 {

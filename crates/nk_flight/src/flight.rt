@@ -42,11 +42,11 @@ impl Drop for Flight {
 impl Model for Flight {
     ghost use Rattle.nk_sim.specs.Emitted.{Finds};
     ghost use Rattle.nk_flight.specs.Flights.{FlightState};
-    ghost use Rattle.nk_flight.specs.Trails.{IsSound, state_at};
+    ghost use Rattle.nk_flight.specs.Trails.{IsSound, state_of_trails};
 
     ghost Value = { FlightState };
 
-    ghost view = { λ f. state_at f.tables f.packets.items f.hops.items f.flying f.left.items };
+    ghost view = { λ f. state_of_trails f.tables f.packets.items f.hops.items f.flying f.left.items };
 
     ghost invariant = { λ f. IsSound f.tables f.packets.items f.hops.items f.flying f.left.items
         × Finds f.finder f.tables.tables };
@@ -76,7 +76,7 @@ impl Flight {
         self.packets.len() as u64
     }
 
-    /// Injects a packet and answers its number: the first one's is 1. Its copy stands behind the others. The only error
+    /// Injects a packet and answers its number: the first one's is 1. Its copy stands after the others. The only error
     /// is that memory ran out; then all is as it was.
     pub fn inject(&mut self, p: &Packet) -> Result<u64, AllocError>
         ensures number { IfOk result (λ number. number ≡ length self.old.packets + 1) }

@@ -34,7 +34,7 @@ pub(crate) struct Hop {
 /// What a copy leads to when its switch handles it.
 #[derive(Drop)]
 pub(crate) struct Outcome {
-    /// The hops of the copies behind links.
+    /// The hops of the copies after links.
     pub(crate) next: Vec<Hop>,
     /// The histories that leave.
     pub(crate) left: Vec<Left>,
@@ -91,7 +91,7 @@ pub(crate) fn are_few(hops: &[Hop])
     let _held = hops.len();
 }
 
-/// The hops behind the links that the packets sent for a copy cross.
+/// The hops after the links that the packets sent for a copy cross.
 fn cross(
     alloc: Global,
     t: &Tables,
@@ -109,7 +109,7 @@ fn cross(
     Ok(next)
 }
 
-/// Appends the hop behind the link that a packet sent for a copy crosses, if it crosses one.
+/// Appends the hop after the link that a packet sent for a copy crosses, if it crosses one.
 fn cross_one(
     t: &Tables,
     place: usize,

@@ -84,7 +84,7 @@ impl UpdateFlight {
         self.packets.len() as u64
     }
 
-    /// Injects a packet and answers its number: the first one's is 1. Its copy stands behind the others. The only error
+    /// Injects a packet and answers its number: the first one's is 1. Its copy stands after the others. The only error
     /// is that memory ran out; then all is as it was.
     pub fn inject(&mut self, p: &Packet) -> Result<u64, AllocError>
         ensures number { IfOk result (λ number. number ≡ length self.old.flight.packets + 1) }

@@ -8,7 +8,7 @@ use std::marker::Model;
 /// What comes in is put into the last block where that has fewer places than this; else it is a new block.
 const ENOUGH: usize = 2048;
 
-/// Some of the places, one behind the other. A contract sees it as their list.
+/// Some of the places, one after the other. A contract sees it as their list.
 struct Block {
     places: Vec<usize>,
 }
@@ -43,7 +43,7 @@ impl Block {
         self.places[i]
     }
 
-    /// Puts these places behind the others. Where memory runs out the block stays as it was.
+    /// Puts these places after the others. Where memory runs out the block stays as it was.
     fn append(&mut self, mut places: Vec<usize>) -> Result<(), AllocError>
         ensures ok { OnOk result (self.new ≡ self.old ++ places.items) }
         ensures err { OnErr result (self.new ≡ self.old) }
@@ -114,14 +114,14 @@ impl Waiting {
         self.blocks[block].at(within)
     }
 
-    /// Puts these places behind the others. Where memory runs out all stays as it was.
+    /// Puts these places after the others. Where memory runs out all stays as it was.
     pub(crate) fn append(&mut self, places: Vec<usize>) -> Result<(), AllocError>
         requires { length self.old + length places.items ≤ usize.MAX }
         ensures ok { OnOk result (self.new ≡ self.old ++ places.items) }
         ensures err { OnErr result (self.new ≡ self.old) }
     {
         let more = places.len();
-        put_behind(&mut self.blocks, places)?;
+        put_following(&mut self.blocks, places)?;
         self.count += more;
         Ok(())
     }
@@ -164,9 +164,9 @@ fn find(blocks: &[Block], i: usize) -> (usize, usize)
     (block, within)
 }
 
-/// Puts places into the last block where there is room, else behind it as a new block. Where memory runs out all stays
+/// Puts places into the last block where there is room, else after it as a new block. Where memory runs out all stays
 /// as it was.
-fn put_behind(blocks: &mut Vec<Block>, places: Vec<usize>) -> Result<(), AllocError>
+fn put_following(blocks: &mut Vec<Block>, places: Vec<usize>) -> Result<(), AllocError>
     ensures ok { OnOk result (concat blocks.new.items ≡ concat blocks.old.items ++ places.items) }
     ensures err { OnErr result (concat blocks.new.items ≡ concat blocks.old.items) }
 {

@@ -44,7 +44,7 @@ lists_more : {Y : Type 0} (f : ℕ → List Y) (n : ℕ) (before : List Y)
 lists_more f n before =
     flat_map_more f before (range_with_len 1 n) (n + 1) ∙ ap (λ l. before ++ flat_map f l) (sym (range_more n))
 
--- the list of one more number, behind others
+-- the list of one more number, after others
 pub lists_pushed : {Y : Type 0} (f : ℕ → List Y) (n : ℕ) (start before more : List Y)
     → before ≡ start ++ flat_map f (range_with_len 1 n) → more ≡ before ++ f (n + 1)
     → more ≡ start ++ flat_map f (range_with_len 1 (n + 1))

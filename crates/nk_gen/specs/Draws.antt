@@ -1,8 +1,8 @@
--- The draws of a network: which of those behind a seed is for which of its parts.
+-- The draws of a network: which of those after a seed is for which of its parts.
 use Rattle.std.specs.Prelude.{ℕ, zero, suc, ◌+◌, ◌*◌, List, [], ◌∷◌, take, drop, slice_index}
-pub use Rattle.nk_draws.specs.Draws.{next_draw}
+pub use Rattle.nk_random.specs.Draws.{next_draw}
 
--- so many draws behind a seed, in their order
+-- so many draws after a seed, in their order
 abbrev pub draws : ℕ → ℕ → List ℕ
 draws seed zero = []
 draws seed (suc n) = next_draw seed ∷ draws (next_draw seed) n
@@ -20,6 +20,6 @@ home_draws size seed = take size (all_draws size seed)
 abbrev pub chord_draws : ℕ → ℕ → List ℕ
 chord_draws size seed = take size (drop size (all_draws size seed))
 
--- the key: the draw behind these
+-- the key: the draw after these
 abbrev pub key : ℕ → ℕ → ℕ
 key size seed = slice_index (all_draws size seed) (2 * size)

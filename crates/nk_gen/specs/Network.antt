@@ -17,11 +17,11 @@ home_of s = record { switch = s.0; destination = 281474000000000 + 1000 * s.0 + 
 abbrev pub homes_by : List ℕ → List Home
 homes_by draws = map home_of (enumerate_from 1 draws)
 
--- the homes, by the draws behind a seed
+-- the homes, by the draws after a seed
 abbrev pub homes : ℕ → ℕ → List Home
 homes size seed = homes_by (home_draws size seed)
 
--- the link of the ring at a switch: from port 1 to port 2 of the next switch, the first one behind the last
+-- the link of the ring at a switch: from port 1 to port 2 of the next switch, the first one after the last
 abbrev pub ring_link : ℕ → ℕ → Link
 ring_link size i = record { from_switch = i; from_port = 1; to_switch = if i == size then 1 else i + 1; to_port = 2 }
 
@@ -39,7 +39,7 @@ abbrev pub chord_from : List Link → ℕ → ℕ → List Link
 chord_from earlier i j =
     if i == j || is_end earlier j then [] else record { from_switch = i; from_port = 3; to_switch = j; to_port = 4 } ∷ []
 
--- the chords so far, and behind them that of one more switch, whose draw points to the other switch
+-- the chords so far, and after them that of one more switch, whose draw points to the other switch
 abbrev pub with_chord : ℕ → List Link → ℕ × ℕ → List Link
 with_chord size earlier s = earlier ++ chord_from earlier s.0 (1 + s.1 % size)
 
@@ -47,7 +47,7 @@ with_chord size earlier s = earlier ++ chord_from earlier s.0 (1 + s.1 % size)
 abbrev pub chords_by : ℕ → List ℕ → List Link
 chords_by size draws = fold (with_chord size) [] (enumerate_from 1 draws)
 
--- the chords, by the draws behind a seed
+-- the chords, by the draws after a seed
 abbrev pub chords : ℕ → ℕ → List Link
 chords size seed = chords_by size (chord_draws size seed)
 
@@ -56,7 +56,7 @@ abbrev pub branch : ℕ → ℕ → ℕ → ℕ → List Link
 branch size i port j =
     if nat_le j size then record { from_switch = i; from_port = port; to_switch = j; to_port = 7 } ∷ [] else []
 
--- the links of the tree from a switch: from port 5 to the switch of twice its number, then from port 6 to the one behind
+-- the links of the tree from a switch: from port 5 to the switch of twice its number, then from port 6 to the one after
 -- that
 abbrev pub branches : ℕ → ℕ → List Link
 branches size i = branch size i 5 (2 * i) ++ branch size i 6 (2 * i + 1)

@@ -1,4 +1,4 @@
--- The text of a generated program: its lines, one behind another.
+-- The text of a generated program: its lines, one after another.
 use Rattle.std.specs.Prelude.{ℕ, codes, decimal, List, [], ◌∷◌, ◌++◌}
 use Rattle.std.specs.List.{flat_map, join_by}
 use Rattle.nk_gen.specs.declared.network.Home.{Home}
@@ -87,7 +87,7 @@ cast_line = codes "let cast = sw=1;pt=9;(pt:=5;tree + pt:=6;tree)*;pt:=9\n"
 abbrev pub policy_lines : ℕ → List ℕ
 policy_lines k = hop_line ++ go_line k ++ same_line k ++ cast_line
 
--- the generated text of so many switches, by the draws behind a seed
+-- the generated text of so many switches, by the draws after a seed
 abbrev pub generated : ℕ → ℕ → List ℕ
 generated size seed =
     field_lines

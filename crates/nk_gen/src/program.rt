@@ -38,24 +38,24 @@ fn drawn_homes(alloc: Global, size: u64, drawn: &[u64]) -> Result<Vec<Home>, All
     requires drawn { size ≤ length drawn.now }
     ensures { IfOk result (λ all. all.items ≡ homes_by (take size drawn.now)) }
 {
-    let (front, _behind) = drawn.split_at(size as usize);
+    let (front, _rest) = drawn.split_at(size as usize);
     let all = homes(alloc, front)?;
     Ok(all)
 }
 
-/// The chords, by the draws behind those for homes.
+/// The chords, by the draws after those for homes.
 fn drawn_chords(alloc: Global, size: u64, drawn: &[u64]) -> Result<Vec<Link>, AllocError>
     requires size { (1 ≤ size) × (size ≤ 1000) }
     requires drawn { length drawn.now ≡ 2 * size + 1 }
     ensures { IfOk result (λ all. all.items ≡ chords_by size (take size (drop size drawn.now))) }
 {
-    let (_front, behind) = drawn.split_at(size as usize);
-    let (middle, _last) = behind.split_at(size as usize);
+    let (_front, following) = drawn.split_at(size as usize);
+    let (middle, _last) = following.split_at(size as usize);
     let all = chords(alloc, size, middle)?;
     Ok(all)
 }
 
-/// The key: the draw behind those for homes and chords.
+/// The key: the draw after those for homes and chords.
 fn drawn_key(size: u64, drawn: &[u64]) -> u64
     requires size { size ≤ 1000 }
     requires drawn { length drawn.now ≡ 2 * size + 1 }

@@ -1,4 +1,4 @@
-//! The lines of a generated program, each put behind a text.
+//! The lines of a generated program, each put after a text.
 ghost use Rattle.std.specs.Prelude.{◌≡◌, ◌≤◌, ◌++◌, codes, decimal, OnOk};
 ghost use Rattle.std.specs.List.{flat_map, join_by};
 ghost use Rattle.nk_gen.specs.Network.{switches};
@@ -225,17 +225,17 @@ pub(crate) fn push_policies(out: &mut Vec<u8>, key: u64) -> Result<(), AllocErro
     Ok(())
 }
 
-/// A number with one text before it and one behind.
-fn push_around(out: &mut Vec<u8>, before: &[u8], n: u64, behind: &[u8]) -> Result<(), AllocError>
-    ensures { OnOk result (out.new.items ≡ out.old.items ++ (before.now ++ decimal n ++ behind.now)) }
+/// A number with one text before it and one after.
+fn push_around(out: &mut Vec<u8>, before: &[u8], n: u64, following: &[u8]) -> Result<(), AllocError>
+    ensures { OnOk result (out.new.items ≡ out.old.items ++ (before.now ++ decimal n ++ following.now)) }
 {
     out.extend_from_slice(before)?;
     push_number(out, n)?;
-    out.extend_from_slice(behind)?;
+    out.extend_from_slice(following)?;
     Ok(())
 }
 
-/// Puts a number behind a text.
+/// Puts a number after a text.
 fn push_number(out: &mut Vec<u8>, n: u64) -> Result<(), AllocError>
     ensures { OnOk result (out.new.items ≡ out.old.items ++ decimal n) }
 {

@@ -9,7 +9,7 @@ use Rattle.nk_grammar.specs.File.{Declaration, HasDeclarations}
 use Rattle.nk_grammar.specs.FileMachine.{Reading, read_one, read_all, first_reading, declarations_at_end, open_count, judged, ended_at, rest_of_file, file_of}
 use Rattle.nk_lex.specs.Spans.{last_line}
 use Rattle.nk_lex.specs.Faults.{and_then}
-use Rattle.nk_grammar.specs.Answer.{terminals, IsShallow, IsUnexpectedEnd, IsAnswer}
+use Rattle.nk_grammar.specs.Answer.{terminals, IsShallow, IsUnexpectedEnd, IsParse}
 use Rattle.nk_grammar.proofs.Texts.{reads_file, ends_file, file_goes_on, file_stops, read_append}
 use Rattle.nk_grammar.proofs.Fronts.{none_some}
 
@@ -70,17 +70,17 @@ within n e = grind (arith, nat_tests)
 beyond : (n : ℕ) → nat_le n 256 ≡ false → 256 < n
 beyond n e = grind (arith, nat_tests)
 
--- the tokens that are left, behind tokens that were read
+-- the tokens that are left, after tokens that were read
 rest_answers : (whole rest before : List Token) (r : Reading) → whole ≡ before ++ rest
     → read_all (terminals before) first_reading ≡ Some r → IsShallow (terminals before)
-    → IsAnswer whole (rest_of_file rest r (last_line 1 before))
+    → IsParse whole (rest_of_file rest r (last_line 1 before))
 rest_answers whole [] before r parts read shallow = by_end (declarations_at_end r) refl
   where
     same : whole ≡ before
     same = parts ∙ append-nil before
 
     by_end : (o : Option (List Declaration)) → declarations_at_end r ≡ o
-        → IsAnswer whole (ended_at (last_line 1 before) o)
+        → IsParse whole (ended_at (last_line 1 before) o)
     by_end (Some ds) e = subst (λ ts. HasDeclarations (terminals ts) ds × IsShallow (terminals ts)) (sym same) (ends_file (terminals before) r ds read e, shallow)
     by_end None e = inr (subst (λ ts. IsUnexpectedEnd ts (last_line 1 before)) (sym same) (record {
       line_is = refl;
@@ -106,8 +106,8 @@ rest_answers whole (t ∷ rest) before r parts read shallow = by_step (read_one 
         id_option (Some s) = refl
 
     by_step : (o : Option Reading) → read_one r (terminal_of t) ≡ o
-        → ((s : Reading) → read_all (terminals (before ++ t ∷ [])) first_reading ≡ Some s → IsShallow (terminals (before ++ t ∷ [])) → IsAnswer whole (rest_of_file rest s (last_line 1 (before ++ t ∷ []))))
-        → IsAnswer whole (and_then (judged t.line o) (λ s. rest_of_file rest s t.line))
+        → ((s : Reading) → read_all (terminals (before ++ t ∷ [])) first_reading ≡ Some s → IsShallow (terminals (before ++ t ∷ [])) → IsParse whole (rest_of_file rest s (last_line 1 (before ++ t ∷ []))))
+        → IsParse whole (and_then (judged t.line o) (λ s. rest_of_file rest s t.line))
     by_step None e go = inl (record {
       before = before;
       token = t;
@@ -121,9 +121,9 @@ rest_answers whole (t ∷ rest) before r parts read shallow = by_step (read_one 
     by_step (Some s) e go = by_count (nat_le (open_count s) 256) refl
       where
         by_count : (b : Bool) → nat_le (open_count s) 256 ≡ b
-            → IsAnswer whole (and_then (if b then Ok s else Err (error.TooDeep t.line)) (λ s. rest_of_file rest s t.line))
+            → IsParse whole (and_then (if b then Ok s else Err (error.TooDeep t.line)) (λ s. rest_of_file rest s t.line))
         by_count true f =
-            subst (λ line. IsAnswer whole (rest_of_file rest s line)) (last_more 1 before t)
+            subst (λ line. IsParse whole (rest_of_file rest s line)) (last_more 1 before t)
             (go s (all_read (Some s) e) (subst IsShallow (sym (terminals_more before t))
             (shallow_more (terminals before) (terminal_of t) s shallow (ap (λ l. read_all l first_reading) (sym (terminals_more before t)) ∙ all_read (Some s) e) (within (open_count s) f))))
         by_count false f = record {
@@ -146,7 +146,7 @@ shallow_first (x ∷ xs) ys e deep = nothing e
     nothing e = cc
 
 -- what is answered is the value or the first fault
-pub answers : (ts : List Token) → IsAnswer ts (file_of ts)
+pub answers : (ts : List Token) → IsParse ts (file_of ts)
 answers ts = rest_answers ts ts [] first_reading refl refl shallow_first
 
 -- no two trees have the same tokens

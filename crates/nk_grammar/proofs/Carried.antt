@@ -1,11 +1,11 @@
--- What is read behind the word `certificate`: on later lines and behind other declarations it is the same.
+-- What is read after the word `certificate`: on later lines and after other declarations it is the same.
 use Rattle.std.proofs.Common.{◌≡◌, ◌+◌, ℕ, List, [], ◌∷◌, ◌++◌, Bool, true, false, refl, sym, ◌∙◌, ap, Option}
 use Rattle.std.specs.Prelude.{Some, None, Ok, Err, map, option_map, if◌then◌else◌, nat_le, ⊤}
 use Rattle.std.proofs.lemmas.List.{map-append}
 use Rattle.std.specs.declared.result.Result.{Result}
 use Rattle.nk_lex.specs.declared.token.Token.{Token}
 use Rattle.nk_lex.specs.Joined.{token_moved}
-use Rattle.nk_lex.specs.declared.word.Number.{Number}
+use Rattle.nk_lex.specs.declared.ident.Number.{Number}
 use Rattle.nk_lex.specs.Faults.{and_then}
 use Rattle.nk_grammar.specs.declared.decl.GrammarError.{GrammarError}
 use Rattle.nk_grammar.specs.declared.decl.GrammarError.TheVariants as error
@@ -18,7 +18,7 @@ use Rattle.nk_grammar.specs.CertifiedMachine.{CertifiedPhase, declaring, row_wan
 use Rattle.nk_grammar.specs.Moved.{number_moved, tree_moved, row_moved}
 use Rattle.nk_grammar.proofs.Moves.{terminal_moved, token_terminal, state_moved, open_moves, step_moves, end_moves, number_in_moves, colon_moves}
 
--- ---- behind the word
+-- ---- after the word
 
 -- the word `certificate` stands before
 abbrev pub IsInRows : CertifiedPhase → Type 0
@@ -121,80 +121,80 @@ test_carried : (g : Certifying → Certifying) (b : Bool) (x y x' y' : Option Ce
 test_carried g true x y x' y' e f = e
 test_carried g false x y x' y' e f = f
 
--- ---- behind other declarations
+-- ---- after other declarations
 
 module _ (ds : List Declaration) where
-  abbrev behind : Certifying → Certifying
-  behind c = certifying c.phase ds c.rows
+  abbrev following : Certifying → Certifying
+  following c = certifying c.phase ds c.rows
 
-  abbrev certified_behind : Certified → Certified
-  certified_behind c = certified ds c.rows
+  abbrev certified_after : Certified → Certified
+  certified_after c = certified ds c.rows
 
-  same_line : (o : Option ℕ) (f f' : ℕ → Certifying) → ((n : ℕ) → f' n ≡ behind (f n))
-      → in_line o None (λ n. Some (f' n)) ≡ option_map behind (in_line o None (λ n. Some (f n)))
+  same_line : (o : Option ℕ) (f f' : ℕ → Certifying) → ((n : ℕ) → f' n ≡ following (f n))
+      → in_line o None (λ n. Some (f' n)) ≡ option_map following (in_line o None (λ n. Some (f n)))
   same_line None f f' same = refl
   same_line (Some n) f f' same = ap (λ c. Some c) (same n)
 
-  same_number : (o : Option Number) (f f' : Number → Certifying) → ((n : Number) → f' n ≡ behind (f n))
-      → in_option o None (λ n. Some (f' n)) ≡ option_map behind (in_option o None (λ n. Some (f n)))
+  same_number : (o : Option Number) (f f' : Number → Certifying) → ((n : Number) → f' n ≡ following (f n))
+      → in_option o None (λ n. Some (f' n)) ≡ option_map following (in_option o None (λ n. Some (f n)))
   same_number None f f' same = refl
   same_number (Some n) f f' same = ap (λ c. Some c) (same n)
 
-  policy_behind : (es : List Declaration) (rs : List Row) (ns : List ℕ) (line : ℕ) (o : Option State) (e : Option Tree) (t : Terminal)
-      → row_on ds rs ns line o e t ≡ option_map behind (row_on es rs ns line o e t)
-  policy_behind es rs ns line (Some s) e t = refl
-  policy_behind es rs ns line None None t = refl
-  policy_behind es rs ns line None (Some p) t =
+  policy_after : (es : List Declaration) (rs : List Row) (ns : List ℕ) (line : ℕ) (o : Option State) (e : Option Tree) (t : Terminal)
+      → row_on ds rs ns line o e t ≡ option_map following (row_on es rs ns line o e t)
+  policy_after es rs ns line (Some s) e t = refl
+  policy_after es rs ns line None None t = refl
+  policy_after es rs ns line None (Some p) t =
       same_line (row_in t) (λ l. certifying (number_wanted l) es (rs ++ row ns p line ∷ [])) (λ l. certifying (number_wanted l) ds (rs ++ row ns p line ∷ [])) (λ n. refl)
 
-  next_behind : (p : CertifiedPhase) (es : List Declaration) (rs : List Row) (t : Terminal) → IsInRows p
-      → next_certifying p ds rs t ≡ option_map behind (next_certifying p es rs t)
-  next_behind (declaring r) es rs t h = absurd h
-  next_behind row_wanted es rs t h =
+  next_after : (p : CertifiedPhase) (es : List Declaration) (rs : List Row) (t : Terminal) → IsInRows p
+      → next_certifying p ds rs t ≡ option_map following (next_certifying p es rs t)
+  next_after (declaring r) es rs t h = absurd h
+  next_after row_wanted es rs t h =
       same_line (row_in t) (λ l. certifying (start_wanted l) es rs) (λ l. certifying (start_wanted l) ds rs) (λ n. refl)
-  next_behind (start_wanted line) es rs t h =
-      test_carried behind (is_start_word t) (Some (certifying (start_read line) es rs)) None (Some (certifying (start_read line) ds rs)) None refl refl
-  next_behind (start_read line) es rs t h =
-      test_carried behind (is_colon_terminal t) (Some (certifying (in_row line [] first_state) es rs)) None (Some (certifying (in_row line [] first_state) ds rs)) None refl refl
-  next_behind (number_wanted line) es rs t h =
+  next_after (start_wanted line) es rs t h =
+      test_carried following (is_start_word t) (Some (certifying (start_read line) es rs)) None (Some (certifying (start_read line) ds rs)) None refl refl
+  next_after (start_read line) es rs t h =
+      test_carried following (is_colon_terminal t) (Some (certifying (in_row line [] first_state) es rs)) None (Some (certifying (in_row line [] first_state) ds rs)) None refl refl
+  next_after (number_wanted line) es rs t h =
       same_number (number_in t) (λ n. certifying (numbers_read line (n.value ∷ [])) es rs) (λ n. certifying (numbers_read line (n.value ∷ [])) ds rs) (λ n. refl)
-  next_behind (numbers_read line ns) es rs t h =
-      test_carried behind (is_colon_terminal t) (Some (certifying (in_row line ns first_state) es rs)) (with_number t None (λ m. Some (certifying (numbers_read line (ns ++ m.value ∷ [])) es rs)))
+  next_after (numbers_read line ns) es rs t h =
+      test_carried following (is_colon_terminal t) (Some (certifying (in_row line ns first_state) es rs)) (with_number t None (λ m. Some (certifying (numbers_read line (ns ++ m.value ∷ [])) es rs)))
       (Some (certifying (in_row line ns first_state) ds rs)) (with_number t None (λ m. Some (certifying (numbers_read line (ns ++ m.value ∷ [])) ds rs))) refl
       (same_number (number_in t) (λ m. certifying (numbers_read line (ns ++ m.value ∷ [])) es rs) (λ m. certifying (numbers_read line (ns ++ m.value ∷ [])) ds rs) (λ n. refl))
-  next_behind (in_row line ns s) es rs t h = policy_behind es rs ns line (step s t) (policy_ended s) t
+  next_after (in_row line ns s) es rs t h = policy_after es rs ns line (step s t) (policy_ended s) t
 
-  last_behind : (es : List Declaration) (rs : List Row) (ns : List ℕ) (line : ℕ) (o : Option Tree)
-      → certificate_ends ds rs ns line o ≡ option_map certified_behind (certificate_ends es rs ns line o)
-  last_behind es rs ns line None = refl
-  last_behind es rs ns line (Some p) = refl
+  last_after : (es : List Declaration) (rs : List Row) (ns : List ℕ) (line : ℕ) (o : Option Tree)
+      → certificate_ends ds rs ns line o ≡ option_map certified_after (certificate_ends es rs ns line o)
+  last_after es rs ns line None = refl
+  last_after es rs ns line (Some p) = refl
 
-  end_behind : (p : CertifiedPhase) (es : List Declaration) (rs : List Row) → IsInRows p
-      → certified_ended p ds rs ≡ option_map certified_behind (certified_ended p es rs)
-  end_behind (declaring r) es rs h = absurd h
-  end_behind row_wanted es rs h = refl
-  end_behind (start_wanted line) es rs h = refl
-  end_behind (start_read line) es rs h = refl
-  end_behind (number_wanted line) es rs h = refl
-  end_behind (numbers_read line ns) es rs h = refl
-  end_behind (in_row line ns s) es rs h = last_behind es rs ns line (policy_ended s)
+  end_after : (p : CertifiedPhase) (es : List Declaration) (rs : List Row) → IsInRows p
+      → certified_ended p ds rs ≡ option_map certified_after (certified_ended p es rs)
+  end_after (declaring r) es rs h = absurd h
+  end_after row_wanted es rs h = refl
+  end_after (start_wanted line) es rs h = refl
+  end_after (start_read line) es rs h = refl
+  end_after (number_wanted line) es rs h = refl
+  end_after (numbers_read line ns) es rs h = refl
+  end_after (in_row line ns s) es rs h = last_after es rs ns line (policy_ended s)
 
   all_tokens : (us : List Token) → map (λ t. t) us ≡ us
   all_tokens [] = refl
   all_tokens (u ∷ us) = ap (λ l. u ∷ l) (all_tokens us)
 
-  -- the rows that are read behind declarations
-  pub rows_behind : (us : List Token) (rs xs : List Row) (es fs : List Declaration) (line : ℕ)
+  -- the rows that are read after declarations
+  pub rows_following : (us : List Token) (rs xs : List Row) (es fs : List Declaration) (line : ℕ)
       → rest_of_certified us (certifying row_wanted es xs) line ≡ Ok (certified fs rs)
       → rest_of_certified us (certifying row_wanted ds xs) line ≡ Ok (certified ds rs)
-  rows_behind us rs xs es fs line e =
+  rows_following us rs xs es fs line e =
       ap (λ l. rest_of_certified l (certifying row_wanted ds xs) line) (sym (all_tokens us))
-      ∙ rest_carried behind (λ t. t) certified_behind (λ n. n) (λ t. refl)
-      (λ c t i. next_behind c.phase c.declarations c.rows (terminal_of t) i) (λ c. refl)
-      (λ c i. end_behind c.phase c.declarations c.rows i) us (certifying row_wanted es xs) line tt
-      ∙ ap (result_carried behind (λ t. t) certified_behind (λ n. n) (λ t. refl)
-      (λ c t i. next_behind c.phase c.declarations c.rows (terminal_of t) i) (λ c. refl)
-      (λ c i. end_behind c.phase c.declarations c.rows i)) e
+      ∙ rest_carried following (λ t. t) certified_after (λ n. n) (λ t. refl)
+      (λ c t i. next_after c.phase c.declarations c.rows (terminal_of t) i) (λ c. refl)
+      (λ c i. end_after c.phase c.declarations c.rows i) us (certifying row_wanted es xs) line tt
+      ∙ ap (result_carried following (λ t. t) certified_after (λ n. n) (λ t. refl)
+      (λ c t i. next_after c.phase c.declarations c.rows (terminal_of t) i) (λ c. refl)
+      (λ c i. end_after c.phase c.declarations c.rows i)) e
 
 -- ---- on later lines
 

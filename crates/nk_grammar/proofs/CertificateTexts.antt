@@ -3,7 +3,7 @@ use Rattle.std.proofs.Common.{◌≡◌, ◌≤◌, ◌+◌, ℕ, List, [], ◌�
 use Rattle.std.proofs.lemmas.List.Elements.{All-tail}
 use Rattle.std.specs.Prelude.{All}
 use Rattle.nk_lex.specs.Spelling.{Lexeme, IsApart, AreSeparate, text_of, tokens_from, CutsLexemes}
-use Rattle.nk_lex.specs.declared.word.Number.{Number}
+use Rattle.nk_lex.specs.declared.ident.Number.{Number}
 use Rattle.nk_grammar.specs.Terminal.{Terminal, colon, outside, certificate_word, row_word, start_word}
 use Rattle.nk_grammar.specs.Grammar.{Pol, spell_pol}
 use Rattle.nk_grammar.specs.Answer.{terminals}
@@ -99,10 +99,10 @@ numbers_spelled line (n ∷ ns) r on =
 rows_spelled : (ws : List WrittenRow) (line : ℕ) → AreRowsOn line ws → terminals_on line (lexemes_of_rows ws) ≡ spell_rows ws
 rows_spelled [] line on = refl
 rows_spelled (written_row l n ns p ∷ ws) line on =
-    let behind : List Lexeme = lexemes_of_predicate p (lexemes_of_rows ws) in
+    let following : List Lexeme = lexemes_of_predicate p (lexemes_of_rows ws) in
     put _ _ _ _ (ap (λ k. outside (row_word k)) (sym on.0))
     (put _ _ _ _ (number_terminal line n on.1)
-    (numbers_spelled line ns behind on.2
+    (numbers_spelled line ns following on.2
     ∙ ap (λ l. spell_numbers ns ++ l) (predicate_spelled line p (lexemes_of_rows ws) (spell_rows ws) on.3 (rows_spelled ws (line + 1) on.4))
     ∙ sym (append_assoc (spell_numbers ns) (colon ∷ spell_pol p) (spell_rows ws))))
 

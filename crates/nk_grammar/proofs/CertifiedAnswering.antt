@@ -69,7 +69,7 @@ within n e = grind (arith, nat_tests)
 pub beyond : (n : ℕ) → nat_le n 256 ≡ false → 256 < n
 beyond n e = grind (arith, nat_tests)
 
--- the tokens that are left, behind tokens that were read
+-- the tokens that are left, after tokens that were read
 rest_answers : (whole rest before : List Token) (r : Certifying) → whole ≡ before ++ rest → certify_all (terminals before) first_certifying ≡ Some r → IsCertifiedShallow (terminals before)
     → IsCertifiedAnswer whole (rest_of_certified rest r (last_line 1 before))
 rest_answers whole [] before r parts read shallow = by_end (certified_at_end r) refl

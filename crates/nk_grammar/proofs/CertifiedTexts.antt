@@ -1,10 +1,10 @@
 -- Texts with a certificate: what is spelled is read, what is read is spelled, and every front goes on.
 use Rattle.std.proofs.Common.{◌≡◌, ℕ, subst, List, [], ◌∷◌, ◌++◌, false, refl, sym, ◌∙◌, ap, append_assoc, append-nil, Option, inl, inr, ◌⊎◌}
 use Rattle.std.specs.Prelude.{Some, None, option_and_then, if◌then◌else◌, map}
-use Rattle.nk_lex.specs.declared.word.Word.{Word}
-use Rattle.nk_lex.specs.declared.word.Number.{Number}
+use Rattle.nk_lex.specs.declared.ident.Ident.{Ident}
+use Rattle.nk_lex.specs.declared.ident.Number.{Number}
 use Rattle.nk_grammar.specs.declared.place.Quad.TheVariants as quad
-use Rattle.nk_grammar.specs.declared.decl.PolicyWord.{PolicyWord}
+use Rattle.nk_grammar.specs.declared.decl.PolicyKeyword.{PolicyKeyword}
 use Rattle.nk_grammar.specs.Terminal.{Terminal, name, number, tilde, opening, closing, plus_sign, semicolon, star_sign, equal, becomes, colon, fat_arrow, id_word, drop_word, dup_word, in_word, dots, outside, is_colon_terminal, field_word, tag_word, switch_word, ports_word, link_word, let_word, fabric_word, virtual_word, by_word, arrow, comma, certificate_word, row_word, start_word, no_terminal}
 use Rattle.nk_grammar.specs.Tree.{Tree}
 use Rattle.nk_grammar.specs.Grammar.{Pol, spell_pol, pol_tree, HasTree}
@@ -21,7 +21,7 @@ abbrev finish : Option Certifying → Option Certified
 finish o = option_and_then certified_at_end o
 
 -- no declaration begins with the word `certificate`
-policy_certificate : (k : PolicyWord) (w : Word) (line : ℕ) (ds : List Declaration) (o : Option Tree) → policy_done k w line ds o (outside certificate_word) ≡ None
+policy_certificate : (k : PolicyKeyword) (w : Ident) (line : ℕ) (ds : List Declaration) (o : Option Tree) → policy_done k w line ds o (outside certificate_word) ≡ None
 policy_certificate k w line ds None = refl
 policy_certificate k w line ds (Some p) = refl
 
@@ -122,7 +122,7 @@ numbers_pass line ns (m ∷ ms) ds rs r =
     numbers_pass line (ns ++ m.value ∷ []) ms ds rs r
     ∙ ap (λ x. certify_all r (certifying (numbers_read line x) ds rs)) (append_assoc ns (m.value ∷ []) (map number_value ms))
 
--- behind a row's policy the other rows are read, and the end
+-- after a row's policy the other rows are read, and the end
 rows_pass : (ws : List WrittenRow) (line : ℕ) (ns : List ℕ) (s : State) (p : Tree) (ds : List Declaration) (rs : List Row) → policy_ended s ≡ Some p
     → finish (certify_all (spell_rows ws) (certifying (in_row line ns s) ds rs)) ≡ Some (certified ds ((rs ++ row ns p line ∷ []) ++ map row_of ws))
 rows_pass [] line ns s p ds rs e = ap (certificate_ends ds rs ns line) e ∙ ap (λ x. Some (certified ds x)) (sym (append-nil (rs ++ row ns p line ∷ [])))
@@ -155,15 +155,15 @@ reads_certified ts c h = by_state (read_all (spell_file h.decls) first_reading) 
         ∙ rows_pass h.others h.line [] left.0 (pol_tree h.pred) (map declared h.decls) [] left.2
         ∙ ap (λ x. Some x) (sym h.value)
 
--- the rows that are done, behind the word `certificate`
+-- the rows that are done, after the word `certificate`
 abbrev AreRows : List Terminal → List Row → Type 0
 AreRows vs rows = (line : ℕ) × (p : Pol) × (ws : List WrittenRow) × (vs ≡ spell_certificate line p ws) × (rows ≡ rows_said line p ws)
 
--- the tokens of a row up to the colon, behind the rows that are done
+-- the tokens of a row up to the colon, after the rows that are done
 abbrev IsStartHead : ℕ → List ℕ → List Row → List Terminal → Type 0
 IsStartHead line ns rows xs = (ns ≡ []) × (rows ≡ []) × (xs ≡ outside (row_word line) ∷ outside start_word ∷ colon ∷ [])
 
--- the same for a row behind the start row
+-- the same for a row after the start row
 abbrev IsRowHead : ℕ → List ℕ → List Row → List Terminal → Type 0
 IsRowHead line ns rows xs =
     (vs : List Terminal) × AreRows vs rows × (n : Number) × (ms : List Number) × (ns ≡ n.value ∷ map number_value ms)
@@ -173,7 +173,7 @@ IsRowHead line ns rows xs =
 abbrev IsHead : ℕ → List ℕ → List Row → List Terminal → Type 0
 IsHead line ns rows xs = IsStartHead line ns rows xs ⊎ IsRowHead line ns rows xs
 
--- the tokens behind the word `certificate`
+-- the tokens after the word `certificate`
 abbrev IsCertifiedSpelled : CertifiedPhase → List Row → List Terminal → Type 0
 IsCertifiedSpelled (declaring r) rows us = ⊥
 IsCertifiedSpelled row_wanted rows us = (rows ≡ []) × (us ≡ [])
@@ -184,14 +184,14 @@ IsCertifiedSpelled (numbers_read line ns) rows us =
     (vs : List Terminal) × AreRows vs rows × (n : Number) × (ms : List Number) × (ns ≡ n.value ∷ map number_value ms) × (us ≡ vs ++ outside (row_word line) ∷ number n ∷ spell_numbers ms)
 IsCertifiedSpelled (in_row line ns s) rows us = (xs : List Terminal) × (ps : List Terminal) × (us ≡ xs ++ ps) × (run ps first_state ≡ Some s) × IsHead line ns rows xs
 
--- the tokens so far are declarations, the word, and the tokens behind it
-abbrev IsBehindWord : List Terminal → CertifiedPhase → List Declaration → List Row → Type 0
-IsBehindWord ts p ds rows = (xs : List Terminal) × (us : List Terminal) × HasDeclarations xs ds × (ts ≡ xs ++ outside certificate_word ∷ us) × IsCertifiedSpelled p rows us
+-- the tokens so far are declarations, the word, and the tokens after it
+abbrev IsAfterWord : List Terminal → CertifiedPhase → List Declaration → List Row → Type 0
+IsAfterWord ts p ds rows = (xs : List Terminal) × (us : List Terminal) × HasDeclarations xs ds × (ts ≡ xs ++ outside certificate_word ∷ us) × IsCertifiedSpelled p rows us
 
 -- the tokens so far are the front of a text with a certificate
 abbrev IsCertifiedFront : List Terminal → CertifiedPhase → List Declaration → List Row → Type 0
 IsCertifiedFront ts (declaring r) ds rows = (read_all ts first_reading ≡ Some r) × (ds ≡ []) × (rows ≡ [])
-IsCertifiedFront ts p ds rows = IsBehindWord ts p ds rows
+IsCertifiedFront ts p ds rows = IsAfterWord ts p ds rows
 
 -- the tokens of one more row
 rows_more : (ws : List WrittenRow) (w : WrittenRow) → spell_rows (ws ++ w ∷ []) ≡ spell_rows ws ++ spell_row w
@@ -214,7 +214,7 @@ one_more_row vs rows w h = (
   ap (λ x. x ++ row_of w ∷ []) h.4 ∙ ap (λ x. row [] (pol_tree h.1) h.0 ∷ x) (sym (values_more h.2 w)),
 )
 
--- a head's tokens, and a policy's behind them
+-- a head's tokens, and a policy's after them
 head_and_policy : (vs xs ps qs : List Terminal) (t u : Terminal) → (vs ++ t ∷ u ∷ (xs ++ colon ∷ [])) ++ ps ≡ vs ++ t ∷ u ∷ (xs ++ colon ∷ ps)
 head_and_policy vs xs ps qs t u = simp append_assoc
 
@@ -416,13 +416,13 @@ certificate_leads (outside (row_word l)) ts o o' e f = f
 certificate_leads (outside start_word) ts o o' e f = f
 certificate_leads (outside no_terminal) ts o o' e f = f
 
--- the next token behind the word `certificate`
+-- the next token after the word `certificate`
 same_text : (xs ts us vs : List Terminal) (t : Terminal) → ts ≡ xs ++ outside certificate_word ∷ us → us ++ t ∷ [] ≡ vs → ts ++ t ∷ [] ≡ xs ++ outside certificate_word ∷ vs
 same_text xs ts us vs t e f = ap (λ x. x ++ t ∷ []) e ∙ append_assoc xs (outside certificate_word ∷ us) (t ∷ []) ∙ ap (λ x. xs ++ outside certificate_word ∷ x) f
 
 -- the tokens so far and one more
-behind : (us xs : List Terminal) (t u : Terminal) → us ≡ xs → t ≡ u → us ++ t ∷ [] ≡ xs ++ u ∷ []
-behind us xs t u e f = rw (e, f)
+following : (us xs : List Terminal) (t u : Terminal) → us ≡ xs → t ≡ u → us ++ t ∷ [] ≡ xs ++ u ∷ []
+following us xs t u e f = rw (e, f)
 
 -- the tokens of one more number
 numbers_more : (ms : List Number) (n : Number) → spell_numbers (ms ++ n ∷ []) ≡ spell_numbers ms ++ number n ∷ []
@@ -458,7 +458,7 @@ policy_leads ds rows line ns s xs us vs ps ts t d e f g h = by_step (step s t) r
     by_end (Some p) k =
         let done = row_complete line ns rows vs ps p h (reads_only ps p (ap (option_and_then policy_ended) g ∙ k)) in
         row_leads t (ts ++ t ∷ []) (λ l. certifying (number_wanted l) ds (rows ++ row ns p line ∷ []))
-        (λ l k. (xs, us ++ t ∷ [], d, same_text xs ts us (us ++ t ∷ []) t e refl, (vs ++ ps, done, behind us (vs ++ ps) t (outside (row_word l)) f k)))
+        (λ l k. (xs, us ++ t ∷ [], d, same_text xs ts us (us ++ t ∷ []) t e refl, (vs ++ ps, done, following us (vs ++ ps) t (outside (row_word l)) f k)))
 
     by_step : (o : Option State) → step s t ≡ o → CertifiedLeads (row_on ds rows ns line o (policy_ended s) t) (ts ++ t ∷ [])
     by_step (Some s') k = (
@@ -483,10 +483,10 @@ front_leads (declaring r) ds rows ts t h =
     (λ e. word_leads r (declarations_at_end r) rows ts t refl h.0 h.2 e) (declaring_leads r (read_one r t) rows ts t refl h.0 h.2)
 front_leads row_wanted ds rows ts t h =
     row_leads t (ts ++ t ∷ []) (λ l. certifying (start_wanted l) ds rows)
-    (λ l e. (h.0, h.1 ++ t ∷ [], h.2, same_text h.0 ts h.1 (h.1 ++ t ∷ []) t h.3 refl, (h.4.0, behind h.1 [] t (outside (row_word l)) h.4.1 e)))
+    (λ l e. (h.0, h.1 ++ t ∷ [], h.2, same_text h.0 ts h.1 (h.1 ++ t ∷ []) t h.3 refl, (h.4.0, following h.1 [] t (outside (row_word l)) h.4.1 e)))
 front_leads (start_wanted line) ds rows ts t h =
     start_leads t (ts ++ t ∷ []) (certifying (start_read line) ds rows)
-    (λ e. (h.0, h.1 ++ t ∷ [], h.2, same_text h.0 ts h.1 (h.1 ++ t ∷ []) t h.3 refl, (h.4.0, behind h.1 (outside (row_word line) ∷ []) t (outside start_word) h.4.1 e)))
+    (λ e. (h.0, h.1 ++ t ∷ [], h.2, same_text h.0 ts h.1 (h.1 ++ t ∷ []) t h.3 refl, (h.4.0, following h.1 (outside (row_word line) ∷ []) t (outside start_word) h.4.1 e)))
 front_leads (start_read line) ds rows ts t h =
     colon_leads t (ts ++ t ∷ []) (certifying (in_row line [] first_state) ds rows) None
     (λ e. (
@@ -494,7 +494,7 @@ front_leads (start_read line) ds rows ts t h =
       h.1 ++ t ∷ [],
       h.2,
       same_text h.0 ts h.1 (h.1 ++ t ∷ []) t h.3 refl,
-      (h.1 ++ t ∷ [], [], sym (append-nil (h.1 ++ t ∷ [])), refl, inl (refl, h.4.0, behind h.1 (outside (row_word line) ∷ outside start_word ∷ []) t colon h.4.1 e)),
+      (h.1 ++ t ∷ [], [], sym (append-nil (h.1 ++ t ∷ [])), refl, inl (refl, h.4.0, following h.1 (outside (row_word line) ∷ outside start_word ∷ []) t colon h.4.1 e)),
     )) tt
 front_leads (number_wanted line) ds rows ts t h =
     number_leads t (ts ++ t ∷ []) (λ n. certifying (numbers_read line (n.value ∷ [])) ds rows)
@@ -503,7 +503,7 @@ front_leads (number_wanted line) ds rows ts t h =
       h.1 ++ t ∷ [],
       h.2,
       same_text h.0 ts h.1 (h.1 ++ t ∷ []) t h.3 refl,
-      (h.4.0, h.4.1, n, [], refl, behind h.1 (h.4.0 ++ outside (row_word line) ∷ []) t (number n) h.4.2 e ∙ append_assoc h.4.0 (outside (row_word line) ∷ []) (number n ∷ [])),
+      (h.4.0, h.4.1, n, [], refl, following h.1 (h.4.0 ++ outside (row_word line) ∷ []) t (number n) h.4.2 e ∙ append_assoc h.4.0 (outside (row_word line) ∷ []) (number n ∷ [])),
     ))
 front_leads (numbers_read line ns) ds rows ts t h =
     let k : IsCertifiedSpelled (numbers_read line ns) rows h.1 = h.4 in
@@ -518,7 +518,7 @@ front_leads (numbers_read line ns) ds rows ts t h =
         [],
         sym (append-nil (h.1 ++ t ∷ [])),
         refl,
-        inr (k.0, k.1, k.2, k.3, k.4, behind h.1 (k.0 ++ outside (row_word line) ∷ number k.2 ∷ spell_numbers k.3) t colon k.5 e ∙ append_assoc k.0 (outside (row_word line) ∷ number k.2 ∷ spell_numbers k.3) (colon ∷ [])),
+        inr (k.0, k.1, k.2, k.3, k.4, following h.1 (k.0 ++ outside (row_word line) ∷ number k.2 ∷ spell_numbers k.3) t colon k.5 e ∙ append_assoc k.0 (outside (row_word line) ∷ number k.2 ∷ spell_numbers k.3) (colon ∷ [])),
       ),
     ))
     (number_leads t (ts ++ t ∷ []) (λ m. certifying (numbers_read line (ns ++ m.value ∷ [])) ds rows)
@@ -533,7 +533,7 @@ front_leads (numbers_read line ns) ds rows ts t h =
         k.2,
         k.3 ++ m ∷ [],
         ap (λ x. x ++ m.value ∷ []) k.4 ∙ ap (λ x. k.2.value ∷ x) (sym (number_values_more k.3 m)),
-        behind h.1 (k.0 ++ outside (row_word line) ∷ number k.2 ∷ spell_numbers k.3) t (number m) k.5 e
+        following h.1 (k.0 ++ outside (row_word line) ∷ number k.2 ∷ spell_numbers k.3) t (number m) k.5 e
             ∙ append_assoc k.0 (outside (row_word line) ∷ number k.2 ∷ spell_numbers k.3) (number m ∷ [])
             ∙ ap (λ x. k.0 ++ outside (row_word line) ∷ number k.2 ∷ x) (sym (numbers_more k.3 m)),
       ),
@@ -581,7 +581,7 @@ completed xs ts us more ds rows d e r =
 first_row : (line : ℕ) (us more : List Terminal) → us ++ more ≡ spell_certificate line id_pol [] → AreRows (us ++ more) (rows_said line id_pol [])
 first_row line us more e = (line, id_pol, [], e, refl)
 
--- equal tokens, and the same behind them
+-- equal tokens, and the same after them
 goes_on_with : (us xs more : List Terminal) → us ≡ xs → us ++ more ≡ xs ++ more
 goes_on_with us xs more e = ap (λ x. x ++ more) e
 

@@ -4,16 +4,16 @@ use Rattle.std.proofs.lemmas.List.Elements.{All-nil, All-cons, All-push, All-tai
 use Rattle.std.specs.Prelude.{Some, None, Ok, Err, All, fold, option_map, if◌then◌else◌, nat_le, ⊤}
 use Rattle.nk_lex.specs.Lex.{largest}
 use Rattle.nk_lex.specs.declared.token.Token.{Token}
-use Rattle.nk_lex.specs.declared.word.Word.{Word}
-use Rattle.nk_lex.specs.declared.word.Number.{Number}
+use Rattle.nk_lex.specs.declared.ident.Ident.{Ident}
+use Rattle.nk_lex.specs.declared.ident.Number.{Number}
 use Rattle.nk_grammar.specs.declared.place.QuadNext.{QuadNext}
 use Rattle.nk_grammar.specs.declared.place.QuadNext.TheVariants as next
 use Rattle.nk_grammar.specs.declared.decl.Completed.{Completed}
 use Rattle.nk_grammar.specs.declared.decl.Completed.TheVariants as completed
-use Rattle.nk_grammar.specs.declared.decl.PolicyWord.{PolicyWord}
-use Rattle.nk_grammar.specs.declared.decl.PolicyWord.TheVariants as policies
-use Rattle.nk_grammar.specs.declared.decl.LinkWord.{LinkWord}
-use Rattle.nk_grammar.specs.declared.decl.LinkWord.TheVariants as links
+use Rattle.nk_grammar.specs.declared.decl.PolicyKeyword.{PolicyKeyword}
+use Rattle.nk_grammar.specs.declared.decl.PolicyKeyword.TheVariants as policies
+use Rattle.nk_grammar.specs.declared.decl.LinkKeyword.{LinkKeyword}
+use Rattle.nk_grammar.specs.declared.decl.LinkKeyword.TheVariants as links
 use Rattle.nk_grammar.specs.declared.decl.Naming.{Naming}
 use Rattle.nk_grammar.specs.declared.decl.Naming.TheVariants as naming
 use Rattle.nk_grammar.specs.declared.decl.GrammarError.TheVariants as error
@@ -135,7 +135,7 @@ by_number : (o : Option Number) (f : Number → Reading) → ((n : Number) → o
 by_number None f h = tt
 by_number (Some n) f h = h n refl
 
-by_its_name : (o : Option Word) (f : Word → Reading) → ((w : Word) → All IsWritten (f w).declarations) → DeclaresWritten (by_name o None (λ w. Some (f w)))
+by_its_name : (o : Option Ident) (f : Ident → Reading) → ((w : Ident) → All IsWritten (f w).declarations) → DeclaresWritten (by_name o None (λ w. Some (f w)))
 by_its_name None f h = tt
 by_its_name (Some w) f h = h w
 
@@ -180,24 +180,24 @@ begun ds dup_word h = tt
 begun ds in_word h = tt
 begun ds dots h = tt
 
-named_written : (ds : List Declaration) (k : Naming) (w : Word) → All IsWritten ds → All IsWritten (named k w ds).declarations
+named_written : (ds : List Declaration) (k : Naming) (w : Ident) → All IsWritten ds → All IsWritten (named k w ds).declarations
 named_written ds naming.Field w h = h
 named_written ds naming.Tag w h = pushed ds (tag w) h tt
 named_written ds (naming.Policy k line) w h = h
 named_written ds (naming.Virtual a m b n) w h = pushed ds (virtual_link a m b n w) h tt
 
-link_written : (ds : List Declaration) (k : LinkWord) (q : QuadNext) → All IsWritten ds → DeclaresWritten (link_on k ds q)
+link_written : (ds : List Declaration) (k : LinkKeyword) (q : QuadNext) → All IsWritten ds → DeclaresWritten (link_on k ds q)
 link_written ds k next.Refused h = tt
 link_written ds k (next.Going q) h = h
 link_written ds links.Link (next.Full a m b n) h = pushed ds (declared_link a m b n) h tt
 link_written ds links.Virtual (next.Full a m b n) h = h
 
 -- one more policy
-policy_pushed : (ds : List Declaration) (k : PolicyWord) (w : Word) (p : Tree) (line : ℕ) → All IsWritten ds → All IsWritten (one_more ds (defined k w p line))
+policy_pushed : (ds : List Declaration) (k : PolicyKeyword) (w : Ident) (p : Tree) (line : ℕ) → All IsWritten ds → All IsWritten (one_more ds (defined k w p line))
 policy_pushed ds policies.Let w p line h = pushed ds (definition w p line) h tt
 policy_pushed ds policies.Fabric w p line h = pushed ds (fabric w p line) h tt
 
-policy : (ds : List Declaration) (k : PolicyWord) (w : Word) (line : ℕ) (o : Option State) (e : Option Tree) (t : Terminal) → All IsWritten ds
+policy : (ds : List Declaration) (k : PolicyKeyword) (w : Ident) (line : ℕ) (o : Option State) (e : Option Tree) (t : Terminal) → All IsWritten ds
     → DeclaresWritten (policy_on k w line ds o e t)
 policy ds k w line (Some s) e t h = h
 policy ds k w line None None t h = tt

@@ -14,7 +14,7 @@ use Rattle.nk_lex.specs.Spelling.{IsName, NamesAreNames}
 use Rattle.nk_grammar.specs.Terminal.{Terminal, name, number, terminal_from}
 use Rattle.nk_grammar.specs.File.{Declaration, Written, written_field, written_tag, written_switch, written_declared_link, written_let, written_fabric, written_virtual, spell_declaration, spell_file, declared}
 use Rattle.nk_grammar.specs.FileMachine.{file_of}
-use Rattle.nk_grammar.specs.Answer.{terminals, IsAnswer}
+use Rattle.nk_grammar.specs.Answer.{terminals, IsParse}
 use Rattle.nk_grammar.specs.Fields.{IsFieldOfText}
 use Rattle.nk_grammar.proofs.Answering.{answers}
 
@@ -38,20 +38,20 @@ terminals_fit : (ts : List Token) → AllByRecursion IsOfText ts → AllByRecurs
 terminals_fit [] h = tt
 terminals_fit (t ∷ ts) h = (terminal_fits t.kind t.line t.value t.text h.0.0 h.0.1, terminals_fit ts h.1)
 
--- what holds of all holds of those behind
-behind : (P : Terminal → Type 0) (xs ys : List Terminal) → AllByRecursion P (xs ++ ys) → AllByRecursion P ys
-behind P [] ys h = h
-behind P (x ∷ xs) ys h = behind P xs ys h.1
+-- what holds of all holds of those after
+following : (P : Terminal → Type 0) (xs ys : List Terminal) → AllByRecursion P (xs ++ ys) → AllByRecursion P ys
+following P [] ys h = h
+following P (x ∷ xs) ys h = following P xs ys h.1
 
 fields_fit : (ws : List Written) → AllByRecursion IsTerminalOfText (spell_file ws) → AllByRecursion IsFieldOfText (map declared ws)
 fields_fit [] h = tt
 fields_fit (written_field w n ∷ ws) h = ((h.1.0, h.1.1.0), fields_fit ws h.1.1.1)
-fields_fit (written_tag w ∷ ws) h = (tt, fields_fit ws (behind IsTerminalOfText (spell_declaration (written_tag w)) (spell_file ws) h))
-fields_fit (written_switch n p ps ∷ ws) h = (tt, fields_fit ws (behind IsTerminalOfText (spell_declaration (written_switch n p ps)) (spell_file ws) h))
-fields_fit (written_declared_link a m b n ∷ ws) h = (tt, fields_fit ws (behind IsTerminalOfText (spell_declaration (written_declared_link a m b n)) (spell_file ws) h))
-fields_fit (written_let line w p ∷ ws) h = (tt, fields_fit ws (behind IsTerminalOfText (spell_declaration (written_let line w p)) (spell_file ws) h))
-fields_fit (written_fabric line w p ∷ ws) h = (tt, fields_fit ws (behind IsTerminalOfText (spell_declaration (written_fabric line w p)) (spell_file ws) h))
-fields_fit (written_virtual a m b n w ∷ ws) h = (tt, fields_fit ws (behind IsTerminalOfText (spell_declaration (written_virtual a m b n w)) (spell_file ws) h))
+fields_fit (written_tag w ∷ ws) h = (tt, fields_fit ws (following IsTerminalOfText (spell_declaration (written_tag w)) (spell_file ws) h))
+fields_fit (written_switch n p ps ∷ ws) h = (tt, fields_fit ws (following IsTerminalOfText (spell_declaration (written_switch n p ps)) (spell_file ws) h))
+fields_fit (written_declared_link a m b n ∷ ws) h = (tt, fields_fit ws (following IsTerminalOfText (spell_declaration (written_declared_link a m b n)) (spell_file ws) h))
+fields_fit (written_let line w p ∷ ws) h = (tt, fields_fit ws (following IsTerminalOfText (spell_declaration (written_let line w p)) (spell_file ws) h))
+fields_fit (written_fabric line w p ∷ ws) h = (tt, fields_fit ws (following IsTerminalOfText (spell_declaration (written_fabric line w p)) (spell_file ws) h))
+fields_fit (written_virtual a m b n w ∷ ws) h = (tt, fields_fit ws (following IsTerminalOfText (spell_declaration (written_virtual a m b n w)) (spell_file ws) h))
 
 -- the tokens of a text without fault are those before its fault
 all_tokens : (ts us : List Token) (o : Option LexError) → answer_with us o ≡ Ok ts → us ≡ ts
@@ -66,7 +66,7 @@ pub declares_fields : NamesAreNames → ValuesAreSmall → (text : List ℕ) (ts
 declares_fields names values text ts ds cut read =
     let all : All IsOfText ts = subst (All IsOfText) (all_tokens ts (scan text 0 1 0).0 (scan text 0 1 0).1 cut)
     (λ k d lt. (names text k d lt, values text k d lt)) in
-    let answer : IsAnswer ts (Ok ds) = subst (IsAnswer ts) read (answers ts) in
+    let answer : IsParse ts (Ok ds) = subst (IsParse ts) read (answers ts) in
     All-from_recursion IsFieldOfText ds
     (subst (AllByRecursion IsFieldOfText) (sym answer.0.2)
     (fields_fit answer.0.0 (subst (AllByRecursion IsTerminalOfText) answer.0.1 (terminals_fit ts (recursion_from_All IsOfText ts all)))))

@@ -1,8 +1,8 @@
 -- The front of a policy: what is done, and what is open.
 use Rattle.std.proofs.Common.{◌≡◌, ℕ, subst, List, [], ◌∷◌, ◌++◌, Bool, true, false, refl, sym, ◌∙◌, ap, append_assoc, append-nil, Option}
 use Rattle.std.specs.Prelude.{Some, None, option_and_then, option_map, if◌then◌else◌}
-use Rattle.nk_lex.specs.declared.word.Word.{Word}
-use Rattle.nk_lex.specs.declared.word.Number.{Number}
+use Rattle.nk_lex.specs.declared.ident.Ident.{Ident}
+use Rattle.nk_lex.specs.declared.ident.Number.{Number}
 use Rattle.nk_grammar.specs.declared.place.Place.{Place}
 use Rattle.nk_grammar.specs.declared.place.Place.TheVariants as place
 use Rattle.nk_grammar.specs.declared.place.Quad.{Quad}
@@ -17,7 +17,7 @@ use Rattle.nk_grammar.proofs.Spelled.{has_star, one_star, reads, step_atom}
 use Rattle.nk_grammar.proofs.Links.{spell_quad, IsQuadSpelledWith, quad_spell}
 
 mutual
-  -- where an atom is wanted: behind terms and factors, or behind a `~`
+  -- where an atom is wanted: after terms and factors, or after a `~`
   pub data Before : Type 0 where
     layer : Outer → Option Pol → Option Term → Before
     negated : Before → (line : ℕ) → Before
@@ -30,12 +30,12 @@ mutual
 -- the front: an atom is wanted, a part of one stands there, or a factor does
 pub data Front : Type 0 where
   wants : Before → Front
-  named : Before → Word → Front
-  tested : Before → Word → Front
-  ranged : Before → Word → Front
-  ranged_from : Before → Word → (low : Number) → Front
-  ranged_to : Before → Word → (low : Number) → Front
-  assigned : Before → Word → Front
+  named : Before → Ident → Front
+  tested : Before → Ident → Front
+  ranged : Before → Ident → Front
+  ranged_from : Before → Ident → (low : Number) → Front
+  ranged_to : Before → Ident → (low : Number) → Front
+  assigned : Before → Ident → Front
   partly_linked : Before → Quad → Front
   stands : Outer → Option Pol → Option Term → Factor → Front
 
@@ -122,7 +122,7 @@ abbrev fill : Before → Atom → Front
 fill (layer o sp st) a = stands o sp st (plain a)
 fill (negated c line) a = fill c (written_not line a)
 
--- an atom ends behind terms and factors
+-- an atom ends after terms and factors
 fill_outer : (o : Outer) (t : Tree) (ts us : Trees)
     → atom_ended t (outer_frames o) ts us ≡ state (place.After false) (outer_frames o) ts (with_part us t)
 fill_outer outermost t ts us = refl
@@ -134,7 +134,7 @@ fill_state : (c : Before) (a : Atom)
 fill_state (layer o sp st) a = sym (fill_outer o (atom_tree a) (done_terms sp) (done_factors st))
 fill_state (negated c line) a = fill_state c (written_not line a)
 
--- an atom's tokens stand behind the front's
+-- an atom's tokens stand after the front's
 fill_spell : (c : Before) (a : Atom) → spell_front (fill c a) ≡ spell_before c ++ spell_atom a
 fill_spell (layer o sp st) a = refl
 fill_spell (negated c line) a = fill_spell c (written_not line a) ∙ sym (append_assoc (spell_before c) (tilde line ∷ []) (spell_atom a))
@@ -199,7 +199,7 @@ next_standing o sp st f star_sign = Some (stands o sp st (starred f))
 next_standing o sp st f closing = closed o (all_of sp st f)
 next_standing o sp st f t = None
 
--- one more token behind a factor
+-- one more token after a factor
 abbrev next_done : Front → Terminal → Option Front
 next_done (stands o sp st f) t = next_standing o sp st f t
 next_done p t = None
@@ -221,7 +221,7 @@ next_linked c next.Refused = None
 next_linked c (next.Going q) = Some (partly_linked c q)
 next_linked c (next.Full a m b n) = Some (fill c (written_link a m b n))
 
--- the front behind one more token
+-- the front after one more token
 abbrev next_front : Front → Terminal → Option Front
 next_front (wants c) t = next_wanted c t
 next_front (named c w) t =
@@ -322,7 +322,7 @@ number_state in_word g h e = refl
 number_state dots g h e = refl
 number_state (outside z) g h e = refl
 
--- the machine goes on behind an atom alike
+-- the machine goes on after an atom alike
 done_state : (c : Before) (a : Atom) (t : Terminal)
     → step (state_of (fill c a)) t ≡ option_map state_of (next_done (fill c a) t)
 done_state (layer o sp st) a t = standing_state o sp st (plain a) t
@@ -351,7 +351,7 @@ next_state (assigned c w) t = number_state t (λ n. atom_ended (assign w n) (fra
 next_state (partly_linked c q) t = linked_state c (quad_step true q t)
 next_state (stands o sp st f) t = standing_state o sp st f t
 
--- the next front is spelled with the token behind it
+-- the next front is spelled with the token after it
 abbrev IsSpelledWith : List Terminal → Terminal → Option Front → Type 0
 IsSpelledWith ts t None = Unit {0}
 IsSpelledWith ts t (Some q) = spell_front q ≡ ts ++ t ∷ []
@@ -370,9 +370,9 @@ plus_spell : (sp : Option Pol) (st : Option Term) (f : Factor)
 plus_spell sp st f = append-nil _ ∙ ap (λ x. x ++ plus_sign ∷ []) (sym (whole sp st f))
 
 -- the tokens so far and one more
-behind : (us xs ys : List Terminal) (t : Terminal) (zs : List Terminal) → zs ≡ (xs ++ ys) ++ t ∷ []
+following : (us xs ys : List Terminal) (t : Terminal) (zs : List Terminal) → zs ≡ (xs ++ ys) ++ t ∷ []
     → us ++ zs ≡ ((us ++ xs) ++ ys) ++ t ∷ []
-behind us xs ys t zs e = rw e (simp append_assoc)
+following us xs ys t zs e = rw e (simp append_assoc)
 
 -- the tokens with a closing parenthesis
 closed_spell : (o : Outer) (sp : Option Pol) (st : Option Term) (f : Factor)
@@ -382,9 +382,9 @@ closed_spell (in_group c) sp st f =
     fill_spell c (paren (all_of sp st f))
     ∙ ap (λ x. spell_before c ++ opening ∷ (x ++ closing ∷ [])) (sym (whole sp st f))
     ∙ sym (append_assoc (spell_before c) (opening ∷ []) ((pre sp st ++ spell_factor f) ++ closing ∷ []))
-    ∙ behind (spell_before c ++ opening ∷ []) (pre sp st) (spell_factor f) closing _ refl
+    ∙ following (spell_before c ++ opening ∷ []) (pre sp st) (spell_factor f) closing _ refl
 
--- behind a factor, the next front has the token
+-- after a factor, the next front has the token
 standing_spell : (o : Outer) (sp : Option Pol) (st : Option Term) (f : Factor) (t : Terminal)
     → IsSpelledWith ((spell_outer o ++ pre sp st) ++ spell_factor f) t (next_standing o sp st f t)
 standing_spell o sp st f (name x) = tt
@@ -392,8 +392,8 @@ standing_spell o sp st f (number x) = tt
 standing_spell o sp st f (tilde l) = tt
 standing_spell o sp st f opening = tt
 standing_spell o sp st f closing = closed_spell o sp st f
-standing_spell o sp st f plus_sign = behind (spell_outer o) (pre sp st) (spell_factor f) plus_sign _ (plus_spell sp st f)
-standing_spell o sp st f semicolon = behind (spell_outer o) (pre sp st) (spell_factor f) semicolon _ (semi_spell sp st f)
+standing_spell o sp st f plus_sign = following (spell_outer o) (pre sp st) (spell_factor f) plus_sign _ (plus_spell sp st f)
+standing_spell o sp st f semicolon = following (spell_outer o) (pre sp st) (spell_factor f) semicolon _ (semi_spell sp st f)
 standing_spell o sp st f star_sign = sym (append_assoc (spell_outer o ++ pre sp st) (spell_factor f) (star_sign ∷ []))
 standing_spell o sp st f equal = tt
 standing_spell o sp st f becomes = tt
@@ -457,14 +457,14 @@ linked_spell c ts t next.Refused e = tt
 linked_spell c ts t (next.Going q) e = ap (λ x. spell_before c ++ x) e ∙ sym (append_assoc (spell_before c) ts (t ∷ []))
 linked_spell c ts t (next.Full a m b n) e = fill_spell c (written_link a m b n) ∙ ap (λ x. spell_before c ++ x) e ∙ sym (append_assoc (spell_before c) ts (t ∷ []))
 
--- behind an atom, the next front has the token
+-- after an atom, the next front has the token
 done_spell : (c : Before) (a : Atom) (t : Terminal)
     → IsSpelledWith (spell_front (fill c a)) t (next_done (fill c a) t)
 done_spell (layer o sp st) a t = standing_spell o sp st (plain a) t
 done_spell (negated c line) a t = done_spell c (written_not line a) t
 
--- behind a name, the next front has the token
-named_spell : (c : Before) (w : Word) (t : Terminal)
+-- after a name, the next front has the token
+named_spell : (c : Before) (w : Ident) (t : Terminal)
     → IsSpelledWith (spell_before c ++ name w ∷ []) t (next_done (fill c (written_name w)) t)
 named_spell c w t = subst (λ ts. IsSpelledWith ts t (next_done (fill c (written_name w)) t)) (fill_spell c (written_name w)) (done_spell c (written_name w) t)
 
@@ -692,7 +692,7 @@ stops ts e g =
 some_same : {A : Type 0} (x y : A) → ◌≡◌ {A = Option A} (Some x) (Some y) → x ≡ y
 some_same x y e = cc
 
--- a front that ends behind a factor is a policy
+-- a front that ends after a factor is a policy
 standing_ends : (o : Outer) (sp : Option Pol) (st : Option Term) (f : Factor) (t : Tree)
     → done (state_of (stands o sp st f)) ≡ Some t → HasTree (spell_front (stands o sp st f)) t
 standing_ends outermost sp st f t e =
@@ -700,7 +700,7 @@ standing_ends outermost sp st f t e =
     (all_of sp st f, whole sp st f, sym same)
 standing_ends (in_group c) sp st f t e = absurd (none_some t e)
 
--- a front that ends behind an atom is a policy
+-- a front that ends after an atom is a policy
 filled_ends : (c : Before) (a : Atom) (t : Tree) → done (state_of (fill c a)) ≡ Some t
     → HasTree (spell_front (fill c a)) t
 filled_ends (layer o sp st) a t e = standing_ends o sp st (plain a) t e

@@ -4,8 +4,8 @@ use Rattle.std.specs.Prelude.{⊤}
 use Rattle.nk_lex.specs.declared.kind.Kind.TheVariants as kind
 use Rattle.nk_lex.specs.Kinds.{kind_of_name}
 use Rattle.nk_lex.specs.Spelling.{Sign, Lexeme, is_colon, begins_with_equal, IsApart, AreSeparate, sign_bytes, sign_kind, text_of, tokens_from, CutsLexemes}
-use Rattle.nk_lex.specs.declared.word.Word.{Word}
-use Rattle.nk_lex.specs.declared.word.Number.{Number}
+use Rattle.nk_lex.specs.declared.ident.Ident.{Ident}
+use Rattle.nk_lex.specs.declared.ident.Number.{Number}
 use Rattle.nk_grammar.specs.Terminal.{Terminal, name, number, equal, outside, let_word, plus_sign, semicolon, star_sign, opening, closing, terminal_from}
 use Rattle.nk_grammar.specs.Grammar.{Pol, Term, Factor, Atom, one_term, plus, one_factor, semi, plain, starred, written_not, written_id, written_drop, written_dup, written_name, written_test, written_range, written_set, written_link, paren, spell_pol, spell_term, spell_factor, spell_atom}
 use Rattle.nk_grammar.specs.Answer.{terminals}
@@ -15,7 +15,7 @@ use Rattle.nk_grammar.proofs.Nested.{lets_read}
 
 -- ---- lexemes stand apart
 
--- what may stand behind a policy: no word and no number
+-- what may stand after a policy: no word and no number
 abbrev EndsPolicy : List Lexeme → Type 0
 EndsPolicy [] = ⊤
 EndsPolicy (Lexeme.space ∷ ys) = ⊤
@@ -116,7 +116,7 @@ of_tokens (Lexeme.numeral n ∷ xs) line at = ap (λ l. terminal_from kind.Numbe
 of_tokens (Lexeme.sign s ∷ xs) line at = ap (λ l. terminal_from (sign_kind s) line 0 [] ∷ l) (of_tokens xs line (at + length (sign_bytes s)))
 
 -- a name's terminal
-name_terminal : (line : ℕ) (w : Word) → IsWordOn line w → terminal_from (kind_of_name w.text) line 0 w.text ≡ name w
+name_terminal : (line : ℕ) (w : Ident) → IsWordOn line w → terminal_from (kind_of_name w.text) line 0 w.text ≡ name w
 name_terminal line w on =
     ap (λ k. terminal_from k line 0 w.text) on.0.1 ∙ ap (λ l. name (record { text = w.text; line = l })) (sym on.1)
 
@@ -124,7 +124,7 @@ name_terminal line w on =
 pub number_terminal : (line : ℕ) (n : Number) → IsNumberOn line n → terminal_from kind.Number line n.value [] ≡ number n
 number_terminal line n on = ap (λ l. number (record { value = n.value; line = l })) (sym on.1)
 
--- terminals one behind the other
+-- terminals one after the other
 pub put : (x y : Terminal) (xs ys : List Terminal) → x ≡ y → xs ≡ ys → x ∷ xs ≡ y ∷ ys
 put x y xs ys e f = ap (λ z. z ∷ xs) e ∙ ap (λ l. y ∷ l) f
 
@@ -184,7 +184,7 @@ module _ (line : ℕ) where
 -- ---- a `let`
 
 -- the lexemes of a `let` stand apart
-let_apart : (w : Word) (p : Pol) → IsWordOn 1 w → IsPolOn 1 p → AreSeparate (lexemes_of_let w p)
+let_apart : (w : Ident) (p : Pol) → IsWordOn 1 w → IsPolOn 1 p → AreSeparate (lexemes_of_let w p)
 let_apart w p on all = (
   (refl, refl),
   refl,
@@ -212,7 +212,7 @@ let_apart w p on all = (
 )
 
 -- and their tokens spell it
-let_spelled : (w : Word) (p : Pol) → IsWordOn 1 w → IsPolOn 1 p
+let_spelled : (w : Ident) (p : Pol) → IsWordOn 1 w → IsPolOn 1 p
     → terminals (tokens_from 1 0 (lexemes_of_let w p)) ≡ outside (let_word 1) ∷ name w ∷ equal ∷ spell_pol p
 let_spelled w p on all =
     of_tokens (lexemes_of_let w p) 1 0
@@ -221,7 +221,7 @@ let_spelled w p on all =
     (ap (terminals_on 1) (sym (append-nil (lexemes_of_pol p))) ∙ pol_spelled 1 p [] all ∙ append-nil (spell_pol p))
 
 -- so its text is read as it, where the lexemes of a text are cut as they are spelled
-pub let_texts_read : CutsLexemes → (w : Word) (p : Pol) → IsWordOn 1 w → IsPolOn 1 p → nesting_of_pol p ≤ 256
+pub let_texts_read : CutsLexemes → (w : Ident) (p : Pol) → IsWordOn 1 w → IsPolOn 1 p → nesting_of_pol p ≤ 256
     → IsLetText (text_of (lexemes_of_let w p)) w p
 let_texts_read cuts w p on all le = record {
   tokens = tokens_from 1 0 (lexemes_of_let w p);

@@ -4,7 +4,7 @@ pub mod Fronts
 pub mod Trees
 pub mod Stack
 pub mod Files
-pub mod Behind
+pub mod After
 pub mod Progress
 pub mod Texts
 pub mod Answering

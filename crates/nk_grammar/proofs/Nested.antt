@@ -1,11 +1,11 @@
--- Behind each front of a spelling no more is open than what is open before it and what nests in it; so a `let` that isn't
+-- After each front of a spelling no more is open than what is open before it and what nests in it; so a `let` that isn't
 -- nested too deep is read.
 use Rattle.std.proofs.Common.{◌≡◌, ◌≤◌, ◌+◌, ℕ, List, [], ◌∷◌, ◌++◌, true, length, refl, sym, subst, ◌∙◌, ap, append_assoc, append-nil, arith, Option, cond}
 use Rattle.std.specs.Prelude.{Some, None, Ok, Err, IfSome, option_and_then, option_map}
 use Rattle.nk_lex.specs.declared.token.Token.{Token}
-use Rattle.nk_lex.specs.declared.word.Word.{Word}
+use Rattle.nk_lex.specs.declared.ident.Ident.{Ident}
 use Rattle.nk_lex.specs.Faults.{and_then}
-use Rattle.nk_grammar.specs.declared.decl.PolicyWord.TheVariants as policies
+use Rattle.nk_grammar.specs.declared.decl.PolicyKeyword.TheVariants as policies
 use Rattle.nk_grammar.specs.declared.decl.Naming.TheVariants as naming
 use Rattle.nk_grammar.specs.declared.decl.GrammarError.TheVariants as error
 use Rattle.nk_grammar.specs.declared.place.Place.TheVariants as place
@@ -20,14 +20,14 @@ use Rattle.nk_grammar.specs.Nesting.{nesting_of_pol, nesting_of_term, nesting_of
 use Rattle.nk_grammar.proofs.Spelled.{IsFree, has_star, term_has_star, pol_has_star, early, late, early_late, one_star, step_atom, reads_tree}
 use Rattle.nk_grammar.proofs.Files.{within}
 
--- behind each front of the tokens at most n are open
+-- after each front of the tokens at most n are open
 abbrev pub Low : ℕ → List Terminal → State → Type 0
 Low n [] s = length s.frames ≤ n
 Low n (t ∷ ts) s = (length s.frames ≤ n) × IfSome (step s t) (λ s'. Low n ts s')
 
 module _ (n : ℕ) where
-  -- a name with no sign of its own behind it is an atom
-  named_low : (w : Word) (fs : List Open) (ts us : Trees) (r : List Terminal) → IsFree r → length fs ≤ n
+  -- a name with no sign of its own after it is an atom
+  named_low : (w : Ident) (fs : List Open) (ts us : Trees) (r : List Terminal) → IsFree r → length fs ≤ n
       → Low n r (atom_ended (name_of w) fs ts us) → Low n r (state (place.Named w) fs ts us)
   named_low w fs ts us [] free le low = le
   named_low w fs ts us (x ∷ r) free le low =
@@ -106,7 +106,7 @@ no_tree : {A : Type 0} (t : Tree) → ◌≡◌ {A = Option Tree} None (Some t) 
 no_tree t e = absurd cc
 
 -- the tokens of a policy that isn't nested too deep
-policy_read : (ts : List Token) (s : State) (w : Word) (line at : ℕ) (t : Tree) → Low 256 (terminals ts) s
+policy_read : (ts : List Token) (s : State) (w : Ident) (line at : ℕ) (t : Tree) → Low 256 (terminals ts) s
     → option_and_then policy_ended (run (terminals ts) s) ≡ Some t
     → rest_of_file ts (reading (in_policy policies.Let w line s) []) at ≡ Ok (definition w t line ∷ [])
 policy_read [] s w line at t low e =
@@ -129,7 +129,7 @@ policy_read (x ∷ xs) s w line at t low e =
         ∙ more s' l e'
 
 -- the tokens of a `let` that isn't nested too deep
-pub lets_read : (ts : List Token) (line : ℕ) (w : Word) (p : Pol)
+pub lets_read : (ts : List Token) (line : ℕ) (w : Ident) (p : Pol)
     → terminals ts ≡ outside (let_word line) ∷ name w ∷ equal ∷ spell_pol p
     → nesting_of_pol p ≤ 256 → file_of ts ≡ Ok (definition w (pol_tree p) line ∷ [])
 lets_read [] line w p e le = absurd cc

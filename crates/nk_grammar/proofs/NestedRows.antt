@@ -3,7 +3,7 @@ use Rattle.std.proofs.Common.{◌≡◌, ◌≤◌, ℕ, List, [], ◌∷◌, �
 use Rattle.std.proofs.lemmas.List.Elements.{All-tail}
 use Rattle.std.specs.Prelude.{Some, None, Ok, Err, All, IfSome, option_and_then}
 use Rattle.nk_lex.specs.declared.token.Token.{Token}
-use Rattle.nk_lex.specs.declared.word.Number.{Number}
+use Rattle.nk_lex.specs.declared.ident.Number.{Number}
 use Rattle.nk_lex.specs.Faults.{and_then}
 use Rattle.nk_grammar.specs.declared.decl.GrammarError.TheVariants as error
 use Rattle.nk_grammar.specs.declared.place.Place.TheVariants as place
@@ -23,7 +23,7 @@ use Rattle.nk_grammar.proofs.Nested.{Low, pol_low}
 use Rattle.nk_grammar.proofs.Texts.{outside_refused, left_by}
 use Rattle.nk_grammar.proofs.CertifiedTexts.{reads_certified}
 
--- behind each front of the tokens at most 256 are open
+-- after each front of the tokens at most 256 are open
 abbrev LowRows : List Terminal → Certifying → Type 0
 LowRows [] c = open_certified c ≤ 256
 LowRows (t ∷ ts) c = (open_certified c ≤ 256) × IfSome (certify_one c t) (λ d. LowRows ts d)
@@ -51,7 +51,7 @@ read_low (t ∷ ts) c line x low e = by_step (certify_one c (terminal_of t)) low
         ap (λ b. and_then (cond b (Ok d) (Err (error.TooDeep t.line))) (λ q. rest_of_certified ts q t.line)) (within (open_certified d) (low_now ts d l))
         ∙ more d l f
 
--- the tokens of a policy in a row, and those behind it
+-- the tokens of a policy in a row, and those after it
 policy_low : (line : ℕ) (ns : List ℕ) (ds : List Declaration) (rs : List Row) (xs r : List Terminal) (s s' : State)
     → Low 256 (xs ++ r) s → run xs s ≡ Some s'
     → (length s'.frames ≤ 256 → LowRows r (certifying (in_row line ns s') ds rs))
@@ -89,7 +89,7 @@ rows_refused : (ws : List WrittenRow) (p : Pol) → Low 256 (spell_rows ws) (sta
 rows_refused [] p = omega arith
 rows_refused (written_row l n ms q ∷ ws) p = (omega arith, tt)
 
--- a row's policy, with the rows behind it
+-- a row's policy, with the rows after it
 row_low : (p : Pol) (ws : List WrittenRow) (line : ℕ) (ns : List ℕ) (ds : List Declaration) (rs : List Row) → nesting_of_pol p ≤ 256
     → ((s : State) → policy_ended s ≡ Some (pol_tree p) → length s.frames ≤ 256 → LowRows (spell_rows ws) (certifying (in_row line ns s) ds rs))
     → LowRows (spell_pol p ++ spell_rows ws) (certifying (in_row line ns first_state) ds rs)
@@ -99,20 +99,20 @@ row_low p ws line ns ds rs le more =
     (pol_low 256 p [] (spell_rows ws) (λ t ts us. refl) (rows_free ws) (omega arith) (rows_refused ws p))
     left.1 (λ few. more left.0 left.2 few)
 
--- the rows behind a row's policy
+-- the rows after a row's policy
 rows_low : (ws : List WrittenRow) (line : ℕ) (ns : List ℕ) (s : State) (p : Tree) (ds : List Declaration) (rs : List Row)
     → policy_ended s ≡ Some p → length s.frames ≤ 256 → All (λ w. nesting_of_row w ≤ 256) ws
     → LowRows (spell_rows ws) (certifying (in_row line ns s) ds rs)
 rows_low [] line ns s p ds rs e le all = le
 rows_low (written_row l n ms q ∷ ws) line ns s p ds rs e le all =
     let word : Terminal = outside (row_word l) in
-    let behind : List Terminal = number n ∷ ((spell_numbers ms ++ colon ∷ spell_pol q) ++ spell_rows ws) in
+    let following : List Terminal = number n ∷ ((spell_numbers ms ++ colon ∷ spell_pol q) ++ spell_rows ws) in
     let done : List Row = rs ++ row ns p line ∷ [] in
     let nested : nesting_of_pol q ≤ 256 = all 0 (written_row l n ms q) (omega arith) in (
       le,
-      subst (λ o. IfSome (row_on ds rs ns line o (policy_ended s) word) (λ d. LowRows behind d))
+      subst (λ o. IfSome (row_on ds rs ns line o (policy_ended s) word) (λ d. LowRows following d))
           (sym (outside_refused s.place s.frames s.terms s.factors (row_word l)))
-          (subst (λ o. IfSome (row_done ds rs ns line o word) (λ d. LowRows behind d)) (sym e) (
+          (subst (λ o. IfSome (row_done ds rs ns line o word) (λ d. LowRows following d)) (sym e) (
             omega arith,
             subst (λ x. LowRows x (certifying (numbers_read l (n.value ∷ [])) ds done)) (sym (append_assoc (spell_numbers ms) (colon ∷ spell_pol q) (spell_rows ws)))
                 (numbers_low ms l (n.value ∷ []) ds done (colon ∷ (spell_pol q ++ spell_rows ws)) (λ ks. (

@@ -4,7 +4,7 @@ use Rattle.std.proofs.lemmas.List.Sums.{fold-append}
 use Rattle.std.specs.Prelude.{Some, None, Ok, Err, IfOk, fold, option_map, if◌then◌else◌, nat_le, ⊤}
 use Rattle.std.specs.declared.result.Result.{Result}
 use Rattle.nk_lex.specs.declared.token.Token.{Token}
-use Rattle.nk_lex.specs.declared.word.Number.{Number}
+use Rattle.nk_lex.specs.declared.ident.Number.{Number}
 use Rattle.nk_lex.specs.Faults.{and_then}
 use Rattle.nk_grammar.specs.declared.decl.CertRow.{CertRow}
 use Rattle.nk_grammar.specs.declared.decl.GrammarError.{GrammarError}
@@ -15,17 +15,17 @@ use Rattle.nk_grammar.specs.Terminal.{Terminal, terminal_of, is_colon_terminal}
 use Rattle.nk_grammar.specs.Tree.{Tree}
 use Rattle.nk_grammar.specs.Machine.{State, first_state, step, policy_ended, in_option, number_in}
 use Rattle.nk_grammar.specs.File.{Declaration}
-use Rattle.nk_grammar.specs.FileMachine.{Phase, Reading, Returns, next_reading, text_ended}
+use Rattle.nk_grammar.specs.FileMachine.{Phase, Reading, ParseReturns, next_reading, text_ended}
 use Rattle.nk_grammar.specs.Certified.{Row, row, row_value, Certified, certified}
 use Rattle.nk_grammar.specs.CertifiedMachine.{CertifiedPhase, declaring, row_wanted, start_wanted, start_read, number_wanted, numbers_read, in_row, Certifying, certifying, is_certificate, is_start_word, row_in, in_line, certificate_begins, still_declaring, row_on, certify_one, first_certifying, certificate_ends, open_certified, judged_certified, certified_end_at, rest_of_certified, certified_of}
 use Rattle.nk_grammar.specs.FileReader.{phase_in}
 use Rattle.nk_grammar.specs.Reader.{reader_state}
-use Rattle.nk_grammar.specs.CertifiedReader.{certified_phase_of, progress_of, TakesToken}
+use Rattle.nk_grammar.specs.CertificateParser.{certified_phase_of, progress_of, TakesToken}
 use Rattle.nk_grammar.specs.declared.decl.Completed.{Completed}
-use Rattle.nk_grammar.specs.declared.certified_reader.Known.{Known}
-use Rattle.nk_grammar.specs.declared.certified_reader.Known.TheVariants as known
+use Rattle.nk_grammar.specs.declared.certificate_parser.Known.{Known}
+use Rattle.nk_grammar.specs.declared.certificate_parser.Known.TheVariants as known
 use Rattle.nk_grammar.specs.CertifiedProgress.{CertifiedProgress, Going, Stopped, bare, with_done, done_declarations, SoFar, so_far, nothing_so_far, so_far_at, so_far_judged, so_far_after, IsRead, certified_so_far, declarations_by, rows_by, IsStopped, ReadsCertifiedAsWhole}
-use Rattle.nk_grammar.proofs.Behind.{behind, certify_behind}
+use Rattle.nk_grammar.proofs.After.{following, certify_after}
 
 -- what the machine's state says that is put together
 pub at_done : (x : CertifiedStage) (p : Phase) (s : State) (ds : List Declaration) (rs : List Row) (line : ℕ)
@@ -67,7 +67,7 @@ takes_fault (known.Stopped f) j t e line n h = absurd (differ h.1)
     differ : ◌≡◌ {A = Result (Option Completed) GrammarError} (Err e) (Ok None) → ⊥
     differ i = cc
 
--- behind a fault nothing is taken
+-- after a fault nothing is taken
 pub takes_nothing : (k j : Known) (t : Token) (r : Result (Option Completed) GrammarError) (line at : ℕ) → IsStopped (progress_of k line)
     → TakesToken k j t r → (r ≡ Ok None) × (progress_of j at ≡ progress_of k line)
 takes_nothing (known.Sound r) j t x line at i h = absurd (differ i)
@@ -77,8 +77,8 @@ takes_nothing (known.Sound r) j t x line at i h = absurd (differ i)
 takes_nothing (known.Stopped e) j t r line at i h = (h.1, ap (λ x. progress_of x at) h.0)
 
 -- and there is no further one
-pub no_fault_behind : (k j : Known) (t : Token) (e : GrammarError) (line : ℕ) → IsStopped (progress_of k line) → TakesToken k j t (Err e) → ⊥
-no_fault_behind k j t e line i h = differ (takes_nothing k j t (Err e) line line i h).0
+pub no_fault_after : (k j : Known) (t : Token) (e : GrammarError) (line : ℕ) → IsStopped (progress_of k line) → TakesToken k j t (Err e) → ⊥
+no_fault_after k j t e line i h = differ (takes_nothing k j t (Err e) line line i h).0
   where
     differ : ◌≡◌ {A = Result (Option Completed) GrammarError} (Err e) (Ok None) → ⊥
     differ i = cc
@@ -89,68 +89,68 @@ takes_no_memory (known.Sound r) (known.Sound s) t line h = ap (λ x. Going x lin
 takes_no_memory (known.Sound r) (known.Stopped e) t line h = absurd h
 takes_no_memory (known.Stopped e) j t line h = ap (λ x. progress_of x line) h.0
 
--- ---- behind further declarations and rows
+-- ---- after further declarations and rows
 
--- the same behind further declarations and rows
-abbrev so_far_behind : List Declaration → List Row → SoFar → SoFar
-so_far_behind ds rs s = so_far s.progress (ds ++ s.declarations) (rs ++ s.rows)
+-- the same after further declarations and rows
+abbrev so_far_following : List Declaration → List Row → SoFar → SoFar
+so_far_following ds rs s = so_far s.progress (ds ++ s.declarations) (rs ++ s.rows)
 
 -- nothing is done but what was before
-nothing_behind : (p : CertifiedProgress) (ds : List Declaration) (rs : List Row) → so_far p ds rs ≡ so_far_behind ds rs (so_far p [] [])
-nothing_behind p ds rs = ap (λ l. so_far p l rs) (sym (append-nil ds)) ∙ ap (λ l. so_far p (ds ++ []) l) (sym (append-nil rs))
+nothing_following : (p : CertifiedProgress) (ds : List Declaration) (rs : List Row) → so_far p ds rs ≡ so_far_following ds rs (so_far p [] [])
+nothing_following p ds rs = ap (λ l. so_far p l rs) (sym (append-nil ds)) ∙ ap (λ l. so_far p (ds ++ []) l) (sym (append-nil rs))
 
 -- the same is open
-open_behind : (ds : List Declaration) (rs : List Row) (p : CertifiedPhase) (es : List Declaration) (qs : List Row)
-    → open_certified (behind ds rs (certifying p es qs)) ≡ open_certified (certifying p es qs)
-open_behind ds rs (declaring r) es qs = refl
-open_behind ds rs row_wanted es qs = refl
-open_behind ds rs (start_wanted line) es qs = refl
-open_behind ds rs (start_read line) es qs = refl
-open_behind ds rs (number_wanted line) es qs = refl
-open_behind ds rs (numbers_read line ns) es qs = refl
-open_behind ds rs (in_row line ns s) es qs = refl
+open_after : (ds : List Declaration) (rs : List Row) (p : CertifiedPhase) (es : List Declaration) (qs : List Row)
+    → open_certified (following ds rs (certifying p es qs)) ≡ open_certified (certifying p es qs)
+open_after ds rs (declaring r) es qs = refl
+open_after ds rs row_wanted es qs = refl
+open_after ds rs (start_wanted line) es qs = refl
+open_after ds rs (start_read line) es qs = refl
+open_after ds rs (number_wanted line) es qs = refl
+open_after ds rs (numbers_read line ns) es qs = refl
+open_after ds rs (in_row line ns s) es qs = refl
 
 -- the same is said of it
-at_behind : (ds : List Declaration) (rs : List Row) (p : CertifiedPhase) (es : List Declaration) (qs : List Row) (line : ℕ)
-    → so_far_at (behind ds rs (certifying p es qs)) line ≡ so_far_behind ds rs (so_far_at (certifying p es qs) line)
-at_behind ds rs (declaring r) es qs line = refl
-at_behind ds rs row_wanted es qs line = refl
-at_behind ds rs (start_wanted l) es qs line = refl
-at_behind ds rs (start_read l) es qs line = refl
-at_behind ds rs (number_wanted l) es qs line = refl
-at_behind ds rs (numbers_read l ns) es qs line = refl
-at_behind ds rs (in_row l ns s) es qs line = refl
+at_after : (ds : List Declaration) (rs : List Row) (p : CertifiedPhase) (es : List Declaration) (qs : List Row) (line : ℕ)
+    → so_far_at (following ds rs (certifying p es qs)) line ≡ so_far_following ds rs (so_far_at (certifying p es qs) line)
+at_after ds rs (declaring r) es qs line = refl
+at_after ds rs row_wanted es qs line = refl
+at_after ds rs (start_wanted l) es qs line = refl
+at_after ds rs (start_read l) es qs line = refl
+at_after ds rs (number_wanted l) es qs line = refl
+at_after ds rs (numbers_read l ns) es qs line = refl
+at_after ds rs (in_row l ns s) es qs line = refl
 
 -- what a token leads to
-judged_behind : (p : CertifiedProgress) (ds : List Declaration) (rs : List Row) (at : ℕ) (o : Option Certifying)
-    → so_far_judged (judged_certified at (option_map (behind ds rs) o)) (so_far p ds rs) at
-    ≡ so_far_behind ds rs (so_far_judged (judged_certified at o) (so_far p [] []) at)
-judged_behind p ds rs at None = nothing_behind (Stopped (error.Unexpected at)) ds rs
-judged_behind p ds rs at (Some c) =
-    ap (λ n. so_far_judged (if nat_le n 256 then Ok (behind ds rs c) else Err (error.TooDeep at)) (so_far p ds rs) at)
-    (open_behind ds rs c.phase c.declarations c.rows)
+judged_after : (p : CertifiedProgress) (ds : List Declaration) (rs : List Row) (at : ℕ) (o : Option Certifying)
+    → so_far_judged (judged_certified at (option_map (following ds rs) o)) (so_far p ds rs) at
+    ≡ so_far_following ds rs (so_far_judged (judged_certified at o) (so_far p [] []) at)
+judged_after p ds rs at None = nothing_following (Stopped (error.Unexpected at)) ds rs
+judged_after p ds rs at (Some c) =
+    ap (λ n. so_far_judged (if nat_le n 256 then Ok (following ds rs c) else Err (error.TooDeep at)) (so_far p ds rs) at)
+    (open_after ds rs c.phase c.declarations c.rows)
     ∙ by_count (nat_le (open_certified c) 256)
   where
-    by_count : (b : Bool) → so_far_judged (if b then Ok (behind ds rs c) else Err (error.TooDeep at)) (so_far p ds rs) at
-        ≡ so_far_behind ds rs (so_far_judged (if b then Ok c else Err (error.TooDeep at)) (so_far p [] []) at)
-    by_count true = at_behind ds rs c.phase c.declarations c.rows at
-    by_count false = nothing_behind (Stopped (error.TooDeep at)) ds rs
+    by_count : (b : Bool) → so_far_judged (if b then Ok (following ds rs c) else Err (error.TooDeep at)) (so_far p ds rs) at
+        ≡ so_far_following ds rs (so_far_judged (if b then Ok c else Err (error.TooDeep at)) (so_far p [] []) at)
+    by_count true = at_after ds rs c.phase c.declarations c.rows at
+    by_count false = nothing_following (Stopped (error.TooDeep at)) ds rs
 
 -- one more token
-after_behind : (p : CertifiedProgress) (ds : List Declaration) (rs : List Row) (t : Token)
-    → so_far_after (so_far p ds rs) t ≡ so_far_behind ds rs (so_far_after (so_far p [] []) t)
-after_behind (Stopped e) ds rs t = nothing_behind (Stopped e) ds rs
-after_behind (Going p line) ds rs t =
+after_next : (p : CertifiedProgress) (ds : List Declaration) (rs : List Row) (t : Token)
+    → so_far_after (so_far p ds rs) t ≡ so_far_following ds rs (so_far_after (so_far p [] []) t)
+after_next (Stopped e) ds rs t = nothing_following (Stopped e) ds rs
+after_next (Going p line) ds rs t =
     ap (λ l. so_far_judged (judged_certified t.line (certify_one (with_done p l rs) (terminal_of t))) (so_far (Going p line) ds rs) t.line) (sym (append-nil ds))
     ∙ ap (λ l. so_far_judged (judged_certified t.line (certify_one (with_done p (ds ++ []) l) (terminal_of t))) (so_far (Going p line) ds rs) t.line) (sym (append-nil rs))
-    ∙ ap (λ o. so_far_judged (judged_certified t.line o) (so_far (Going p line) ds rs) t.line) (certify_behind ds [] rs [] p (terminal_of t))
-    ∙ judged_behind (Going p line) ds rs t.line (certify_one (with_done p [] []) (terminal_of t))
+    ∙ ap (λ o. so_far_judged (judged_certified t.line o) (so_far (Going p line) ds rs) t.line) (certify_after ds [] rs [] p (terminal_of t))
+    ∙ judged_after (Going p line) ds rs t.line (certify_one (with_done p [] []) (terminal_of t))
 
 -- a further token is read
 pub one_more_read : (ts : List Token) (ds es : List Declaration) (rs qs : List Row) (p q : CertifiedProgress) (t : Token)
     → so_far_after (so_far p [] []) t ≡ so_far q es qs → IsRead ts ds rs p → IsRead (ts ++ t ∷ []) (ds ++ es) (rs ++ qs) q
 one_more_read ts ds es rs qs p q t e h =
-    fold-append so_far_after nothing_so_far ts (t ∷ []) ∙ ap (λ s. so_far_after s t) h ∙ after_behind p ds rs t ∙ ap (so_far_behind ds rs) e
+    fold-append so_far_after nothing_so_far ts (t ∷ []) ∙ ap (λ s. so_far_after s t) h ∙ after_next p ds rs t ∙ ap (so_far_following ds rs) e
 
 -- what holds of a value that is there
 pub on_ok : {T E : Type 0} {P Q : T → Type 0} (r : Result T E) → ((x : T) → P x → Q x) → IfOk r P → IfOk r Q
@@ -159,16 +159,16 @@ on_ok (Err e) f h = tt
 
 -- ---- the end
 
-end_behind : (p : CertifiedProgress) (ds : List Declaration) (rs : List Row) (r : Row) → certified_so_far p [] [] ≡ Ok (certified [] (r ∷ []))
+end_after : (p : CertifiedProgress) (ds : List Declaration) (rs : List Row) (r : Row) → certified_so_far p [] [] ≡ Ok (certified [] (r ∷ []))
     → certified_so_far p ds rs ≡ Ok (certified ds (rs ++ r ∷ []))
-end_behind (Stopped e) ds rs r h = absurd cc
-end_behind (Going (declaring x) line) ds rs r h = absurd cc
-end_behind (Going row_wanted line) ds rs r h = absurd cc
-end_behind (Going (start_wanted l) line) ds rs r h = absurd cc
-end_behind (Going (start_read l) line) ds rs r h = absurd cc
-end_behind (Going (number_wanted l) line) ds rs r h = absurd cc
-end_behind (Going (numbers_read l ns) line) ds rs r h = absurd cc
-end_behind (Going (in_row l ns s) line) ds rs r h = by_end (policy_ended s) h
+end_after (Stopped e) ds rs r h = absurd cc
+end_after (Going (declaring x) line) ds rs r h = absurd cc
+end_after (Going row_wanted line) ds rs r h = absurd cc
+end_after (Going (start_wanted l) line) ds rs r h = absurd cc
+end_after (Going (start_read l) line) ds rs r h = absurd cc
+end_after (Going (number_wanted l) line) ds rs r h = absurd cc
+end_after (Going (numbers_read l ns) line) ds rs r h = absurd cc
+end_after (Going (in_row l ns s) line) ds rs r h = by_end (policy_ended s) h
   where
     first : (x y : Row) → ◌≡◌ {A = Result Certified GrammarError} (Ok (certified [] (x ∷ []))) (Ok (certified [] (y ∷ []))) → x ≡ y
     first x y e = first_row (certified [] (x ∷ [])) (certified [] (y ∷ [])) x y (same (certified [] (x ∷ [])) (certified [] (y ∷ [])) e) refl refl
@@ -187,19 +187,19 @@ end_behind (Going (in_row l ns s) line) ds rs r h = by_end (policy_ended s) h
     by_end None e = absurd cc
     by_end (Some q) e = ap (λ x. Ok (certified ds (rs ++ x ∷ []))) (first (row ns q l) r e)
 
-fault_behind : (p : CertifiedProgress) (ds : List Declaration) (rs : List Row) (f : GrammarError) → certified_so_far p [] [] ≡ Err f
+fault_after : (p : CertifiedProgress) (ds : List Declaration) (rs : List Row) (f : GrammarError) → certified_so_far p [] [] ≡ Err f
     → certified_so_far p ds rs ≡ Err f
-fault_behind (Stopped e) ds rs f h = again e h
+fault_after (Stopped e) ds rs f h = again e h
   where
     again : (g : GrammarError) → ◌≡◌ {A = Result Certified GrammarError} (Err g) (Err f) → ◌≡◌ {A = Result Certified GrammarError} (Err g) (Err f)
     again g e = e
-fault_behind (Going (declaring x) line) ds rs f h = h
-fault_behind (Going row_wanted line) ds rs f h = h
-fault_behind (Going (start_wanted l) line) ds rs f h = h
-fault_behind (Going (start_read l) line) ds rs f h = h
-fault_behind (Going (number_wanted l) line) ds rs f h = h
-fault_behind (Going (numbers_read l ns) line) ds rs f h = h
-fault_behind (Going (in_row l ns s) line) ds rs f h = by_end (policy_ended s) h
+fault_after (Going (declaring x) line) ds rs f h = h
+fault_after (Going row_wanted line) ds rs f h = h
+fault_after (Going (start_wanted l) line) ds rs f h = h
+fault_after (Going (start_read l) line) ds rs f h = h
+fault_after (Going (number_wanted l) line) ds rs f h = h
+fault_after (Going (numbers_read l ns) line) ds rs f h = h
+fault_after (Going (in_row l ns s) line) ds rs f h = by_end (policy_ended s) h
   where
     by_end : (o : Option Tree) → certified_end_at line (certificate_ends [] [] ns l o) ≡ Err f
         → certified_end_at line (certificate_ends ds rs ns l o) ≡ Err f
@@ -207,13 +207,13 @@ fault_behind (Going (in_row l ns s) line) ds rs f h = by_end (policy_ended s) h
     by_end (Some q) e = absurd cc
 
 -- the last row, or the fault
-returns_behind : (p : CertifiedProgress) (ds : List Declaration) (rs : List Row) (r : Result CertRow GrammarError)
-    → Returns (λ x. certified [] (row_value x ∷ [])) r (certified_so_far p [] [])
-    → Returns (λ x. certified ds (rs ++ row_value x ∷ [])) r (certified_so_far p ds rs)
-returns_behind p ds rs (Ok x) h = end_behind p ds rs (row_value x) h
-returns_behind p ds rs (Err error.NoMemory) h = tt
-returns_behind p ds rs (Err (error.Unexpected at)) h = fault_behind p ds rs (error.Unexpected at) h
-returns_behind p ds rs (Err (error.TooDeep at)) h = fault_behind p ds rs (error.TooDeep at) h
+returns_following : (p : CertifiedProgress) (ds : List Declaration) (rs : List Row) (r : Result CertRow GrammarError)
+    → ParseReturns (λ x. certified [] (row_value x ∷ [])) r (certified_so_far p [] [])
+    → ParseReturns (λ x. certified ds (rs ++ row_value x ∷ [])) r (certified_so_far p ds rs)
+returns_following p ds rs (Ok x) h = end_after p ds rs (row_value x) h
+returns_following p ds rs (Err error.NoMemory) h = tt
+returns_following p ds rs (Err (error.Unexpected at)) h = fault_after p ds rs (error.Unexpected at) h
+returns_following p ds rs (Err (error.TooDeep at)) h = fault_after p ds rs (error.TooDeep at) h
 
 -- ---- the whole
 
@@ -308,7 +308,7 @@ reads_as_whole ts ds rs p h = sym (ap end_of h) ∙ rest_is ts (declaring_first)
 
 -- the end of a reader
 pub ends_as_whole : (ts : List Token) (ds : List Declaration) (rs : List Row) (p : CertifiedProgress) (r : Result CertRow GrammarError) → IsRead ts ds rs p
-    → Returns (λ x. certified [] (row_value x ∷ [])) r (certified_so_far p [] [])
-    → Returns (λ x. certified ds (rs ++ row_value x ∷ [])) r (certified_of ts)
+    → ParseReturns (λ x. certified [] (row_value x ∷ [])) r (certified_so_far p [] [])
+    → ParseReturns (λ x. certified ds (rs ++ row_value x ∷ [])) r (certified_of ts)
 ends_as_whole ts ds rs p r h e =
-    subst (Returns (λ x. certified ds (rs ++ row_value x ∷ [])) r) (reads_as_whole ts ds rs p h) (returns_behind p ds rs r e)
+    subst (ParseReturns (λ x. certified ds (rs ++ row_value x ∷ [])) r) (reads_as_whole ts ds rs p h) (returns_following p ds rs r e)

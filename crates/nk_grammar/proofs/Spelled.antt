@@ -1,7 +1,7 @@
 -- What is spelled passes, and leaves its syntax tree.
 use Rattle.std.proofs.Common.{◌≡◌, List, [], ◌∷◌, ◌++◌, Bool, true, false, refl, sym, ◌∙◌, ap, append_assoc, append-nil, Option}
 use Rattle.std.specs.Prelude.{Some, None, option_and_then, option_map, if◌then◌else◌}
-use Rattle.nk_lex.specs.declared.word.Word.{Word}
+use Rattle.nk_lex.specs.declared.ident.Ident.{Ident}
 use Rattle.nk_grammar.specs.declared.place.Place.TheVariants as place
 use Rattle.nk_grammar.specs.Terminal.{Terminal, plus_sign, semicolon, star_sign, closing, is_equal, is_in_word, is_becomes}
 use Rattle.nk_grammar.specs.Tree.{Tree, Trees, name_of, not_of, star_of, no_part, part, with_part, with_star, sum_from, seq_from}
@@ -53,7 +53,7 @@ star_last no_part t = refl
 star_last (part u no_part) t = refl
 star_last (part u (part v vs)) t = ap (part u) (star_last (part v vs) t)
 
--- a star behind a factor with a star changes nothing
+-- a star after a factor with a star changes nothing
 pub one_star : (f : Factor) (us : Trees)
     → (if has_star f then with_part us (factor_tree f) else with_star (with_part us (factor_tree f))) ≡ with_part us (factor_tree (starred f))
 one_star (plain a) us = star_last us (atom_tree a)
@@ -66,15 +66,15 @@ settled_atom t [] ts us = refl
 settled_atom t (group ts' us' ∷ fs) ts us = refl
 settled_atom t (negation l ∷ fs) ts us = settled_atom (not_of t l) fs ts us
 
--- behind an atom the machine goes on behind a factor
+-- after an atom the machine goes on after a factor
 pub step_atom : (x : Terminal) (t : Tree) (fs : List Open) (ts us : Trees)
     → step_done (atom_ended t fs ts us) x ≡ step (atom_ended t fs ts us) x
 step_atom x t [] ts us = refl
 step_atom x t (group ts' us' ∷ fs) ts us = refl
 step_atom x t (negation l ∷ fs) ts us = step_atom x (not_of t l) fs ts us
 
--- a name with no sign of its own behind it is an atom
-named_free : (w : Word) (fs : List Open) (ts us : Trees) (r : List Terminal) → IsFree r
+-- a name with no sign of its own after it is an atom
+named_free : (w : Ident) (fs : List Open) (ts us : Trees) (r : List Terminal) → IsFree r
     → outcome r (state (place.Named w) fs ts us) ≡ outcome r (atom_ended (name_of w) fs ts us)
 named_free w fs ts us [] free = ap (λ s. Some s) (sym (settled_atom (name_of w) fs ts us))
 named_free w fs ts us (x ∷ r) free =

@@ -20,7 +20,7 @@ pub stack_length : (fs : List Open) (xs : List Frame) → length (stack_on fs xs
 stack_length fs [] = omega arith
 stack_length fs (x ∷ xs) = omega (arith, stack_length (open_of x ∷ fs) xs)
 
--- behind a parenthesis no `~` is the innermost
+-- after a parenthesis no `~` is the innermost
 pub group_is_top : (fs : List Open) (ts us : Trees) (below : List Open) → fs ≡ group ts us ∷ below → HasNoNegation fs
 group_is_top fs ts us below e = subst HasNoNegation (sym e) (λ t ts us. refl)
 
@@ -60,13 +60,13 @@ encloses_before xs n x some le is =
     before : n ≡ (n - 1) + 1
     before = omega arith
 
--- where no parenthesis is open, none closes behind an atom
+-- where no parenthesis is open, none closes after an atom
 pub none_closes : (fs : List Open) (t : Tree) (ts us : Trees) → encloses fs ≡ false → step_done (atom_ended t fs ts us) closing ≡ None
 none_closes [] t ts us e = refl
 none_closes (group xs ys ∷ fs) t ts us e = absurd (cc)
 none_closes (negation line ∷ fs) t ts us e = none_closes fs (not_of t line) ts us e
 
--- where one is open, one closes behind an atom
+-- where one is open, one closes after an atom
 pub one_closes : (fs : List Open) (t : Tree) (ts us : Trees) → encloses fs ≡ true → step_done (atom_ended t fs ts us) closing ≡ None → ⊥
 one_closes [] t ts us e n = absurd (cc)
 one_closes (group xs ys ∷ fs) t ts us e n = absurd (cc)

@@ -1,4 +1,4 @@
--- A reader has stopped exactly where no text goes on with the tokens, or too much is open behind a front of them.
+-- A reader has stopped exactly where no text goes on with the tokens, or too much is open after a front of them.
 use Rattle.std.proofs.Common.{◌≡◌, ◌⊎◌, ◌++◌, ◌∷◌, List, [], Bool, true, false, inl, inr, refl, ap, sym, subst, ◌∙◌, append_assoc, append-nil, ⊎_elim, Option}
 use Rattle.std.specs.Prelude.{◌↔◌, Some, None, Ok, Err, fold, if◌then◌else◌, nat_le, option_and_then}
 use Rattle.nk_lex.specs.declared.token.Token.{Token}
@@ -14,11 +14,11 @@ use Rattle.nk_grammar.proofs.CertifiedAnswering.{terminals_more, shallow_more, s
 use Rattle.nk_grammar.proofs.CertifiedTexts.{certified_goes_on, certified_stops, certify_append}
 use Rattle.nk_grammar.proofs.Progress.{AreTidy, tidy}
 
--- no text goes on with the tokens, or too much is open behind a front of them
+-- no text goes on with the tokens, or too much is open after a front of them
 abbrev IsRefused : List Terminal → Type 0
 IsRefused ts = (certify_all ts first_certifying ≡ None) ⊎ (IsCertifiedShallow ts → ⊥)
 
--- the machine's state behind the tokens, or why there is none
+-- the machine's state after the tokens, or why there is none
 abbrev IsKnownOf : List Terminal → CertifiedProgress → List Declaration → List Row → Type 0
 IsKnownOf ts (Going p line) ds rs = (certify_all ts first_certifying ≡ Some (with_done p ds rs)) × IsCertifiedShallow ts
 IsKnownOf ts (Stopped e) ds rs = IsRefused ts
@@ -26,7 +26,7 @@ IsKnownOf ts (Stopped e) ds rs = IsRefused ts
 abbrev IsKnownAt : List Terminal → SoFar → Type 0
 IsKnownAt ts s = IsKnownOf ts s.progress s.declarations s.rows
 
--- the state behind one more token
+-- the state after one more token
 all_more : (ts : List Terminal) (t : Terminal) (c : Certifying) → certify_all ts first_certifying ≡ Some c
     → certify_all (ts ++ t ∷ []) first_certifying ≡ certify_one c t
 all_more ts t c e = certify_append ts (t ∷ []) first_certifying ∙ ap (option_and_then (certify_all (t ∷ []))) e ∙ same (certify_one c t)

@@ -8,15 +8,15 @@ use Rattle.nk_lex.specs.Lex.{largest}
 use Rattle.nk_grammar.specs.declared.decl.Decl.{Decl}
 use Rattle.nk_grammar.specs.declared.decl.GrammarError.{GrammarError}
 use Rattle.nk_grammar.specs.declared.decl.GrammarError.TheVariants as error
-use Rattle.nk_grammar.specs.declared.text_reader.KnownText.{KnownText}
-use Rattle.nk_grammar.specs.declared.text_reader.KnownText.TheVariants as known
+use Rattle.nk_grammar.specs.declared.text_parser.KnownText.{KnownText}
+use Rattle.nk_grammar.specs.declared.text_parser.KnownText.TheVariants as known
 use Rattle.nk_grammar.specs.Terminal.{terminal_of}
 use Rattle.nk_grammar.specs.File.{Declaration, IsWritten}
-use Rattle.nk_grammar.specs.FileMachine.{Returns, rest_of_file, ended_at, text_ended, file_of}
+use Rattle.nk_grammar.specs.FileMachine.{ParseReturns, rest_of_file, ended_at, text_ended, file_of}
 use Rattle.nk_grammar.specs.FileReader.{declaration_done, phase_in}
 use Rattle.nk_grammar.specs.TextProgress.{TextProgress, Going, Stopped, rest_by, IsTextRead, IsTextStopped}
-use Rattle.nk_grammar.specs.TextReader.{TakesTextOn, TakesToken, TakesTokenInside, progress_in}
-use Rattle.nk_grammar.proofs.Behind.{ended_behind, judged_behind, refused_behind}
+use Rattle.nk_grammar.specs.TextParser.{TakesTextOn, TakesToken, TakesTokenInside, progress_in}
+use Rattle.nk_grammar.proofs.After.{ended_after, judged_after, refused_after}
 use Rattle.nk_grammar.proofs.Written.{written_of}
 
 -- ---- what a reader takes
@@ -25,7 +25,7 @@ use Rattle.nk_grammar.proofs.Written.{written_of}
 pub takes_on : (k j : KnownText) (t : Token) (o : Option Decl) (line : ℕ) → TakesToken k j t (Ok o)
     → TakesTextOn (progress_in k line) t (progress_in j t.line) (declaration_done o)
 takes_on (known.Sound r) (known.Sound s) t o line h ds us =
-    sym (ap (λ x. and_then x (λ x. rest_of_file us x t.line)) (judged_behind ds t.line (phase_in r) (phase_in s) (declaration_done o) (terminal_of t) h.0))
+    sym (ap (λ x. and_then x (λ x. rest_of_file us x t.line)) (judged_after ds t.line (phase_in r) (phase_in s) (declaration_done o) (terminal_of t) h.0))
 takes_on (known.Sound r) (known.Stopped e) t o line h ds us = absurd h
 takes_on (known.Stopped e) j t o line h ds us = ap (λ x. rest_by (progress_in x t.line) (ds ++ declaration_done o) us) h.0
 
@@ -39,16 +39,16 @@ pub takes_fault : (k j : KnownText) (t : Token) (e : GrammarError) (line : ℕ) 
     → TakesTextOn (progress_in k line) t (Stopped e) []
 takes_fault (known.Sound r) (known.Sound s) t error.NoMemory line n h ds us = absurd (n refl)
 takes_fault (known.Sound r) (known.Sound s) t (error.Unexpected at) line n h ds us =
-    sym (ap (λ x. and_then x (λ x. rest_of_file us x t.line)) (refused_behind ds t.line (phase_in r) (error.Unexpected at) (terminal_of t) h.0))
+    sym (ap (λ x. and_then x (λ x. rest_of_file us x t.line)) (refused_after ds t.line (phase_in r) (error.Unexpected at) (terminal_of t) h.0))
 takes_fault (known.Sound r) (known.Sound s) t (error.TooDeep at) line n h ds us =
-    sym (ap (λ x. and_then x (λ x. rest_of_file us x t.line)) (refused_behind ds t.line (phase_in r) (error.TooDeep at) (terminal_of t) h.0))
+    sym (ap (λ x. and_then x (λ x. rest_of_file us x t.line)) (refused_after ds t.line (phase_in r) (error.TooDeep at) (terminal_of t) h.0))
 takes_fault (known.Sound r) (known.Stopped f) t e line n h ds us = absurd h
 takes_fault (known.Stopped f) j t e line n h ds us = absurd (differ h.1)
   where
     differ : ◌≡◌ {A = Result (Option Decl) GrammarError} (Err e) (Ok None) → ⊥
     differ i = cc
 
--- behind a fault nothing is taken
+-- after a fault nothing is taken
 pub takes_nothing : (k j : KnownText) (t : Token) (r : Result (Option Decl) GrammarError) (line at : ℕ) → IsTextStopped (progress_in k line)
     → TakesToken k j t r → (r ≡ Ok None) × (progress_in j at ≡ progress_in k line)
 takes_nothing (known.Sound r) j t x line at i h = absurd (differ i)
@@ -58,13 +58,13 @@ takes_nothing (known.Sound r) j t x line at i h = absurd (differ i)
 takes_nothing (known.Stopped e) j t r line at i h = (h.1, ap (λ x. progress_in x at) h.0)
 
 -- and there is no further one
-pub no_fault_behind : (k j : KnownText) (t : Token) (e : GrammarError) (line : ℕ) → IsTextStopped (progress_in k line) → TakesToken k j t (Err e) → ⊥
-no_fault_behind k j t e line i h = differ (takes_nothing k j t (Err e) line line i h).0
+pub no_fault_after : (k j : KnownText) (t : Token) (e : GrammarError) (line : ℕ) → IsTextStopped (progress_in k line) → TakesToken k j t (Err e) → ⊥
+no_fault_after k j t e line i h = differ (takes_nothing k j t (Err e) line line i h).0
   where
     differ : ◌≡◌ {A = Result (Option Decl) GrammarError} (Err e) (Ok None) → ⊥
     differ i = cc
 
--- where a reader has stopped behind a token that it took, the token completed nothing
+-- where a reader has stopped after a token that it took, the token completed nothing
 pub stops_empty : (k j : KnownText) (t : Token) (o : Option Decl) (line : ℕ) → TakesToken k j t (Ok o) → IsTextStopped (progress_in j line) → o ≡ None
 stops_empty (known.Sound r) (known.Sound s) t o line h i = absurd (differ i)
   where
@@ -96,11 +96,11 @@ on_each (Err e) f h = tt
 
 -- ---- the end
 
--- what is left at the end, behind further declarations
-ends_behind : (p : TextProgress) (ds es : List Declaration) → rest_by p [] [] ≡ Ok es → rest_by p ds [] ≡ Ok (ds ++ es)
-ends_behind (Stopped e) ds es h = absurd cc
-ends_behind (Going p line) ds es h =
-    ap (λ l. ended_at line (text_ended p l)) (sym (append-nil ds)) ∙ ap (ended_at line) (ended_behind ds [] p)
+-- what is left at the end, after further declarations
+ends_after : (p : TextProgress) (ds es : List Declaration) → rest_by p [] [] ≡ Ok es → rest_by p ds [] ≡ Ok (ds ++ es)
+ends_after (Stopped e) ds es h = absurd cc
+ends_after (Going p line) ds es h =
+    ap (λ l. ended_at line (text_ended p l)) (sym (append-nil ds)) ∙ ap (ended_at line) (ended_after ds [] p)
     ∙ by_end (text_ended p []) h
   where
     same : (l : List Declaration) → ◌≡◌ {A = Result (List Declaration) GrammarError} (Ok l) (Ok es) → l ≡ es
@@ -114,35 +114,35 @@ ends_behind (Going p line) ds es h =
     by_end (Some l) e = ap (λ x. Ok (ds ++ x)) (same l e)
 
 -- so is a fault there
-fault_behind : (p : TextProgress) (ds : List Declaration) (f : GrammarError) → rest_by p [] [] ≡ Err f → rest_by p ds [] ≡ Err f
-fault_behind (Stopped e) ds f h = again e h
+fault_after : (p : TextProgress) (ds : List Declaration) (f : GrammarError) → rest_by p [] [] ≡ Err f → rest_by p ds [] ≡ Err f
+fault_after (Stopped e) ds f h = again e h
   where
     again : (g : GrammarError) → ◌≡◌ {A = Result (List Declaration) GrammarError} (Err g) (Err f) → ◌≡◌ {A = Result (List Declaration) GrammarError} (Err g) (Err f)
     again g e = e
-fault_behind (Going p line) ds f h =
-    ap (λ l. ended_at line (text_ended p l)) (sym (append-nil ds)) ∙ ap (ended_at line) (ended_behind ds [] p)
+fault_after (Going p line) ds f h =
+    ap (λ l. ended_at line (text_ended p l)) (sym (append-nil ds)) ∙ ap (ended_at line) (ended_after ds [] p)
     ∙ by_end (text_ended p []) h
   where
     by_end : (o : Option (List Declaration)) → ended_at line o ≡ Err f → ended_at line (option_map (λ l. ds ++ l) o) ≡ Err f
     by_end None e = e
     by_end (Some l) e = absurd cc
 
-returns_behind : (p : TextProgress) (ds : List Declaration) (r : Result (Option Decl) GrammarError) → Returns declaration_done r (rest_by p [] [])
-    → Returns (λ o. ds ++ declaration_done o) r (rest_by p ds [])
-returns_behind p ds (Ok o) h = ends_behind p ds (declaration_done o) h
-returns_behind p ds (Err error.NoMemory) h = tt
-returns_behind p ds (Err (error.Unexpected at)) h = fault_behind p ds (error.Unexpected at) h
-returns_behind p ds (Err (error.TooDeep at)) h = fault_behind p ds (error.TooDeep at) h
+returns_following : (p : TextProgress) (ds : List Declaration) (r : Result (Option Decl) GrammarError) → ParseReturns declaration_done r (rest_by p [] [])
+    → ParseReturns (λ o. ds ++ declaration_done o) r (rest_by p ds [])
+returns_following p ds (Ok o) h = ends_after p ds (declaration_done o) h
+returns_following p ds (Err error.NoMemory) h = tt
+returns_following p ds (Err (error.Unexpected at)) h = fault_after p ds (error.Unexpected at) h
+returns_following p ds (Err (error.TooDeep at)) h = fault_after p ds (error.TooDeep at) h
 
 -- the end of a reader
 pub ends_as_whole : (ts : List Token) (ds : List Declaration) (p : TextProgress) (r : Result (Option Decl) GrammarError) → IsTextRead ts ds p
-    → Returns declaration_done r (rest_by p [] []) → Returns (λ o. ds ++ declaration_done o) r (file_of ts)
+    → ParseReturns declaration_done r (rest_by p [] []) → ParseReturns (λ o. ds ++ declaration_done o) r (file_of ts)
 ends_as_whole ts ds p r h e =
-    subst (Returns (λ o. ds ++ declaration_done o) r) (h [] ∙ ap file_of (append-nil ts)) (returns_behind p ds r e)
+    subst (ParseReturns (λ o. ds ++ declaration_done o) r) (h [] ∙ ap file_of (append-nil ts)) (returns_following p ds r e)
 
 -- what is read there has numbers of a text
 pub written_at_end : (ts : List Token) (ds : List Declaration) (r : Result (Option Decl) GrammarError)
-    → Returns (λ o. ds ++ declaration_done o) r (file_of ts) → All (λ t. t.value ≤ largest) ts
+    → ParseReturns (λ o. ds ++ declaration_done o) r (file_of ts) → All (λ t. t.value ≤ largest) ts
     → IfOk r (λ o. All IsWritten (ds ++ declaration_done o))
 written_at_end ts ds (Ok o) h v = written_of ts (ds ++ declaration_done o) h v
 written_at_end ts ds (Err e) h v = tt

@@ -1,18 +1,18 @@
 -- Whole texts: what is spelled is read, what is read is spelled, and every front goes on.
 use Rattle.std.proofs.Common.{◌≡◌, ℕ, subst, List, [], ◌∷◌, ◌++◌, false, refl, sym, ◌∙◌, ap, append_assoc, append-nil, Option}
 use Rattle.std.specs.Prelude.{Some, None, option_and_then, option_map, if◌then◌else◌, map}
-use Rattle.nk_lex.specs.declared.word.Word.{Word}
-use Rattle.nk_lex.specs.declared.word.Number.{Number}
+use Rattle.nk_lex.specs.declared.ident.Ident.{Ident}
+use Rattle.nk_lex.specs.declared.ident.Number.{Number}
 use Rattle.nk_grammar.specs.declared.place.Quad.{Quad}
 use Rattle.nk_grammar.specs.declared.place.Quad.TheVariants as quad
 use Rattle.nk_grammar.specs.declared.place.QuadNext.{QuadNext}
 use Rattle.nk_grammar.specs.declared.place.QuadNext.TheVariants as next
 use Rattle.nk_grammar.specs.declared.place.Place.{Place}
 use Rattle.nk_grammar.specs.declared.place.Place.TheVariants as place
-use Rattle.nk_grammar.specs.declared.decl.PolicyWord.{PolicyWord}
-use Rattle.nk_grammar.specs.declared.decl.PolicyWord.TheVariants as policies
-use Rattle.nk_grammar.specs.declared.decl.LinkWord.{LinkWord}
-use Rattle.nk_grammar.specs.declared.decl.LinkWord.TheVariants as links
+use Rattle.nk_grammar.specs.declared.decl.PolicyKeyword.{PolicyKeyword}
+use Rattle.nk_grammar.specs.declared.decl.PolicyKeyword.TheVariants as policies
+use Rattle.nk_grammar.specs.declared.decl.LinkKeyword.{LinkKeyword}
+use Rattle.nk_grammar.specs.declared.decl.LinkKeyword.TheVariants as links
 use Rattle.nk_grammar.specs.declared.decl.Naming.{Naming}
 use Rattle.nk_grammar.specs.declared.decl.Naming.TheVariants as naming
 use Rattle.nk_grammar.specs.Terminal.{Terminal, Outside, name, number, tilde, opening, closing, plus_sign, semicolon, star_sign, equal, becomes, colon, fat_arrow, id_word, drop_word, dup_word, in_word, dots, outside, is_equal, field_word, tag_word, switch_word, ports_word, link_word, let_word, fabric_word, virtual_word, by_word, arrow, comma, certificate_word, row_word, start_word, no_terminal}
@@ -30,34 +30,34 @@ abbrev finish : Option Reading → Option (List Declaration)
 finish o = option_and_then declarations_at_end o
 
 -- what is left begins a declaration, or is nothing
-abbrev IsBehind : List Terminal → Type 0
-IsBehind [] = Unit {0}
-IsBehind (outside z ∷ r) = is_comma (outside z) ≡ false
-IsBehind (t ∷ r) = ⊥
+abbrev IsAfter : List Terminal → Type 0
+IsAfter [] = Unit {0}
+IsAfter (outside z ∷ r) = is_comma (outside z) ≡ false
+IsAfter (t ∷ r) = ⊥
 
 -- declarations begin with a word of theirs
-file_behind : (ws : List Written) → IsBehind (spell_file ws)
-file_behind [] = tt
-file_behind (written_field w n ∷ ws) = refl
-file_behind (written_tag w ∷ ws) = refl
-file_behind (written_switch n p ps ∷ ws) = refl
-file_behind (written_declared_link a m b n ∷ ws) = refl
-file_behind (written_let line w p ∷ ws) = refl
-file_behind (written_fabric line w p ∷ ws) = refl
-file_behind (written_virtual a m b n w ∷ ws) = refl
+file_after : (ws : List Written) → IsAfter (spell_file ws)
+file_after [] = tt
+file_after (written_field w n ∷ ws) = refl
+file_after (written_tag w ∷ ws) = refl
+file_after (written_switch n p ps ∷ ws) = refl
+file_after (written_declared_link a m b n ∷ ws) = refl
+file_after (written_let line w p ∷ ws) = refl
+file_after (written_fabric line w p ∷ ws) = refl
+file_after (written_virtual a m b n w ∷ ws) = refl
 
--- no policy goes on with such a word behind an atom
-refused_behind_atom : (t : Tree) (fs : List Open) (ts us : Trees) (z : Outside)
+-- no policy goes on with such a word after an atom
+refused_after_atom : (t : Tree) (fs : List Open) (ts us : Trees) (z : Outside)
     → step_done (atom_ended t fs ts us) (outside z) ≡ None
-refused_behind_atom t [] ts us z = refl
-refused_behind_atom t (group ts' us' ∷ fs) ts us z = refl
-refused_behind_atom t (negation l ∷ fs) ts us z = refused_behind_atom (not_of t l) fs ts us z
+refused_after_atom t [] ts us z = refl
+refused_after_atom t (group ts' us' ∷ fs) ts us z = refl
+refused_after_atom t (negation l ∷ fs) ts us z = refused_after_atom (not_of t l) fs ts us z
 
 -- no policy takes a token of declarations
 pub outside_refused : (p : Place) (fs : List Open) (ts us : Trees) (z : Outside)
     → step_at p fs ts us (outside z) ≡ None
 outside_refused place.Want fs ts us z = refl
-outside_refused (place.Named w) fs ts us z = refused_behind_atom (name_of w) fs ts us z
+outside_refused (place.Named w) fs ts us z = refused_after_atom (name_of w) fs ts us z
 outside_refused (place.Tested w) fs ts us z = refl
 outside_refused (place.Ranged w) fs ts us z = refl
 outside_refused (place.RangedFrom w a) fs ts us z = refl
@@ -73,7 +73,7 @@ outside_refused (place.Linked (quad.ToColon a m b)) fs ts us z = refl
 outside_refused (place.After b) fs ts us z = refl
 
 -- a policy's tokens are read inside a declaration as they are alone
-inside : (k : PolicyWord) (w : Word) (line : ℕ) (ds : List Declaration) (xs r : List Terminal) (s s' : State)
+inside : (k : PolicyKeyword) (w : Ident) (line : ℕ) (ds : List Declaration) (xs r : List Terminal) (s s' : State)
     → run xs s ≡ Some s'
     → read_all (xs ++ r) (reading (in_policy k w line s) ds) ≡ read_all r (reading (in_policy k w line s') ds)
 inside k w line ds [] r s s' e = ap (λ x. read_all r (reading (in_policy k w line x) ds)) cc
@@ -85,9 +85,9 @@ inside k w line ds (x ∷ xs) r s s' e = by_step (step s x) (policy_ended s) e (
     by_step None t e go = absurd (none_some s' e)
     by_step (Some s) t e go = go s s' e
 
--- behind a policy that may end, a declaration begins, or the end comes
-policy_ends : (k : PolicyWord) (w : Word) (line : ℕ) (ds : List Declaration) (p : Tree) (s : State) (r : List Terminal)
-    → policy_ended s ≡ Some p → IsBehind r
+-- after a policy that may end, a declaration begins, or the end comes
+policy_ends : (k : PolicyKeyword) (w : Ident) (line : ℕ) (ds : List Declaration) (p : Tree) (s : State) (r : List Terminal)
+    → policy_ended s ≡ Some p → IsAfter r
     → finish (read_all r (reading (in_policy k w line s) ds)) ≡ finish (read_all r (reading between (one_more ds (defined k w p line))))
 policy_ends k w line ds p s [] e b = ap (λ o. option_map (λ p. one_more ds (defined k w p line)) o) e
 policy_ends k w line ds p s (outside z ∷ r) e b =
@@ -112,7 +112,7 @@ policy_ends k w line ds p s (in_word ∷ r) e b = absurd b
 policy_ends k w line ds p s (dots ∷ r) e b = absurd b
 
 -- further ports
-ports_pass : (n : Number) (qs ps : List Number) (ds : List Declaration) (r : List Terminal) → IsBehind r
+ports_pass : (n : Number) (qs ps : List Number) (ds : List Declaration) (r : List Terminal) → IsAfter r
     → finish (read_all (spell_ports ps ++ r) (reading (port_read n qs) ds)) ≡ finish (read_all r (reading between (one_more ds (switch n (qs ++ ps)))))
 ports_pass n qs (p ∷ ps) ds r b =
     ports_pass n (qs ++ p ∷ []) ps ds r b
@@ -157,14 +157,14 @@ left_by p = by_state (run (spell_pol p) first_state) refl (reads p)
         joined_of ts = sum_from ts
 
 -- the tokens of a policy leave its declaration
-policy_passes : (k : PolicyWord) (line : ℕ) (w : Word) (p : Pol) (ds : List Declaration) (r : List Terminal) → IsBehind r
+policy_passes : (k : PolicyKeyword) (line : ℕ) (w : Ident) (p : Pol) (ds : List Declaration) (r : List Terminal) → IsAfter r
     → finish (read_all (spell_pol p ++ r) (reading (in_policy k w line first_state) ds)) ≡ finish (read_all r (reading between (one_more ds (defined k w (pol_tree p) line))))
 policy_passes k line w p ds r b =
     let l = left_by p in
     ap finish (inside k w line ds (spell_pol p) r first_state l.0 l.1) ∙ policy_ends k w line ds (pol_tree p) l.0 r l.2 b
 
 -- a declaration's tokens leave the declaration
-declaration_passes : (w : Written) (ds : List Declaration) (r : List Terminal) → IsBehind r
+declaration_passes : (w : Written) (ds : List Declaration) (r : List Terminal) → IsAfter r
     → finish (read_all (spell_declaration w ++ r) (reading between ds)) ≡ finish (read_all r (reading between (one_more ds (declared w))))
 declaration_passes (written_field w n) ds r b = refl
 declaration_passes (written_tag w) ds r b = refl
@@ -179,7 +179,7 @@ file_passes : (ws : List Written) (ds : List Declaration)
     → finish (read_all (spell_file ws) (reading between ds)) ≡ Some (ds ++ map declared ws)
 file_passes [] ds = ap (λ x. Some x) (sym (append-nil ds))
 file_passes (w ∷ ws) ds =
-    declaration_passes w ds (spell_file ws) (file_behind ws)
+    declaration_passes w ds (spell_file ws) (file_after ws)
     ∙ file_passes ws (one_more ds (declared w))
     ∙ ap (λ x. Some x) (append_assoc ds (declared w ∷ []) (map declared ws))
 
@@ -188,34 +188,34 @@ pub reads_file : (ts : List Terminal) (ds : List Declaration) → HasDeclaration
     → option_and_then declarations_at_end (read_all ts first_reading) ≡ Some ds
 reads_file ts ds h = ap (λ x. finish (read_all x first_reading)) h.1 ∙ file_passes h.0 [] ∙ ap (λ x. Some x) (sym h.2)
 
--- the ports so far, each with a comma behind it
+-- the ports so far, each with a comma after it
 abbrev wanted_ports : List Number → List Terminal
 wanted_ports [] = []
 wanted_ports (p ∷ ps) = number p ∷ (spell_ports ps ++ outside comma ∷ [])
 
 -- the word that a policy's declaration begins with
-abbrev policy_word : PolicyWord → ℕ → Outside
+abbrev policy_word : PolicyKeyword → ℕ → Outside
 policy_word policies.Let line = let_word line
 policy_word policies.Fabric line = fabric_word line
 
 -- the declaration of a policy, as it is written
-abbrev written_policy : PolicyWord → ℕ → Word → Pol → Written
+abbrev written_policy : PolicyKeyword → ℕ → Ident → Pol → Written
 written_policy policies.Let line w p = written_let line w p
 written_policy policies.Fabric line w p = written_fabric line w p
 
 -- its tokens
-policy_spelled : (k : PolicyWord) (line : ℕ) (w : Word) (p : Pol)
+policy_spelled : (k : PolicyKeyword) (line : ℕ) (w : Ident) (p : Pol)
     → outside (policy_word k line) ∷ name w ∷ equal ∷ spell_pol p ≡ spell_declaration (written_policy k line w p)
 policy_spelled policies.Let line w p = refl
 policy_spelled policies.Fabric line w p = refl
 
 -- and its value
-policy_declared : (k : PolicyWord) (line : ℕ) (w : Word) (p : Pol) → declared (written_policy k line w p) ≡ defined k w (pol_tree p) line
+policy_declared : (k : PolicyKeyword) (line : ℕ) (w : Ident) (p : Pol) → declared (written_policy k line w p) ≡ defined k w (pol_tree p) line
 policy_declared policies.Let line w p = refl
 policy_declared policies.Fabric line w p = refl
 
 -- the word that a link's declaration begins with
-abbrev wire_word : LinkWord → Outside
+abbrev wire_word : LinkKeyword → Outside
 wire_word links.Link = link_word
 wire_word links.Virtual = virtual_word
 
@@ -269,15 +269,15 @@ same_file : (ws : List Written) (ts us vs : List Terminal) (t : Terminal) → ts
 same_file ws ts us vs t e f = ap (λ x. x ++ t ∷ []) e ∙ append_assoc (spell_file ws) us (t ∷ []) ∙ ap (λ x. spell_file ws ++ x) f
 
 -- and what it is spelled as
-behind : {us xs : List Terminal} {t u : Terminal} → us ≡ xs → t ≡ u → us ++ t ∷ [] ≡ xs ++ u ∷ []
-behind e f = rw (e, f)
+following : {us xs : List Terminal} {t u : Terminal} → us ≡ xs → t ≡ u → us ++ t ∷ [] ≡ xs ++ u ∷ []
+following e f = rw (e, f)
 
 -- the readings that a step may lead to
 abbrev Leads : Option Reading → List Terminal → Type 0
 Leads None ts = Unit {0}
 Leads (Some r) ts = IsFront ts r.phase r.declarations
 
--- a declaration that begins behind others
+-- a declaration that begins after others
 begins : (ts : List Terminal) (ds : List Declaration) (t : Terminal) → HasDeclarations ts ds
     → Leads (begin_declaration ds t) (ts ++ t ∷ [])
 begins ts ds (name x) h = tt
@@ -314,8 +314,8 @@ begins ts ds (outside start_word) h = tt
 begins ts ds (outside no_terminal) h = tt
 
 -- a name, a number or a sign that is wanted
-name_leads : (t : Terminal) (ts : List Terminal) (f : Word → Reading)
-    → ((w : Word) → t ≡ name w → Leads (Some (f w)) ts)
+name_leads : (t : Terminal) (ts : List Terminal) (f : Ident → Reading)
+    → ((w : Ident) → t ≡ name w → Leads (Some (f w)) ts)
     → Leads (with_name t None (λ w. Some (f w))) ts
 name_leads (name x) ts f e = e x refl
 name_leads (number x) ts f e = tt
@@ -525,7 +525,7 @@ done_here ws w ds ts us t d e f =
     (h.0, [], h.2, h.1 ∙ sym (append-nil (spell_file h.0)), refl)
 
 -- one more token of a link
-wire_leads : (k : LinkWord) (ws : List Written) (ds : List Declaration) (ts us xs : List Terminal) (t : Terminal) (q : QuadNext)
+wire_leads : (k : LinkKeyword) (ws : List Written) (ds : List Declaration) (ts us xs : List Terminal) (t : Terminal) (q : QuadNext)
     → ds ≡ map declared ws → ts ≡ spell_file ws ++ us → us ≡ outside (wire_word k) ∷ xs
     → IsQuadSpelledWith false xs t q → Leads (link_on k ds q) (ts ++ t ∷ [])
 wire_leads k ws ds ts us xs t next.Refused d e f g = tt
@@ -537,7 +537,7 @@ wire_leads links.Virtual ws ds ts us xs t (next.Full a m b n) d e f g =
     (ws, us ++ t ∷ [], d, same_file ws ts us (us ++ t ∷ []) t e refl, ap (λ x. x ++ t ∷ []) f ∙ ap (λ x. outside virtual_word ∷ x) (sym g))
 
 -- a policy that is done
-policy_here : (k : PolicyWord) (ws : List Written) (ds : List Declaration) (ts us vs : List Terminal) (w : Word) (line : ℕ) (s : State) (p : Tree)
+policy_here : (k : PolicyKeyword) (ws : List Written) (ds : List Declaration) (ts us vs : List Terminal) (w : Ident) (line : ℕ) (s : State) (p : Tree)
     → ds ≡ map declared ws → ts ≡ spell_file ws ++ us → us ≡ outside (policy_word k line) ∷ name w ∷ equal ∷ vs → run vs first_state ≡ Some s
     → policy_ended s ≡ Some p → HasDeclarations ts (one_more ds (defined k w p line))
 policy_here k ws ds ts us vs w line s p d e f g h =
@@ -546,7 +546,7 @@ policy_here k ws ds ts us vs w line s p d e f g h =
     (done_more ws (written_policy k line w tree.0) ts us ds d e (f ∙ ap (λ x. outside (policy_word k line) ∷ name w ∷ equal ∷ x) tree.1 ∙ policy_spelled k line w tree.0))
 
 -- a policy that goes on, or ends before the token
-policy_leads : (k : PolicyWord) (ws : List Written) (ds : List Declaration) (ts us vs : List Terminal) (w : Word) (line : ℕ) (s : State) (t : Terminal)
+policy_leads : (k : PolicyKeyword) (ws : List Written) (ds : List Declaration) (ts us vs : List Terminal) (w : Ident) (line : ℕ) (s : State) (t : Terminal)
     → ds ≡ map declared ws → ts ≡ spell_file ws ++ us
     → us ≡ outside (policy_word k line) ∷ name w ∷ equal ∷ vs → run vs first_state ≡ Some s → Leads (policy_on k w line ds (step s t) (policy_ended s) t) (ts ++ t ∷ [])
 policy_leads k ws ds ts us vs w line s t d e f g = by_step (step s t) refl
@@ -573,14 +573,14 @@ policy_leads k ws ds ts us vs w line s t d e f g = by_step (step s t) refl
 front_leads : (p : Phase) (ds : List Declaration) (ts : List Terminal) (t : Terminal)
     → IsFront ts p ds → Leads (next_reading p ds t) (ts ++ t ∷ [])
 front_leads between ds ts t h = begins ts ds t (h.0, h.3 ∙ ap (λ x. spell_file h.0 ++ x) h.4 ∙ append-nil (spell_file h.0), h.2)
-front_leads (name_wanted naming.Field) ds ts t h = name_leads t _ (λ w. reading (field_named w) ds) (λ w e. (h.0, h.1 ++ t ∷ [], h.2, same_file h.0 ts h.1 (h.1 ++ t ∷ []) t h.3 refl, behind h.4 e))
-front_leads (name_wanted naming.Tag) ds ts t h = name_leads t _ (λ w. reading between (one_more ds (tag w))) (λ w e. done_here h.0 (written_tag w) ds ts h.1 t h.2 h.3 (behind h.4 e))
-front_leads (name_wanted (naming.Policy k line)) ds ts t h = name_leads t _ (λ w. reading (policy_named k w line) ds) (λ w e. (h.0, h.1 ++ t ∷ [], h.2, same_file h.0 ts h.1 (h.1 ++ t ∷ []) t h.3 refl, behind h.4 e))
+front_leads (name_wanted naming.Field) ds ts t h = name_leads t _ (λ w. reading (field_named w) ds) (λ w e. (h.0, h.1 ++ t ∷ [], h.2, same_file h.0 ts h.1 (h.1 ++ t ∷ []) t h.3 refl, following h.4 e))
+front_leads (name_wanted naming.Tag) ds ts t h = name_leads t _ (λ w. reading between (one_more ds (tag w))) (λ w e. done_here h.0 (written_tag w) ds ts h.1 t h.2 h.3 (following h.4 e))
+front_leads (name_wanted (naming.Policy k line)) ds ts t h = name_leads t _ (λ w. reading (policy_named k w line) ds) (λ w e. (h.0, h.1 ++ t ∷ [], h.2, same_file h.0 ts h.1 (h.1 ++ t ∷ []) t h.3 refl, following h.4 e))
 front_leads (name_wanted (naming.Virtual a m b n)) ds ts t h =
-    name_leads t _ (λ w. reading between (one_more ds (virtual_link a m b n w))) (λ w e. done_here h.0 (written_virtual a m b n w) ds ts h.1 t h.2 h.3 (behind h.4 e))
-front_leads (field_named w) ds ts t h = number_leads t _ (λ n. reading between (one_more ds (field w n))) (λ n e. done_here h.0 (written_field w n) ds ts h.1 t h.2 h.3 (behind h.4 e))
-front_leads switch_read ds ts t h = number_leads t _ (λ n. reading (switch_numbered n) ds) (λ w e. (h.0, h.1 ++ t ∷ [], h.2, same_file h.0 ts h.1 (h.1 ++ t ∷ []) t h.3 refl, behind h.4 e))
-front_leads (switch_numbered n) ds ts t h = ports_leads t _ (reading (port_wanted n []) ds) (λ e. (h.0, h.1 ++ t ∷ [], h.2, same_file h.0 ts h.1 (h.1 ++ t ∷ []) t h.3 refl, behind h.4 e))
+    name_leads t _ (λ w. reading between (one_more ds (virtual_link a m b n w))) (λ w e. done_here h.0 (written_virtual a m b n w) ds ts h.1 t h.2 h.3 (following h.4 e))
+front_leads (field_named w) ds ts t h = number_leads t _ (λ n. reading between (one_more ds (field w n))) (λ n e. done_here h.0 (written_field w n) ds ts h.1 t h.2 h.3 (following h.4 e))
+front_leads switch_read ds ts t h = number_leads t _ (λ n. reading (switch_numbered n) ds) (λ w e. (h.0, h.1 ++ t ∷ [], h.2, same_file h.0 ts h.1 (h.1 ++ t ∷ []) t h.3 refl, following h.4 e))
+front_leads (switch_numbered n) ds ts t h = ports_leads t _ (reading (port_wanted n []) ds) (λ e. (h.0, h.1 ++ t ∷ [], h.2, same_file h.0 ts h.1 (h.1 ++ t ∷ []) t h.3 refl, following h.4 e))
 front_leads (port_wanted n ps) ds ts t h =
     number_leads t _ (λ p. reading (port_read n (ps ++ p ∷ [])) ds) (λ p e. (
       h.0,
@@ -592,13 +592,13 @@ front_leads (port_wanted n ps) ds ts t h =
 front_leads (port_read n ps) ds ts t h =
     let s : IsPhaseSpelled (port_read n ps) h.1 = h.4 in
     comma_leads t _ (reading (port_wanted n ps) ds) _
-    (λ e. (h.0, h.1 ++ t ∷ [], h.2, same_file h.0 ts h.1 (h.1 ++ t ∷ []) t h.3 refl, behind s.3 e ∙ ap (λ x. outside switch_word ∷ number n ∷ outside ports_word ∷ wanted_ports x) (sym s.2)))
+    (λ e. (h.0, h.1 ++ t ∷ [], h.2, same_file h.0 ts h.1 (h.1 ++ t ∷ []) t h.3 refl, following s.3 e ∙ ap (λ x. outside switch_word ∷ number n ∷ outside ports_word ∷ wanted_ports x) (sym s.2)))
     (begins ts (one_more ds (switch n ps)) t
     (subst (λ x. HasDeclarations ts (one_more ds (switch n x))) (sym s.2) (done_more h.0 (written_switch n s.0 s.1) ts h.1 ds h.2 h.3 s.3)))
 front_leads (link_read k q) ds ts t h = wire_leads k h.0 ds ts h.1 (spell_quad false q) t (quad_step false q t) h.2 h.3 h.4 (quad_spell false q t)
-front_leads (by_wanted a m b n) ds ts t h = by_leads t _ (reading (name_wanted (naming.Virtual a m b n)) ds) (λ e. (h.0, h.1 ++ t ∷ [], h.2, same_file h.0 ts h.1 (h.1 ++ t ∷ []) t h.3 refl, behind h.4 e))
+front_leads (by_wanted a m b n) ds ts t h = by_leads t _ (reading (name_wanted (naming.Virtual a m b n)) ds) (λ e. (h.0, h.1 ++ t ∷ [], h.2, same_file h.0 ts h.1 (h.1 ++ t ∷ []) t h.3 refl, following h.4 e))
 front_leads (policy_named k w line) ds ts t h =
-    equal_leads t _ (reading (in_policy k w line first_state) ds) (λ e. (h.0, h.1 ++ t ∷ [], h.2, same_file h.0 ts h.1 (h.1 ++ t ∷ []) t h.3 refl, ([], behind h.4 e, refl)))
+    equal_leads t _ (reading (in_policy k w line first_state) ds) (λ e. (h.0, h.1 ++ t ∷ [], h.2, same_file h.0 ts h.1 (h.1 ++ t ∷ []) t h.3 refl, ([], following h.4 e, refl)))
 front_leads (in_policy k w line s) ds ts t h =
     let p : IsPhaseSpelled (in_policy k w line s) h.1 = h.4 in
     policy_leads k h.0 ds ts h.1 p.0 w line s t h.2 h.3 p.1 p.2
@@ -635,35 +635,35 @@ pub a_number : Number
 a_number = record { value = 0; line = 0 }
 
 -- some name
-a_word : Word
+a_word : Ident
 a_word = record { text = []; line = 0 }
 
 -- the shortest policy
 abbrev pub id_pol : Pol
 id_pol = one_term (one_factor (plain written_id))
 
--- equal tokens, and the same behind them
+-- equal tokens, and the same after them
 goes_on_with : (us xs more : List Terminal) → us ≡ xs → us ++ more ≡ xs ++ more
 goes_on_with us xs more e = ap (λ x. x ++ more) e
 
--- what stands behind the two ends of a link
-abbrev link_tail : LinkWord → List Terminal
+-- what stands after the two ends of a link
+abbrev link_tail : LinkKeyword → List Terminal
 link_tail links.Link = []
 link_tail links.Virtual = outside by_word ∷ name a_word ∷ []
 
 -- a link, as it is written
-abbrev written_link_of : LinkWord → Number → Number → Number → Number → Written
+abbrev written_link_of : LinkKeyword → Number → Number → Number → Number → Written
 written_link_of links.Link a m b n = written_declared_link a m b n
 written_link_of links.Virtual a m b n = written_virtual a m b n a_word
 
 -- and its tokens
-link_spelled : (k : LinkWord) (a m b n : Number)
+link_spelled : (k : LinkKeyword) (a m b n : Number)
     → outside (wire_word k) ∷ (spell_link false a m b n ++ link_tail k) ≡ spell_declaration (written_link_of k a m b n)
 link_spelled links.Link a m b n = refl
 link_spelled links.Virtual a m b n = refl
 
 -- a part of a link can be completed
-quad_completes : (k : LinkWord) (ws : List Written) (ts us : List Terminal) (q : Quad) → ts ≡ spell_file ws ++ us
+quad_completes : (k : LinkKeyword) (ws : List Written) (ts us : List Terminal) (q : Quad) → ts ≡ spell_file ws ++ us
     → us ≡ outside (wire_word k) ∷ spell_quad false q → FileGoesOn ts
 quad_completes k ws ts us quad.Start e f = completed ws ts us (number a_number ∷ colon ∷ number a_number ∷ outside arrow ∷ number a_number ∷ colon ∷ number a_number ∷ link_tail k) (written_link_of k a_number a_number a_number a_number) e (goes_on_with us _ _ f ∙ link_spelled k a_number a_number a_number a_number)
 quad_completes k ws ts us (quad.Switch a) e f = completed ws ts us (colon ∷ number a ∷ outside arrow ∷ number a ∷ colon ∷ number a ∷ link_tail k) (written_link_of k a a a a) e (goes_on_with us _ _ f ∙ link_spelled k a a a a)

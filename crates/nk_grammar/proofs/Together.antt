@@ -5,7 +5,7 @@ use Rattle.std.specs.declared.result.Result.{Result}
 use Rattle.nk_lex.specs.declared.token.Token.{Token}
 use Rattle.nk_lex.specs.Lex.{tokens_of}
 use Rattle.nk_lex.specs.Spans.{line_feeds}
-use Rattle.nk_lex.specs.Joined.{token_moved, behind, JoinsTexts}
+use Rattle.nk_lex.specs.Joined.{token_moved, joined_after, JoinsTexts}
 use Rattle.nk_lex.specs.Faults.{and_then}
 use Rattle.nk_grammar.specs.declared.decl.GrammarError.{GrammarError}
 use Rattle.nk_grammar.specs.declared.decl.GrammarError.TheVariants as error
@@ -20,7 +20,7 @@ use Rattle.nk_grammar.specs.Moved.{row_moved, IsReadTogether}
 use Rattle.nk_grammar.proofs.Certificates.{as_declaring, declaring_judged}
 use Rattle.nk_grammar.proofs.CertifiedTexts.{not_certificate}
 use Rattle.nk_grammar.proofs.CertifiedAnswering.{answers}
-use Rattle.nk_grammar.proofs.Carried.{rows_behind, rows_further}
+use Rattle.nk_grammar.proofs.Carried.{rows_following, rows_further}
 use Rattle.nk_grammar.proofs.Moves.{terminal_moved, token_terminal}
 
 -- ---- the program in front
@@ -29,7 +29,7 @@ use Rattle.nk_grammar.proofs.Moves.{terminal_moved, token_terminal}
 no_value : {X A : Type 0} (e : GrammarError) (x : X) → ◌≡◌ {A = Result X GrammarError} (Err e) (Ok x) → A
 no_value e x f = absurd cc
 
--- what is left of the tokens behind a program's
+-- what is left of the tokens after a program's
 record IsRead (ts us : List Token) (r : Reading) (ds : List Declaration) (line : ℕ) : Type 0 where
   left : Reading
   last : ℕ
@@ -120,7 +120,7 @@ stays ts us ds rs e f =
     front.rest
     ∙ ap (λ l. rest_of_certified l (certifying (declaring front.left) [] []) front.last) b.parts
     ∙ word_read b.word b.rest front.left ds front.last b.is front.ends
-    ∙ rows_behind ds b.rest rs [] [] [] b.word.line alone
+    ∙ rows_following ds b.rest rs [] [] [] b.word.line alone
 
 -- a certificate's tokens further on
 pub moves : (us : List Token) (rs : List Row) (lines places : ℕ) → certified_of us ≡ Ok (certified [] rs)
@@ -142,6 +142,6 @@ together joins a b ts us ds rs e f g h =
     let places : ℕ = length a + 1 in
     record {
       tokens = ts ++ map (token_moved lines places) us;
-      cut = joins a b ∙ ap (λ x. behind x lines places (tokens_of b)) e ∙ ap (behind (Ok ts) lines places) g;
+      cut = joins a b ∙ ap (λ x. joined_after x lines places (tokens_of b)) e ∙ ap (joined_after (Ok ts) lines places) g;
       read = stays ts (map (token_moved lines places) us) ds (map (row_moved lines) rs) f (moves us rs lines places h);
     }

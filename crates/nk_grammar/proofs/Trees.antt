@@ -19,7 +19,7 @@ tree_of_sum ps = ap sum_of (row_trees (hidden-the_row-Ast-0 ps.items) ∙ ap tre
 pub tree_of_seq : (ps : Asts) → tree_of (Seq ps) ≡ seq_of (trees_of ps.items.items)
 tree_of_seq ps = ap seq_of (row_trees (hidden-the_row-Ast-0 ps.items) ∙ ap trees_of (items_hidden-the_row-Ast-0 ps.items))
 
--- one more tree behind the others
+-- one more tree after the others
 pub trees_push : (xs : List Ast) (y : Ast) → trees_of (xs ++ y ∷ []) ≡ with_part (trees_of xs) (tree_of y)
 trees_push [] y = refl
 trees_push (x ∷ xs) y = ap (part (tree_of x)) (trees_push xs y)

@@ -9,7 +9,7 @@ use Rattle.nk_lex.specs.Lex.{largest}
 use Rattle.nk_grammar.specs.Terminal.{Terminal, number, opening, terminal_from, terminal_of}
 use Rattle.nk_grammar.specs.File.{Declaration, IsWritten, Written, written_field, written_tag, written_switch, written_declared_link, written_let, written_fabric, written_virtual, spell_declaration, spell_file, declared}
 use Rattle.nk_grammar.specs.FileMachine.{file_of}
-use Rattle.nk_grammar.specs.Answer.{terminals, IsAnswer}
+use Rattle.nk_grammar.specs.Answer.{terminals, IsParse}
 use Rattle.nk_grammar.proofs.Answering.{answers}
 
 -- a number is one of a text
@@ -28,10 +28,10 @@ are_small (t ∷ ts) v =
     All-cons IsSmall (terminal_of t) (terminals ts) (small_from t.kind t.line t.value t.text (v 0 t (omega arith)))
     (are_small ts (All-tail (λ x. x.value ≤ largest) t ts v))
 
--- what stands behind
-all_behind : (xs ys : List Terminal) → All IsSmall (xs ++ ys) → All IsSmall ys
-all_behind [] ys h = h
-all_behind (x ∷ xs) ys h = all_behind xs ys (All-tail IsSmall x (xs ++ ys) h)
+-- what stands after
+all_following : (xs ys : List Terminal) → All IsSmall (xs ++ ys) → All IsSmall ys
+all_following [] ys h = h
+all_following (x ∷ xs) ys h = all_following xs ys (All-tail IsSmall x (xs ++ ys) h)
 
 -- a declaration spelled with them
 written_one : (w : Written) (rest : List Terminal) → All IsSmall (spell_declaration w ++ rest) → IsWritten (declared w)
@@ -47,12 +47,12 @@ pub written_all : (ws : List Written) → All IsSmall (spell_file ws) → All Is
 written_all [] h = All-nil IsWritten
 written_all (w ∷ ws) h =
     All-cons IsWritten (declared w) (map declared ws) (written_one w (spell_file ws) h)
-    (written_all ws (all_behind (spell_declaration w) (spell_file ws) h))
+    (written_all ws (all_following (spell_declaration w) (spell_file ws) h))
 
 -- what is read
 pub written_of : (ts : List Token) (ds : List Declaration) → file_of ts ≡ Ok ds
     → All (λ t. t.value ≤ largest) ts → All IsWritten ds
 written_of ts ds e v =
-    let answer : IsAnswer ts (Ok ds) = subst (IsAnswer ts) e (answers ts) in
+    let answer : IsParse ts (Ok ds) = subst (IsParse ts) e (answers ts) in
     let spelled : All IsSmall (spell_file answer.0.0) = subst (All IsSmall) answer.0.1 (are_small ts v) in
     subst (All IsWritten) (sym answer.0.2) (written_all answer.0.0 spelled)

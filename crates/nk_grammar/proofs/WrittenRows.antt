@@ -5,7 +5,7 @@ use Rattle.std.specs.Prelude.{Ok, Err, IfOk, map, All}
 use Rattle.std.specs.declared.result.Result.{Result}
 use Rattle.nk_lex.specs.declared.token.Token.{Token}
 use Rattle.nk_lex.specs.Lex.{largest}
-use Rattle.nk_lex.specs.declared.word.Number.{Number}
+use Rattle.nk_lex.specs.declared.ident.Number.{Number}
 use Rattle.nk_grammar.specs.Terminal.{Terminal, number, opening, colon, outside, certificate_word, row_word, start_word}
 use Rattle.nk_grammar.specs.Grammar.{spell_pol, pol_tree}
 use Rattle.nk_grammar.specs.File.{Declaration, IsWritten, spell_file}
@@ -13,7 +13,7 @@ use Rattle.nk_grammar.specs.Certified.{Row, row, row_value, IsWrittenRow, Writte
 use Rattle.nk_grammar.specs.CertifiedMachine.{certified_of}
 use Rattle.nk_grammar.specs.CertifiedAnswer.{IsCertifiedAnswer}
 use Rattle.nk_grammar.specs.CertifiedProgress.{BeginsWithStart}
-use Rattle.nk_grammar.specs.FileMachine.{Returns}
+use Rattle.nk_grammar.specs.FileMachine.{ParseReturns}
 use Rattle.nk_grammar.specs.declared.decl.CertRow.{CertRow}
 use Rattle.nk_grammar.specs.declared.decl.GrammarError.{GrammarError}
 use Rattle.nk_grammar.proofs.CertifiedAnswering.{answers}
@@ -25,7 +25,7 @@ all_before : (P : Terminal → Type 0) (xs ys : List Terminal) → All P (xs ++ 
 all_before P [] ys h = All-nil P
 all_before P (x ∷ xs) ys h = All-cons P x xs (h 0 opening (omega arith)) (all_before P xs ys (All-tail P x (xs ++ ys) h))
 
--- what stands behind
+-- what stands after
 all_after : (P : Terminal → Type 0) (xs ys : List Terminal) → All P (xs ++ ys) → All P ys
 all_after P [] ys h = h
 all_after P (x ∷ xs) ys h = all_after P xs ys (All-tail P x (xs ++ ys) h)
@@ -58,10 +58,10 @@ pub declarations_written : (ts : List Token) (ds : List Declaration) (rs : List 
 declarations_written ts ds rs e v =
     let answer : IsCertifiedAnswer ts (Ok (certified ds rs)) = subst (IsCertifiedAnswer ts) e (answers ts) in
     let h = answer.0 in
-    let behind : List Terminal = outside certificate_word ∷ spell_certificate h.line h.pred h.others in
-    let spelled : All IsSmall (spell_file h.decls ++ behind) = subst (All IsSmall) h.tokens (are_small ts v) in
+    let following : List Terminal = outside certificate_word ∷ spell_certificate h.line h.pred h.others in
+    let spelled : All IsSmall (spell_file h.decls ++ following) = subst (All IsSmall) h.tokens (are_small ts v) in
     subst (All IsWritten) (sym (ap (λ c. c.declarations) h.value))
-    (written_all h.decls (all_before IsSmall (spell_file h.decls) behind spelled))
+    (written_all h.decls (all_before IsSmall (spell_file h.decls) following spelled))
 
 -- the rows that are read
 pub rows_written : (ts : List Token) (ds : List Declaration) (rs : List Row) → certified_of ts ≡ Ok (certified ds rs)
@@ -70,22 +70,22 @@ rows_written ts ds rs e v =
     let answer : IsCertifiedAnswer ts (Ok (certified ds rs)) = subst (IsCertifiedAnswer ts) e (answers ts) in
     let h = answer.0 in
     let front : List Terminal = outside certificate_word ∷ outside (row_word h.line) ∷ outside start_word ∷ colon ∷ [] in
-    let behind : List Terminal = spell_pol h.pred ++ spell_rows h.others in
-    let spelled : All IsSmall (spell_file h.decls ++ (front ++ behind)) = subst (All IsSmall) h.tokens (are_small ts v) in
-    let certificate : All IsSmall behind = all_after IsSmall front behind (all_after IsSmall (spell_file h.decls) (front ++ behind) spelled) in
+    let following : List Terminal = spell_pol h.pred ++ spell_rows h.others in
+    let spelled : All IsSmall (spell_file h.decls ++ (front ++ following)) = subst (All IsSmall) h.tokens (are_small ts v) in
+    let certificate : All IsSmall following = all_after IsSmall front following (all_after IsSmall (spell_file h.decls) (front ++ following) spelled) in
     subst (All IsWrittenRow) (sym (ap (λ c. c.rows) h.value))
     (All-cons IsWrittenRow (row [] (pol_tree h.pred) h.line) (map row_of h.others) (All-nil (λ n. n ≤ largest))
     (rows_small h.others (all_after IsSmall (spell_pol h.pred) (spell_rows h.others) certificate)))
 
 -- the last row that is read
 pub last_row_written : (ts : List Token) (ds : List Declaration) (rs : List Row) (r : Result CertRow GrammarError) → All (λ t. t.value ≤ largest) ts
-    → Returns (λ x. certified ds (rs ++ row_value x ∷ [])) r (certified_of ts) → IfOk r (λ x. IsWrittenRow (row_value x))
+    → ParseReturns (λ x. certified ds (rs ++ row_value x ∷ [])) r (certified_of ts) → IfOk r (λ x. IsWrittenRow (row_value x))
 last_row_written ts ds rs (Ok x) v e = last_has IsWrittenRow rs (row_value x) (rows_written ts ds (rs ++ row_value x ∷ []) e v)
 last_row_written ts ds rs (Err f) v e = tt
 
 -- and the first, which may be that
 pub last_row_begins : (ts : List Token) (ds : List Declaration) (rs : List Row) (r : Result CertRow GrammarError)
-    → Returns (λ x. certified ds (rs ++ row_value x ∷ [])) r (certified_of ts) → IfOk r (λ x. BeginsWithStart (rs ++ row_value x ∷ []))
+    → ParseReturns (λ x. certified ds (rs ++ row_value x ∷ [])) r (certified_of ts) → IfOk r (λ x. BeginsWithStart (rs ++ row_value x ∷ []))
 last_row_begins ts ds rs (Ok x) e =
     let answer : IsCertifiedAnswer ts (Ok (certified ds (rs ++ row_value x ∷ []))) = subst (IsCertifiedAnswer ts) e (answers ts) in
     subst (λ c. BeginsWithStart c.rows) (sym answer.0.value) refl

@@ -13,11 +13,11 @@ use Rattle.nk_grammar.specs.FileMachine.{Reading, read_all, first_reading, open_
 abbrev pub terminals : List Token → List Terminal
 terminals ts = map terminal_of ts
 
--- behind these tokens more than 256 parentheses and `~` are open
+-- after these tokens more than 256 parentheses and `~` are open
 abbrev pub IsTooDeep : List Terminal → Type 0
 IsTooDeep ts = (r : Reading) × (read_all ts first_reading ≡ Some r) × (256 < open_count r)
 
--- behind no front of these tokens more than 256 are open
+-- after no front of these tokens more than 256 are open
 abbrev pub IsShallow : List Terminal → Type 0
 IsShallow ts = (xs ys : List Terminal) → ts ≡ xs ++ ys → IsTooDeep xs → ⊥
 
@@ -51,15 +51,15 @@ pub record IsDeepToken (ts : List Token) (line : ℕ) : Type 0 where
   pub deep : IsTooDeep (terminals (before ++ token ∷ []))
 
 -- the declarations, or the first fault
-abbrev pub IsAnswer : List Token → Result (List Declaration) GrammarError → Type 0
-IsAnswer ts (Ok ds) = HasDeclarations (terminals ts) ds × IsShallow (terminals ts)
-IsAnswer ts (Err (error.Unexpected line)) = IsUnexpectedToken ts line ⊎ IsUnexpectedEnd ts line
-IsAnswer ts (Err (error.TooDeep line)) = IsDeepToken ts line
-IsAnswer ts (Err error.NoMemory) = ⊥
+abbrev pub IsParse : List Token → Result (List Declaration) GrammarError → Type 0
+IsParse ts (Ok ds) = HasDeclarations (terminals ts) ds × IsShallow (terminals ts)
+IsParse ts (Err (error.Unexpected line)) = IsUnexpectedToken ts line ⊎ IsUnexpectedEnd ts line
+IsParse ts (Err (error.TooDeep line)) = IsDeepToken ts line
+IsParse ts (Err error.NoMemory) = ⊥
 
 -- what reading answers is that
 abbrev pub AnswersTexts : Type 0
-AnswersTexts = (ts : List Token) → IsAnswer ts (file_of ts)
+AnswersTexts = (ts : List Token) → IsParse ts (file_of ts)
 
 -- the tokens of a text are those of no other
 abbrev pub IsUnique : Type 0

@@ -1,7 +1,7 @@
 -- The grammar of texts with a certificate.
 use Rattle.std.specs.Prelude.{◌≡◌, ◌≤◌, ℕ, List, [], ◌∷◌, ◌++◌, map, All}
 use Rattle.nk_lex.specs.Lex.{largest}
-use Rattle.nk_lex.specs.declared.word.Number.{Number}
+use Rattle.nk_lex.specs.declared.ident.Number.{Number}
 use Rattle.nk_grammar.specs.declared.decl.CertRow.{CertRow}
 use Rattle.nk_grammar.specs.Terminal.{Terminal, number, colon, outside, certificate_word, row_word, start_word}
 use Rattle.nk_grammar.specs.Tree.{Tree, tree_of}

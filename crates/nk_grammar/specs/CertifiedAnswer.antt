@@ -10,11 +10,11 @@ use Rattle.nk_grammar.specs.Answer.{terminals}
 use Rattle.nk_lex.specs.Spans.{last_line}
 use Rattle.nk_grammar.specs.CertifiedMachine.{Certifying, certify_all, first_certifying, open_certified, certified_of}
 
--- behind these tokens more than 256 parentheses and `~` are open
+-- after these tokens more than 256 parentheses and `~` are open
 abbrev pub IsCertifiedTooDeep : List Terminal → Type 0
 IsCertifiedTooDeep ts = (r : Certifying) × (certify_all ts first_certifying ≡ Some r) × (256 < open_certified r)
 
--- behind no front of these tokens more than 256 are open
+-- after no front of these tokens more than 256 are open
 abbrev pub IsCertifiedShallow : List Terminal → Type 0
 IsCertifiedShallow ts = (xs ys : List Terminal) → ts ≡ xs ++ ys → IsCertifiedTooDeep xs → ⊥
 

@@ -58,7 +58,7 @@ in_line None other f = other
 abbrev pub with_row : {A : Type 0} → Terminal → A → (ℕ → A) → A
 with_row t other f = in_line (row_in t) other f
 
--- the certificate begins behind declarations that may end there
+-- the certificate begins after declarations that may end there
 abbrev pub certificate_begins : List Row → Option (List Declaration) → Option Certifying
 certificate_begins rs None = None
 certificate_begins rs (Some ds) = Some (certifying row_wanted ds rs)
@@ -68,7 +68,7 @@ abbrev pub still_declaring : List Row → Option Reading → Option Certifying
 still_declaring rs None = None
 still_declaring rs (Some r) = Some (certifying (declaring r) [] rs)
 
--- a row begins behind a policy that may end there
+-- a row begins after a policy that may end there
 abbrev pub row_done : List Declaration → List Row → List ℕ → ℕ → Option Tree → Terminal → Option Certifying
 row_done ds rs ns line None t = None
 row_done ds rs ns line (Some p) t = with_row t None (λ l. Some (certifying (number_wanted l) ds (rs ++ row ns p line ∷ [])))

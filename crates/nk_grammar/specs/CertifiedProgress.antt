@@ -53,11 +53,11 @@ so_far p ds rs = record { progress = p; declarations = ds; rows = rs }
 abbrev pub nothing_so_far : SoFar
 nothing_so_far = so_far first_progress [] []
 
--- the same of the machine's state behind a token on this line
+-- the same of the machine's state after a token on this line
 abbrev pub so_far_at : Certifying → (line : ℕ) → SoFar
 so_far_at c line = so_far (Going (bare c.phase) line) (done_declarations c.phase c.declarations) c.rows
 
--- a fault comes behind what is done
+-- a fault comes after what is done
 abbrev pub so_far_judged : Result Certifying GrammarError → SoFar → (line : ℕ) → SoFar
 so_far_judged (Ok c) s line = so_far_at c line
 so_far_judged (Err e) s line = so_far (Stopped e) s.declarations s.rows
@@ -115,7 +115,7 @@ abbrev pub ReadsCertifiedAsWhole : Type 0
 ReadsCertifiedAsWhole = (ts : List Token) (ds : List Declaration) (rs : List Row) (p : CertifiedProgress) → IsRead ts ds rs p
     → certified_so_far p ds rs ≡ certified_of ts
 
--- A reader has stopped exactly where no text goes on with the tokens, or more than 256 parentheses and `~` are open behind a
+-- A reader has stopped exactly where no text goes on with the tokens, or more than 256 parentheses and `~` are open after a
 -- front of them.
 abbrev pub StopsWithCertifiedTexts : Type 0
 StopsWithCertifiedTexts = (ts : List Token) (ds : List Declaration) (rs : List Row) (p : CertifiedProgress) → IsRead ts ds rs p

@@ -3,7 +3,7 @@ use Rattle.std.specs.Prelude.{◌≡◌, ◌≤◌, ◌+◌, ℕ, List, [], ◌�
 use Rattle.nk_lex.specs.declared.token.Token.{Token}
 use Rattle.nk_lex.specs.Lex.{tokens_of}
 use Rattle.nk_lex.specs.Spelling.{Sign, Lexeme, text_of}
-use Rattle.nk_lex.specs.declared.word.Number.{Number}
+use Rattle.nk_lex.specs.declared.ident.Number.{Number}
 use Rattle.nk_grammar.specs.Grammar.{Pol}
 use Rattle.nk_grammar.specs.Nesting.{nesting_of_pol}
 use Rattle.nk_grammar.specs.Text.{lexemes_of_pol, IsNumberOn, IsPolOn}
@@ -11,7 +11,7 @@ use Rattle.nk_grammar.specs.Certified.{WrittenRow, written_row, rows_said, certi
 use Rattle.nk_grammar.specs.CertifiedMachine.{certified_of}
 use Rattle.nk_grammar.specs.Moved.{nesting_of_row}
 
--- further numbers, each behind a space
+-- further numbers, each after a space
 abbrev pub lexemes_of_numbers : List Number → List Lexeme
 lexemes_of_numbers [] = []
 lexemes_of_numbers (n ∷ ns) = Lexeme.space ∷ Lexeme.numeral n.value ∷ lexemes_of_numbers ns

@@ -2,8 +2,8 @@
 use Rattle.std.specs.Prelude.{◌≡◌, ◌⊎◌, ℕ, zero, suc, List, [], ◌∷◌}
 use Rattle.std.specs.Coded.{Coded, code_by, coded_ℕ, coded_list, coded×, coded⊎}
 use Rattle.std.proofs.Common.{inl, inr, refl, ap, ◌∙◌}
-use Rattle.nk_lex.specs.declared.word.Word.{Word}
-use Rattle.nk_lex.specs.declared.word.Number.{Number}
+use Rattle.nk_lex.specs.declared.ident.Ident.{Ident}
+use Rattle.nk_lex.specs.declared.ident.Number.{Number}
 use Rattle.nk_grammar.specs.Tree.{Tree, Trees, name_of, test, range, assign, sum_of, seq_of, not_of, star_of, dup, link, no_part, part}
 
 -- the text and the numbers of a leaf, or which step is taken on the trees made so far, with its line
@@ -29,7 +29,7 @@ abbrev mutual
   all_steps_of no_part k = inr (0, 0) ∷ k
   all_steps_of (part t ts) k = steps_of t (all_steps_of ts (inr (1, 0) ∷ k))
 
-abbrev word : List ℕ → ℕ → Word
+abbrev word : List ℕ → ℕ → Ident
 word text line = record { text = text; line = line }
 
 abbrev number : ℕ → ℕ → Number
@@ -89,13 +89,13 @@ mutual
   all_make no_part k made = refl
   all_make (part t ts) k made = makes t (all_steps_of ts (inr (1, 0) ∷ k)) made ∙ all_make ts (inr (1, 0) ∷ k) (part t made)
 
-pub back : (t : Tree) → last_made (made_by (steps_of t []) no_part) ≡ t
-back t = ap last_made (makes t [] no_part)
+pub tree_decodes : (t : Tree) → last_made (made_by (steps_of t []) no_part) ≡ t
+tree_decodes t = ap last_made (makes t [] no_part)
 
 abbrev pub coded_tree : Coded Tree
 coded_tree =
     code_by (List Step) (coded_list (coded⊎ (coded× (coded_list coded_ℕ) (coded_list coded_ℕ)) (coded× coded_ℕ coded_ℕ)))
-    (λ t. steps_of t []) (λ ss. last_made (made_by ss no_part)) back
+    (λ t. steps_of t []) (λ ss. last_made (made_by ss no_part)) tree_decodes
 
 -- the parts of a sum
 abbrev parts_of : Tree → Trees

@@ -1,8 +1,8 @@
 -- The grammar of texts: declarations are written one after the other.
 use Rattle.std.specs.Prelude.{◌≡◌, ◌≤◌, ℕ, List, [], ◌∷◌, ◌++◌, map, ⊤}
 use Rattle.nk_lex.specs.Lex.{largest}
-use Rattle.nk_lex.specs.declared.word.Word.{Word}
-use Rattle.nk_lex.specs.declared.word.Number.{Number}
+use Rattle.nk_lex.specs.declared.ident.Ident.{Ident}
+use Rattle.nk_lex.specs.declared.ident.Number.{Number}
 use Rattle.nk_grammar.specs.declared.decl.Decl.{Decl}
 use Rattle.nk_grammar.specs.declared.decl.Decl.TheVariants as decl
 use Rattle.nk_grammar.specs.Terminal.{Terminal, name, number, equal, colon, outside, field_word, tag_word, switch_word, ports_word, link_word, let_word, fabric_word, virtual_word, by_word, arrow, comma}
@@ -11,14 +11,14 @@ use Rattle.nk_grammar.specs.Grammar.{Pol, spell_pol, pol_tree}
 
 -- a declaration
 pub data Declaration : Type 0 where
-  field : Word → Number → Declaration
-  tag : Word → Declaration
+  field : Ident → Number → Declaration
+  tag : Ident → Declaration
   switch : Number → (ports : List Number) → Declaration
   declared_link : Number → Number → Number → Number → Declaration
-  definition : Word → Tree → (line : ℕ) → Declaration
-  fabric : Word → Tree → (line : ℕ) → Declaration
+  definition : Ident → Tree → (line : ℕ) → Declaration
+  fabric : Ident → Tree → (line : ℕ) → Declaration
   -- the ends, and the name of the fabric
-  virtual_link : Number → Number → Number → Number → Word → Declaration
+  virtual_link : Number → Number → Number → Number → Ident → Declaration
 
 -- the plain value of a declaration that the program holds
 abbrev pub declaration_of : Decl → Declaration
@@ -34,13 +34,13 @@ declaration_of (decl.Virtual a m b n w) = virtual_link a m b n w
 --      | link NUMBER : NUMBER -> NUMBER : NUMBER | let NAME = pol
 --      | fabric NAME = pol | virtual NUMBER : NUMBER -> NUMBER : NUMBER by NAME
 pub data Written : Type 0 where
-  written_field : Word → Number → Written
-  written_tag : Word → Written
+  written_field : Ident → Number → Written
+  written_tag : Ident → Written
   written_switch : Number → (first : Number) → (more : List Number) → Written
   written_declared_link : Number → Number → Number → Number → Written
-  written_let : (line : ℕ) → Word → Pol → Written
-  written_fabric : (line : ℕ) → Word → Pol → Written
-  written_virtual : Number → Number → Number → Number → Word → Written
+  written_let : (line : ℕ) → Ident → Pol → Written
+  written_fabric : (line : ℕ) → Ident → Pol → Written
+  written_virtual : Number → Number → Number → Number → Ident → Written
 
 -- further ports
 abbrev pub spell_ports : List Number → List Terminal

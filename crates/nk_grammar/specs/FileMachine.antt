@@ -2,17 +2,17 @@
 use Rattle.std.specs.Prelude.{◌≡◌, ℕ, List, [], ◌∷◌, ◌++◌, Option, Some, None, Ok, Err, if◌then◌else◌, length, Bool, true, false, option_map, option_and_then, nat_le, ⊤}
 use Rattle.std.specs.declared.result.Result.{Result}
 use Rattle.nk_lex.specs.declared.token.Token.{Token}
-use Rattle.nk_lex.specs.declared.word.Word.{Word}
-use Rattle.nk_lex.specs.declared.word.Number.{Number}
+use Rattle.nk_lex.specs.declared.ident.Ident.{Ident}
+use Rattle.nk_lex.specs.declared.ident.Number.{Number}
 use Rattle.nk_lex.specs.Faults.{and_then}
 use Rattle.nk_grammar.specs.declared.place.Quad.{Quad}
 use Rattle.nk_grammar.specs.declared.place.Quad.TheVariants as quad
 use Rattle.nk_grammar.specs.declared.place.QuadNext.{QuadNext}
 use Rattle.nk_grammar.specs.declared.place.QuadNext.TheVariants as next
-use Rattle.nk_grammar.specs.declared.decl.PolicyWord.{PolicyWord}
-use Rattle.nk_grammar.specs.declared.decl.PolicyWord.TheVariants as policies
-use Rattle.nk_grammar.specs.declared.decl.LinkWord.{LinkWord}
-use Rattle.nk_grammar.specs.declared.decl.LinkWord.TheVariants as links
+use Rattle.nk_grammar.specs.declared.decl.PolicyKeyword.{PolicyKeyword}
+use Rattle.nk_grammar.specs.declared.decl.PolicyKeyword.TheVariants as policies
+use Rattle.nk_grammar.specs.declared.decl.LinkKeyword.{LinkKeyword}
+use Rattle.nk_grammar.specs.declared.decl.LinkKeyword.TheVariants as links
 use Rattle.nk_grammar.specs.declared.decl.Naming.{Naming}
 use Rattle.nk_grammar.specs.declared.decl.Naming.TheVariants as naming
 use Rattle.nk_grammar.specs.declared.decl.GrammarError.{GrammarError}
@@ -26,15 +26,15 @@ use Rattle.nk_grammar.specs.File.{Declaration, field, tag, switch, declared_link
 pub data Phase : Type 0 where
   between : Phase
   name_wanted : Naming → Phase
-  field_named : Word → Phase
+  field_named : Ident → Phase
   switch_read : Phase
   switch_numbered : Number → Phase
   port_wanted : Number → List Number → Phase
   port_read : Number → List Number → Phase
-  link_read : LinkWord → Quad → Phase
+  link_read : LinkKeyword → Quad → Phase
   by_wanted : Number → Number → Number → Number → Phase
-  policy_named : PolicyWord → Word → (line : ℕ) → Phase
-  in_policy : PolicyWord → Word → (line : ℕ) → State → Phase
+  policy_named : PolicyKeyword → Ident → (line : ℕ) → Phase
+  in_policy : PolicyKeyword → Ident → (line : ℕ) → State → Phase
 
 -- a text that is read: what may come next, and the declarations that are done
 pub record Reading : Type 0 where
@@ -46,7 +46,7 @@ abbrev pub reading : Phase → List Declaration → Reading
 reading p ds = record { phase = p; declarations = ds }
 
 -- the name that a token is, if it is one
-abbrev pub name_in : Terminal → Option Word
+abbrev pub name_in : Terminal → Option Ident
 name_in (name w) = Some w
 name_in t = None
 
@@ -66,12 +66,12 @@ is_comma (outside comma) = true
 is_comma t = false
 
 -- by the name, or the other
-abbrev pub by_name : {A : Type 0} → Option Word → A → (Word → A) → A
+abbrev pub by_name : {A : Type 0} → Option Ident → A → (Ident → A) → A
 by_name (Some w) other f = f w
 by_name None other f = other
 
 -- a name may come
-abbrev pub with_name : {A : Type 0} → Terminal → A → (Word → A) → A
+abbrev pub with_name : {A : Type 0} → Terminal → A → (Ident → A) → A
 with_name t other f = by_name (name_in t) other f
 
 -- a declaration begins
@@ -90,35 +90,35 @@ abbrev pub one_more : List Declaration → Declaration → List Declaration
 one_more ds d = ds ++ d ∷ []
 
 -- the declaration that a policy is, by the word that it began with
-abbrev pub defined : PolicyWord → Word → Tree → ℕ → Declaration
+abbrev pub defined : PolicyKeyword → Ident → Tree → ℕ → Declaration
 defined policies.Let w p line = definition w p line
 defined policies.Fabric w p line = fabric w p line
 
 -- the name of something
-abbrev pub named : Naming → Word → List Declaration → Reading
+abbrev pub named : Naming → Ident → List Declaration → Reading
 named naming.Field w ds = reading (field_named w) ds
 named naming.Tag w ds = reading between (one_more ds (tag w))
 named (naming.Policy k line) w ds = reading (policy_named k w line) ds
 named (naming.Virtual a m b n) w ds = reading between (one_more ds (virtual_link a m b n w))
 
 -- a link is read, and a virtual one goes on
-abbrev pub linked : LinkWord → Number → Number → Number → Number → List Declaration → Reading
+abbrev pub linked : LinkKeyword → Number → Number → Number → Number → List Declaration → Reading
 linked links.Link a m b n ds = reading between (one_more ds (declared_link a m b n))
 linked links.Virtual a m b n ds = reading (by_wanted a m b n) ds
 
 -- one more token of a link
-abbrev pub link_on : LinkWord → List Declaration → QuadNext → Option Reading
+abbrev pub link_on : LinkKeyword → List Declaration → QuadNext → Option Reading
 link_on k ds next.Refused = None
 link_on k ds (next.Going q) = Some (reading (link_read k q) ds)
 link_on k ds (next.Full a m b n) = Some (linked k a m b n ds)
 
--- a declaration begins behind a policy that may end there
-abbrev pub policy_done : PolicyWord → Word → ℕ → List Declaration → Option Tree → Terminal → Option Reading
+-- a declaration begins after a policy that may end there
+abbrev pub policy_done : PolicyKeyword → Ident → ℕ → List Declaration → Option Tree → Terminal → Option Reading
 policy_done k w line ds None t = None
 policy_done k w line ds (Some p) t = begin_declaration (one_more ds (defined k w p line)) t
 
 -- a policy goes on, or ends before the token
-abbrev pub policy_on : PolicyWord → Word → ℕ → List Declaration → Option State → Option Tree → Terminal → Option Reading
+abbrev pub policy_on : PolicyKeyword → Ident → ℕ → List Declaration → Option State → Option Tree → Terminal → Option Reading
 policy_on k w line ds (Some s) e t = Some (reading (in_policy k w line s) ds)
 policy_on k w line ds None e t = policy_done k w line ds e t
 
@@ -191,14 +191,14 @@ abbrev pub file_of : List Token → Result (List Declaration) GrammarError
 file_of ts = rest_of_file ts first_reading 1
 
 -- want of memory says nothing, any other fault is the one that is wanted
-abbrev pub Fails : {Y : Type 0} → GrammarError → Result Y GrammarError → Type 0
-Fails error.NoMemory wanted = ⊤
-Fails e wanted = wanted ≡ Err e
+abbrev pub ParseFails : {Y : Type 0} → GrammarError → Result Y GrammarError → Type 0
+ParseFails error.NoMemory wanted = ⊤
+ParseFails e wanted = wanted ≡ Err e
 
 -- what was answered is what is wanted, unless memory ran out
-abbrev pub Returns : {X Y : Type 0} → (X → Y) → Result X GrammarError → Result Y GrammarError → Type 0
-Returns view (Ok x) wanted = wanted ≡ Ok (view x)
-Returns view (Err e) wanted = Fails e wanted
+abbrev pub ParseReturns : {X Y : Type 0} → (X → Y) → Result X GrammarError → Result Y GrammarError → Type 0
+ParseReturns view (Ok x) wanted = wanted ≡ Ok (view x)
+ParseReturns view (Err e) wanted = ParseFails e wanted
 
 -- the tokens of a text give its declarations
 abbrev pub ReadsTexts : Type 0

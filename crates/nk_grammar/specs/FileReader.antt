@@ -11,7 +11,7 @@ use Rattle.nk_grammar.specs.Terminal.{Terminal}
 use Rattle.nk_grammar.specs.Machine.{State, step}
 use Rattle.nk_grammar.specs.Reader.{reader_state}
 use Rattle.nk_grammar.specs.File.{Declaration, declaration_of}
-use Rattle.nk_grammar.specs.FileMachine.{Returns, judged, read_one, reading, Phase, between, name_wanted, field_named, switch_read, switch_numbered, port_wanted, port_read, link_read, by_wanted, policy_named, in_policy}
+use Rattle.nk_grammar.specs.FileMachine.{ParseReturns, judged, read_one, reading, Phase, between, name_wanted, field_named, switch_read, switch_numbered, port_wanted, port_read, link_read, by_wanted, policy_named, in_policy}
 
 -- what stands before the next token
 abbrev pub phase_of : Stage → State → Phase
@@ -49,7 +49,7 @@ StaysWithoutMemory r old new = ⊤
 -- the token is taken as the machine takes it, or nothing changes where memory ran out
 abbrev pub TakesTerminal : Phase → Phase → ℕ → Terminal → Result (Option Decl) GrammarError → Type 0
 TakesTerminal old new line t result =
-    Returns (λ d. reading new (declaration_done d)) result (judged line (read_one (reading old []) t))
+    ParseReturns (λ d. reading new (declaration_done d)) result (judged line (read_one (reading old []) t))
     × StaysWithoutMemory result old new
 
 -- if a policy is read, it doesn't go on with the token

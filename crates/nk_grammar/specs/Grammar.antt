@@ -1,8 +1,8 @@
 -- The grammar of policies: what is written is a tree, its tokens are the tree's spelling, and its
 -- meaning is a syntax tree.
 use Rattle.std.specs.Prelude.{◌≡◌, ℕ, List, [], ◌∷◌, ◌++◌}
-use Rattle.nk_lex.specs.declared.word.Word.{Word}
-use Rattle.nk_lex.specs.declared.word.Number.{Number}
+use Rattle.nk_lex.specs.declared.ident.Ident.{Ident}
+use Rattle.nk_lex.specs.declared.ident.Number.{Number}
 use Rattle.nk_grammar.specs.Terminal.{Terminal, name, number, tilde, opening, closing, plus_sign, semicolon, star_sign, equal, becomes, colon, fat_arrow, id_word, drop_word, dup_word, in_word, dots}
 use Rattle.nk_grammar.specs.Tree.{Tree, Trees, name_of, test, range, assign, sum_of, seq_of, not_of, star_of, dup, link, no_part, part, with_part, sum_from, seq_from}
 
@@ -29,10 +29,10 @@ mutual
     written_id : Atom
     written_drop : Atom
     written_dup : Atom
-    written_name : Word → Atom
-    written_test : Word → Number → Atom
-    written_range : Word → (low high : Number) → Atom
-    written_set : Word → Number → Atom
+    written_name : Ident → Atom
+    written_test : Ident → Number → Atom
+    written_range : Ident → (low high : Number) → Atom
+    written_set : Ident → Number → Atom
     written_link : Number → Number → Number → Number → Atom
     paren : Pol → Atom
 
@@ -73,7 +73,7 @@ abbrev mutual
   factors_of (one_factor f) = part (factor_tree f) no_part
   factors_of (semi t f) = with_part (factors_of t) (factor_tree f)
 
-  -- a run of stars behind one atom is one star
+  -- a run of stars after one atom is one star
   pub factor_tree : Factor → Tree
   factor_tree (plain a) = atom_tree a
   factor_tree (starred (plain a)) = star_of (atom_tree a)

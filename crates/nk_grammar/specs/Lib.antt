@@ -8,7 +8,7 @@ pub mod File
 pub mod FileMachine
 pub mod FileReader
 pub mod TextProgress
-pub mod TextReader
+pub mod TextParser
 pub mod Answer
 pub mod Nesting
 pub mod Text
@@ -17,6 +17,6 @@ pub mod Certified
 pub mod CertifiedMachine
 pub mod CertifiedAnswer
 pub mod CertifiedProgress
-pub mod CertifiedReader
+pub mod CertificateParser
 pub mod Moved
 pub mod CertifiedText

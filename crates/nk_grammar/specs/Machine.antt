@@ -1,6 +1,6 @@
 -- A policy read token by token: what may come next, and what is open.
 use Rattle.std.specs.Prelude.{◌≡◌, ℕ, List, [], ◌∷◌, Bool, true, false, Option, Some, None, if◌then◌else◌, option_and_then}
-use Rattle.nk_lex.specs.declared.word.Number.{Number}
+use Rattle.nk_lex.specs.declared.ident.Number.{Number}
 use Rattle.nk_grammar.specs.declared.place.Quad.{Quad}
 use Rattle.nk_grammar.specs.declared.place.Quad.TheVariants as quad
 use Rattle.nk_grammar.specs.declared.place.QuadNext.{QuadNext}
@@ -144,7 +144,7 @@ settled_at p s = s
 abbrev pub settled : State → State
 settled s = settled_at s.place s
 
--- a policy may end behind a factor where nothing is open
+-- a policy may end after a factor where nothing is open
 abbrev pub done_at : Place → List Open → Tree → Option Tree
 done_at (place.After starred) [] t = Some t
 done_at p fs t = None

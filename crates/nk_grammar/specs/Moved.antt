@@ -4,8 +4,8 @@ use Rattle.nk_lex.specs.declared.token.Token.{Token}
 use Rattle.nk_lex.specs.Lex.{tokens_of}
 use Rattle.nk_lex.specs.Joined.{joined, token_moved}
 use Rattle.nk_lex.specs.Spans.{line_feeds}
-use Rattle.nk_lex.specs.declared.word.Word.{Word}
-use Rattle.nk_lex.specs.declared.word.Number.{Number}
+use Rattle.nk_lex.specs.declared.ident.Ident.{Ident}
+use Rattle.nk_lex.specs.declared.ident.Number.{Number}
 use Rattle.nk_grammar.specs.Terminal.{outside, certificate_word}
 use Rattle.nk_grammar.specs.Tree.{Tree, Trees, name_of, test, range, assign, sum_of, seq_of, not_of, star_of, dup, link, no_part, part}
 use Rattle.nk_grammar.specs.Grammar.{Pol}
@@ -17,7 +17,7 @@ use Rattle.nk_grammar.specs.Certified.{Row, row, WrittenRow, written_row, spell_
 use Rattle.nk_grammar.specs.CertifiedMachine.{certified_of}
 
 -- a name so many lines further on
-abbrev pub word_moved : ℕ → Word → Word
+abbrev pub word_moved : ℕ → Ident → Ident
 word_moved lines w = record { text = w.text; line = w.line + lines }
 
 -- a number

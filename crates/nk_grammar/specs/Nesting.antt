@@ -1,7 +1,7 @@
 -- How many parentheses and `~` are open at once in a policy as it is written, and that a `let` with at most 256 is read.
 use Rattle.std.specs.Prelude.{◌≡◌, ◌≤◌, ◌+◌, ℕ, max, List, [], ◌∷◌, Ok}
 use Rattle.nk_lex.specs.declared.token.Token.{Token}
-use Rattle.nk_lex.specs.declared.word.Word.{Word}
+use Rattle.nk_lex.specs.declared.ident.Ident.{Ident}
 use Rattle.nk_grammar.specs.Grammar.{Pol, Term, Factor, Atom, one_term, plus, one_factor, semi, plain, starred, written_not, written_id, written_drop, written_dup, written_name, written_test, written_range, written_set, written_link, paren, pol_tree}
 use Rattle.nk_grammar.specs.File.{definition, written_let, spell_declaration}
 use Rattle.nk_grammar.specs.FileMachine.{file_of}
@@ -35,5 +35,5 @@ abbrev mutual
 
 -- the tokens of a `let` in which at most 256 are open at once give its declaration
 abbrev pub ReadsLets : Type 0
-ReadsLets = (ts : List Token) (line : ℕ) (w : Word) (p : Pol) → terminals ts ≡ spell_declaration (written_let line w p)
+ReadsLets = (ts : List Token) (line : ℕ) (w : Ident) (p : Pol) → terminals ts ≡ spell_declaration (written_let line w p)
     → nesting_of_pol p ≤ 256 → file_of ts ≡ Ok (definition w (pol_tree p) line ∷ [])

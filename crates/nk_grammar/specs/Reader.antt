@@ -30,7 +30,7 @@ stack_in r = stack_of r.frames.items
 abbrev pub terms_in : PolicyReader → Trees
 terms_in r = trees_of r.terms.items
 
--- the parts, and the last one behind them where it stands apart
+-- the parts, and the last one after them where it stands apart
 abbrev pub with_last : Trees → Option Ast → Trees
 with_last us None = us
 with_last us (Some p) = with_part us (tree_of p)

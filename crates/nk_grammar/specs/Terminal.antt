@@ -3,8 +3,8 @@ use Rattle.std.specs.Prelude.{ℕ, List, Bool, true, false}
 use Rattle.nk_lex.specs.declared.kind.Kind.{Kind}
 use Rattle.nk_lex.specs.declared.kind.Kind.TheVariants as kind
 use Rattle.nk_lex.specs.declared.token.Token.{Token}
-use Rattle.nk_lex.specs.declared.word.Word.{Word}
-use Rattle.nk_lex.specs.declared.word.Number.{Number}
+use Rattle.nk_lex.specs.declared.ident.Ident.{Ident}
+use Rattle.nk_lex.specs.declared.ident.Number.{Number}
 
 -- the tokens that stand in declarations alone, and all that stand in no text
 pub data Outside : Type 0 where
@@ -26,7 +26,7 @@ pub data Outside : Type 0 where
 
 -- a token of the grammar
 pub data Terminal : Type 0 where
-  name : Word → Terminal
+  name : Ident → Terminal
   number : Number → Terminal
   tilde : (line : ℕ) → Terminal
   opening : Terminal

@@ -4,8 +4,8 @@ use Rattle.std.specs.Prelude.{◌≡◌, ◌≤◌, ℕ, List, [], ◌∷◌, �
 use Rattle.nk_lex.specs.declared.token.Token.{Token}
 use Rattle.nk_lex.specs.Lex.{largest, tokens_of}
 use Rattle.nk_lex.specs.Spelling.{Sign, Lexeme, IsName, text_of}
-use Rattle.nk_lex.specs.declared.word.Word.{Word}
-use Rattle.nk_lex.specs.declared.word.Number.{Number}
+use Rattle.nk_lex.specs.declared.ident.Ident.{Ident}
+use Rattle.nk_lex.specs.declared.ident.Number.{Number}
 use Rattle.nk_grammar.specs.Grammar.{Pol, Term, Factor, Atom, one_term, plus, one_factor, semi, plain, starred, written_not, written_id, written_drop, written_dup, written_name, written_test, written_range, written_set, written_link, paren, pol_tree}
 use Rattle.nk_grammar.specs.File.{definition}
 use Rattle.nk_grammar.specs.FileMachine.{file_of}
@@ -44,13 +44,13 @@ abbrev mutual
       Lexeme.sign Sign.open_parenthesis ∷ lexemes_of_pol p ++ Lexeme.sign Sign.close_parenthesis ∷ []
 
 -- the lexemes of `let NAME = `, and then the policy's
-abbrev pub lexemes_of_let : Word → Pol → List Lexeme
+abbrev pub lexemes_of_let : Ident → Pol → List Lexeme
 lexemes_of_let w p =
     Lexeme.word (codes "let") ∷ Lexeme.space ∷ Lexeme.word w.text ∷ Lexeme.space ∷ Lexeme.sign Sign.equal ∷ Lexeme.space
     ∷ lexemes_of_pol p
 
 -- a name that is one, on this line
-abbrev pub IsWordOn : ℕ → Word → Type 0
+abbrev pub IsWordOn : ℕ → Ident → Type 0
 IsWordOn line w = IsName w.text × (w.line ≡ line)
 
 -- a number that a text may have, on this line
@@ -84,12 +84,12 @@ abbrev mutual
   IsAtomOn line (paren p) = IsPolOn line p
 
 -- a text is cut into tokens that give this one `let`
-pub record IsLetText (text : List ℕ) (w : Word) (p : Pol) : Type 0 where
+pub record IsLetText (text : List ℕ) (w : Ident) (p : Pol) : Type 0 where
   pub tokens : List Token
   pub cut : tokens_of text ≡ Ok tokens
   pub read : file_of tokens ≡ Ok (definition w (pol_tree p) 1 ∷ [])
 
 -- the text of a `let` in which at most 256 are open at once is read as that `let`
 abbrev pub ReadsLetTexts : Type 0
-ReadsLetTexts = (w : Word) (p : Pol) → IsWordOn 1 w → IsPolOn 1 p → nesting_of_pol p ≤ 256
+ReadsLetTexts = (w : Ident) (p : Pol) → IsWordOn 1 w → IsPolOn 1 p → nesting_of_pol p ≤ 256
     → IsLetText (text_of (lexemes_of_let w p)) w p

@@ -12,13 +12,13 @@ pub data TextProgress : Type 0 where
   Going : Phase → (line : ℕ) → TextProgress
   Stopped : GrammarError → TextProgress
 
--- the declarations of a text that goes on with these tokens, behind these declarations, or its first fault
+-- the declarations of a text that goes on with these tokens, after these declarations, or its first fault
 abbrev pub rest_by : TextProgress → List Declaration → List Token → Result (List Declaration) GrammarError
 rest_by (Going p line) ds ts = rest_of_file ts (reading p ds) line
 rest_by (Stopped e) ds ts = Err e
 
--- of these tokens this is known, and they completed these declarations: whatever tokens come behind them, the declarations of the whole
--- text, or its first fault, are what is left to be read of it behind these; behind a fault nothing is said of these declarations
+-- of these tokens this is known, and they completed these declarations: whatever tokens come after them, the declarations of the whole
+-- text, or its first fault, are what is left to be read of it after these; after a fault nothing is said of these declarations
 abbrev pub IsTextRead : List Token → List Declaration → TextProgress → Type 0
 IsTextRead ts ds p = (us : List Token) → rest_by p ds us ≡ file_of (ts ++ us)
 

@@ -1,7 +1,7 @@
 //! The syntax trees of policies, with the line of each name, number and `~`.
 ghost use Rattle.std.specs.Prelude.{◌≡◌};
 
-use nk_lex::{Number, Word};
+use nk_lex::{Ident, Number};
 
 /// The parts of a sum or a sequence, in order.
 #[derive(Drop)]
@@ -16,20 +16,20 @@ pub struct Asts {
 #[cycle(ast)]
 pub enum Ast {
     /// A name alone: that of a policy that a `let` declares.
-    Name(Word),
+    Name(Ident),
     /// `NAME = NUMBER`.
-    Test(Word, Number),
+    Test(Ident, Number),
     /// `NAME in NUMBER .. NUMBER`: the name, the first value and the last.
-    Range(Word, Number, Number),
+    Range(Ident, Number, Number),
     /// `NAME := NUMBER`.
-    Set(Word, Number),
+    Set(Ident, Number),
     /// Several terms, or none, which is `drop`.
     Sum(Asts),
     /// Several factors, or none, which is `id`.
     Seq(Asts),
     /// `~` over an atom, with the line of the `~`.
     Not(Box<Ast>, u64),
-    /// An atom with one `*` behind it, or several.
+    /// An atom with one `*` after it, or several.
     Star(Box<Ast>),
     /// `dup`.
     Dup,

@@ -67,7 +67,7 @@ pub fn sequence(items: Vec<Ast>) -> Ast
     }
 }
 
-/// Puts one more part behind the others, where there is room for it.
+/// Puts one more part after the others, where there is room for it.
 #[tactic(auto, using(crate::proofs::Trees::trees_push))]
 fn push(items: &mut Vec<Ast>, item: Ast)
     requires room { vec_len items.old < vec_capacity items.old }
@@ -76,7 +76,7 @@ fn push(items: &mut Vec<Ast>, item: Ast)
     items.push_reserved(item);
 }
 
-/// Puts the last part behind the others, where there is one.
+/// Puts the last part after the others, where there is one.
 #[tactic(auto, using(crate::proofs::Trees::trees_push))]
 pub fn push_last(items: &mut Vec<Ast>, last: Option<Ast>)
     requires room { vec_len items.old < vec_capacity items.old }
@@ -100,7 +100,7 @@ pub fn join(terms: Vec<Ast>, factors: Vec<Ast>) -> Ast
     sum(terms)
 }
 
-/// Puts a further term, which is given by its factors, behind the others, where there is room for it. No factor is left; where there was
+/// Puts a further term, which is given by its factors, after the others, where there is room for it. No factor is left; where there was
 /// one alone its room is.
 #[tactic(auto, using(crate::proofs::Trees::tree_of_seq))]
 pub fn push_term(alloc: Global, terms: &mut Vec<Ast>, factors: &mut Vec<Ast>)

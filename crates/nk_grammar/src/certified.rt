@@ -19,14 +19,14 @@ ghost use Rattle.nk_grammar.specs.CertifiedMachine.{
   with_row,
 };
 ghost use Rattle.nk_grammar.specs.CertifiedProgress.{declarations_by, rows_by, with_done};
-ghost use Rattle.nk_grammar.specs.CertifiedReader.{
+ghost use Rattle.nk_grammar.specs.CertificateParser.{
   CertifiedTakes,
   CertifiedTakesInside,
   StopsRow,
   certified_phase_in,
   completing,
 };
-ghost use Rattle.nk_grammar.specs.FileMachine.{Returns, first_reading};
+ghost use Rattle.nk_grammar.specs.FileMachine.{ParseReturns, first_reading};
 ghost use Rattle.nk_grammar.specs.FileReader.{StaysWithoutMemory, declaration_done};
 ghost use Rattle.nk_grammar.specs.Machine.{policy_ended};
 ghost use Rattle.nk_grammar.specs.Reader.{reader_state};
@@ -66,7 +66,7 @@ impl CertifiedStage {
     }
 }
 
-/// Reads a text and the certificate behind it, token by token. It keeps what may come next, and the policy that is being read. A
+/// Reads a text and the certificate after it, token by token. It keeps what may come next, and the policy that is being read. A
 /// declaration or row is handed out by the token that completes it. A token for which memory runs out changes nothing; after a fault
 /// nothing is said of the state.
 pub struct SoundReader {
@@ -136,7 +136,7 @@ impl SoundReader {
     /// A row's policy took a token, and goes on.
     fn go_on_in_row(&self, token: &Token) -> Result<bool, GrammarError>
         ensures read { (line : ℕ) (ns : Vec ℕ Global) → self.now.stage ≡ CertifiedStage.InRow line ns
-            → Returns (λ taken. certifying (certified_phase_in self.now) [] []) result
+            → ParseReturns (λ taken. certifying (certified_phase_in self.now) [] []) result
             (judged_certified token.now.line (Some (certifying (in_row line ns.items (reader_state self.now.policy)) [] []))) }
         ensures taken { IfOk result (λ taken. taken ≡ true) }
         ensures err { IfErr result (λ e. e ≡ GrammarError.TooDeep token.now.line) }
@@ -150,7 +150,7 @@ impl SoundReader {
 
     /// A row is done where its policy ends before this token, a word `row`.
     fn end_row(&mut self, row: CertRow, token: &Token) -> Result<Option<Completed>, GrammarError>
-        ensures read { Returns (completing (certified_phase_in self.new)) result
+        ensures read { ParseReturns (completing (certified_phase_in self.new)) result
             (judged_certified token.now.line (with_row (terminal_of token.now) None
             (λ l. Some (certifying (number_wanted l) [] (row_value row ∷ []))))) }
         ensures err { IfErr result (λ e. e ≡ GrammarError.Unexpected token.now.line) }
@@ -203,15 +203,15 @@ impl SoundReader {
         }
     }
 
-    /// The first token behind a row's policy, which doesn't go on with it.
-    fn take_behind_row(
+    /// The first token after a row's policy, which doesn't go on with it.
+    fn take_after_row(
         &mut self,
         alloc: Global,
         line: u64,
         positions: Vec<u64>,
         token: &Token,
     ) -> Result<Option<Completed>, GrammarError>
-        ensures read { Returns (completing (certified_phase_in self.new)) result
+        ensures read { ParseReturns (completing (certified_phase_in self.new)) result
             (judged_certified token.now.line (row_done [] [] positions.items line
             (policy_ended (reader_state self.old.policy)) (terminal_of token.now))) }
         ensures kept { StaysWithoutMemory result (in_row line positions.items (reader_state self.old.policy)) (certified_phase_in self.new) }
@@ -244,7 +244,7 @@ impl SoundReader {
         positions: Vec<u64>,
         token: &Token,
     ) -> Result<Option<Completed>, GrammarError>
-        ensures read { Returns (completing (certified_phase_in self.new)) result
+        ensures read { ParseReturns (completing (certified_phase_in self.new)) result
             (judged_certified token.now.line (next_certifying (numbers_read line positions.items)
             [] [] (terminal_of token.now))) }
         ensures kept { StaysWithoutMemory result (numbers_read line positions.items) (certified_phase_in self.new) }
@@ -273,7 +273,7 @@ impl SoundReader {
         line: u64,
         token: &Token,
     ) -> Result<Option<Completed>, GrammarError>
-        ensures read { Returns (completing (certified_phase_in self.new)) result
+        ensures read { ParseReturns (completing (certified_phase_in self.new)) result
             (judged_certified token.now.line (next_certifying (number_wanted line)
             [] [] (terminal_of token.now))) }
         ensures kept { StaysWithoutMemory result (number_wanted line) (certified_phase_in self.new) }
@@ -301,7 +301,7 @@ impl SoundReader {
         token: &Token,
     ) -> Result<Option<Completed>, GrammarError>
         requires stage { self.old.stage ≡ CertifiedStage.Declaring }
-        ensures read { Returns (completing (certified_phase_in self.new)) result
+        ensures read { ParseReturns (completing (certified_phase_in self.new)) result
             (judged_certified token.now.line (certify_one (with_done (certified_phase_in self.old) [] [])
             (terminal_of token.now))) }
         ensures kept { StaysWithoutMemory result (certified_phase_in self.old) (certified_phase_in self.new) }
@@ -351,7 +351,7 @@ impl SoundReader {
                 self.take_number(alloc, line, positions, token)
             }
             CertifiedStage::InRow(line, positions) => {
-                self.take_behind_row(alloc, line, positions, token)
+                self.take_after_row(alloc, line, positions, token)
             }
         }
     }
@@ -359,7 +359,7 @@ impl SoundReader {
     /// Reads one more token, and hands out the declaration or row that it completes. An error is the first fault of the tokens so far,
     /// or that memory ran out.
     pub fn take(&mut self, alloc: Global, token: &Token) -> Result<Option<Completed>, GrammarError>
-        ensures read { Returns (completing (certified_phase_in self.new)) result
+        ensures read { ParseReturns (completing (certified_phase_in self.new)) result
             (judged_certified token.now.line (certify_one (with_done (certified_phase_in self.old) [] [])
             (terminal_of token.now))) }
         ensures kept { StaysWithoutMemory result (certified_phase_in self.old) (certified_phase_in self.new) }
@@ -374,7 +374,7 @@ impl SoundReader {
     /// Ends the text, and hands out the last row; `line` is that of the last token. `Unexpected` comes where the tokens so far are no
     /// text with a certificate.
     pub fn end(&mut self, alloc: Global, line: u64) -> Result<CertRow, GrammarError>
-        ensures { Returns (λ row. certified [] (row_value row ∷ [])) result
+        ensures { ParseReturns (λ row. certified [] (row_value row ∷ [])) result
             (certified_end_at line (certified_at_end (with_done (certified_phase_in self.old) [] []))) }
     {
         match replace(&mut self.stage, CertifiedStage::Declaring) {

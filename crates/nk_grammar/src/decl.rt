@@ -5,7 +5,7 @@ ghost use Rattle.nk_grammar.specs.declared.decl.GrammarError.TheVariants.{NoMemo
 use crate::ast::Ast;
 use crate::place::Quad;
 use nk_field::List;
-use nk_lex::{Number, Word};
+use nk_lex::{Ident, Number};
 use std::alloc::AllocError;
 use thiserror::Error;
 
@@ -13,26 +13,26 @@ use thiserror::Error;
 #[derive(Drop)]
 pub enum Decl {
     /// `field NAME NUMBER`: the field's name and its largest value.
-    Field(Word, Number),
+    Field(Ident, Number),
     /// `tag NAME`.
-    Tag(Word),
+    Tag(Ident),
     /// `switch NUMBER ports NUMBER, ..`: the switch and its ports, at least one.
     Switch(Number, List<Number>),
     /// `link NUMBER:NUMBER -> NUMBER:NUMBER`: switch and port of the source, then of the target.
     Link(Number, Number, Number, Number),
     /// `let NAME = pol`, with the line of the word `let`.
-    Let(Word, Ast, u64),
+    Let(Ident, Ast, u64),
     /// `fabric NAME = pol`, with the line of the word `fabric`.
-    Fabric(Word, Ast, u64),
+    Fabric(Ident, Ast, u64),
     /// `virtual NUMBER:NUMBER -> NUMBER:NUMBER by NAME`: switch and port of the source, then of the target, and the name of the fabric.
-    Virtual(Number, Number, Number, Number, Word),
+    Virtual(Number, Number, Number, Number, Ident),
 }
 
 /// A row of a certificate, with the line of the word `row`.
 pub struct CertRow {
     /// The numbers before the colon: none in the start row, else at least one.
     pub positions: List<u64>,
-    /// The policy that is written behind the colon, to be read as a predicate.
+    /// The policy that is written after the colon, to be read as a predicate.
     pub pred: Ast,
     /// The line of the word `row`.
     pub line: u64,
@@ -73,14 +73,14 @@ pub enum Completed {
 
 /// The word that the declaration of a policy begins with.
 #[derive(Clone, Copy)]
-pub enum PolicyWord {
+pub enum PolicyKeyword {
     Let,
     Fabric,
 }
 
 /// The word that the declaration of a link begins with.
 #[derive(Clone, Copy)]
-pub enum LinkWord {
+pub enum LinkKeyword {
     Link,
     Virtual,
 }
@@ -91,7 +91,7 @@ pub enum Naming {
     Field,
     Tag,
     /// Of a policy, with the line of the word that its declaration begins with.
-    Policy(PolicyWord, u64),
+    Policy(PolicyKeyword, u64),
     /// Of the fabric of a virtual link with these ends.
     Virtual(Number, Number, Number, Number),
 }
@@ -103,19 +103,19 @@ pub enum Stage {
     Between,
     /// The name is wanted.
     Name(Naming),
-    FieldNamed(Word),
+    FieldNamed(Ident),
     Switch,
     SwitchNumbered(Number),
     /// The number of a port is wanted.
     Ports(Number, Vec<Number>),
     /// The number of a port was read.
     PortRead(Number, Vec<Number>),
-    Link(LinkWord, Quad),
+    Link(LinkKeyword, Quad),
     /// The word `by` is wanted.
     By(Number, Number, Number, Number),
-    PolicyNamed(PolicyWord, Word, u64),
+    PolicyNamed(PolicyKeyword, Ident, u64),
     /// The policy itself.
-    Policy(PolicyWord, Word, u64),
+    Policy(PolicyKeyword, Ident, u64),
 }
 
 impl Stage {

@@ -74,7 +74,7 @@ pub fn a_certified_text_is_read_token_by_token()
 {}
 
 /// A reader of texts with a certificate has stopped exactly where no text goes on with the tokens, or more than 256 parentheses and
-/// `~` are open behind a front of them.
+/// `~` are open after a front of them.
 pub fn a_certified_reader_stops_at_the_first_fault()
     ensures { StopsWithCertifiedTexts }
 {}
@@ -102,7 +102,7 @@ pub fn certificate_texts_are_read()
     a_text_of_lexemes_is_cut_into_them();
 }
 
-/// A text's declarations stay the same with the tokens of a certificate behind them.
+/// A text's declarations stay the same with the tokens of a certificate after them.
 pub fn a_program_stays_in_front_of_its_certificate()
     ensures { StaysInFront }
 {}

@@ -1,4 +1,4 @@
-//! The grammar of program texts: declarations and policies, and certificates behind them, read token by token.
+//! The grammar of program texts: declarations and policies, and certificates after them, read token by token.
 //!
 //! ```text
 //! file    : decl*
@@ -19,18 +19,18 @@
 //!         | NAME := NUMBER | NUMBER : NUMBER => NUMBER : NUMBER | ( pol )
 //! ```
 //!
-//! `file` reads texts without a certificate, `file_with_certificate` those with one; `TextReader` and `CertifiedReader` read them token
+//! `file` reads texts without a certificate, `file_with_certificate` those with one; `TextParser` and `CertificateParser` read them token
 //! by token, and keep nothing that is done.
 //!
 //! Several terms are one sum, and several factors one sequence; a single one is only itself. Several
-//! `*` behind one atom are one star. Parentheses have no node of their own in the tree. A `(` is open
+//! `*` after one atom are one star. Parentheses have no node of their own in the tree. A `(` is open
 //! until its `)`, and a `~` until the end of its atom; no more than 256 may be open at once.
 #![tactic(auto)]
 
 mod ast;
 mod build;
+mod certificate_parser;
 mod certified;
-mod certified_reader;
 mod decl;
 mod frame;
 mod laws;
@@ -38,10 +38,10 @@ mod parts;
 mod place;
 mod reader;
 mod text;
-mod text_reader;
+mod text_parser;
 
 pub use ast::{Ast, Asts};
-pub use certified_reader::{CertifiedReader, file_with_certificate};
+pub use certificate_parser::{CertificateParser, file_with_certificate};
 pub use decl::{CertRow, Completed, Decl, File, GrammarError};
 pub use laws::{
     a_certified_reader_stops_at_the_first_fault, a_certified_text_has_one_tree,
@@ -52,4 +52,4 @@ pub use laws::{
     texts_are_answered, texts_are_read, what_is_completed_is_written, what_is_read_is_a_policy,
     what_is_refused_goes_nowhere, what_is_taken_goes_on,
 };
-pub use text_reader::{TextReader, file};
+pub use text_parser::{TextParser, file};

@@ -5,7 +5,7 @@ ghost use Rattle.nk_grammar.specs.Machine.{number_in, quad_step};
 ghost use Rattle.nk_grammar.specs.Terminal.{is_link_sign, is_colon_terminal, is_dots, terminal_of};
 
 use crate::place::{Quad, QuadNext};
-use nk_lex::{Kind, Number, Token, Word, word_of};
+use nk_lex::{Ident, Kind, Number, Token, ident_of};
 use std::alloc::{AllocError, Global};
 
 /// The number that a token is, if it is one.
@@ -52,11 +52,11 @@ fn is_between_token(literal: bool, token: &Token) -> bool
 }
 
 /// The name that a token is, if it is one. The only error is that memory ran out.
-pub fn name_of(alloc: Global, token: &Token) -> Result<Option<Word>, AllocError>
+pub fn name_of(alloc: Global, token: &Token) -> Result<Option<Ident>, AllocError>
     ensures { IfOk result (λ o. o ≡ name_in (terminal_of token.now)) }
 {
     match token.kind {
-        Kind::Name => Ok(Some(word_of(alloc, token)?)),
+        Kind::Name => Ok(Some(ident_of(alloc, token)?)),
         _ => Ok(None),
     }
 }

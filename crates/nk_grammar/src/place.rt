@@ -1,7 +1,7 @@
 //! What may come next in a policy.
 ghost use Rattle.std.specs.Prelude.{◌≡◌};
 
-use nk_lex::{Number, Word};
+use nk_lex::{Ident, Number};
 
 /// How much of `NUMBER : NUMBER => NUMBER : NUMBER` has been read.
 #[derive(Clone, Copy)]
@@ -39,17 +39,17 @@ pub enum Place {
     /// An atom is wanted.
     Want,
     /// A name, which `=`, `in` or `:=` may follow.
-    Named(Word),
+    Named(Ident),
     /// A name and `=`.
-    Tested(Word),
+    Tested(Ident),
     /// A name and `in`.
-    Ranged(Word),
+    Ranged(Ident),
     /// A name, `in` and the first value.
-    RangedFrom(Word, Number),
+    RangedFrom(Ident, Number),
     /// A name, `in`, the first value and `..`.
-    RangedTo(Word, Number),
+    RangedTo(Ident, Number),
     /// A name and `:=`.
-    Assigned(Word),
+    Assigned(Ident),
     /// A part of a link literal.
     Linked(Quad),
     /// A factor, with a star or without.

@@ -50,7 +50,7 @@ use crate::build::{join, push_last, push_term, sequence, star_last, sum};
 use crate::frame::{Frame, close_negations, is_enclosed};
 use crate::parts::{is_dots_token, number_of, quad_after};
 use crate::place::{Place, Quad, QuadNext};
-use nk_lex::{Kind, Number, Token, Word, word_of};
+use nk_lex::{Ident, Kind, Number, Token, ident_of};
 use std::alloc::{AllocError, AllocFailed, Global};
 use std::mem::replace;
 
@@ -61,7 +61,7 @@ const DEEPEST: usize = 256;
 /// complete.
 ///
 /// A token for which memory runs out, or with which no policy goes on, changes nothing. So what may fail comes first and changes no
-/// value: room is made, and the last factor, which stands apart since it took no room, is put behind the others. What is moved out to
+/// value: room is made, and the last factor, which stands apart since it took no room, is put after the others. What is moved out to
 /// look at the token is put back where it doesn't fit.
 pub struct PolicyReader {
     place: Place,
@@ -105,7 +105,7 @@ impl PolicyReader {
         self.frames.len() <= DEEPEST
     }
 
-    /// The last factor stands behind the others.
+    /// The last factor stands after the others.
     fn put_last(&mut self)
         requires room { vec_len self.old.factors < vec_capacity self.old.factors }
         ensures same { reader_state self.new ≡ reader_state self.old }
@@ -196,7 +196,7 @@ impl PolicyReader {
             Kind::Drop => Ok(self.take_atom(sum(Vec::new(alloc)))),
             Kind::Dup => Ok(self.take_atom(Ast::Dup)),
             Kind::Name => {
-                self.place.set(Place::Named(word_of(alloc, token)?));
+                self.place.set(Place::Named(ident_of(alloc, token)?));
                 Ok(true)
             }
             Kind::Number => {
@@ -226,7 +226,7 @@ impl PolicyReader {
         join(inner_terms, inner_factors)
     }
 
-    /// The policy, where nothing is open behind a factor.
+    /// The policy, where nothing is open after a factor.
     #[tactic(auto, using(crate::proofs::Stack::nothing_open, crate::proofs::Stack::something_open))]
     fn policy(&mut self, alloc: Global) -> Option<Ast>
         requires room { HasRoom self.old }
@@ -320,7 +320,7 @@ impl PolicyReader {
     }
 
     /// A name stands there, and the token is a star.
-    fn star_on_name(&mut self, alloc: Global, word: Word) -> Result<bool, AllocError>
+    fn star_on_name(&mut self, alloc: Global, word: Ident) -> Result<bool, AllocError>
         requires last { self.old.last ≡ None }
         requires room { HasRoom self.old }
         ensures state { FollowsOk result (step_done (atom_ended (name_of word) (stack_in self.old)
@@ -353,7 +353,7 @@ impl PolicyReader {
 
     /// A name stands there, and the token is a closing parenthesis.
     #[tactic(auto, using(crate::proofs::Stack::none_closes, crate::proofs::Stack::one_closes, crate::proofs::Stack::taken_whatever))]
-    fn close_on_name(&mut self, word: Word) -> bool
+    fn close_on_name(&mut self, word: Ident) -> bool
         requires last { self.old.last ≡ None }
         requires room { HasRoom self.old }
         ensures { Follows result (step_done (atom_ended (name_of word) (stack_in self.old)
@@ -369,7 +369,7 @@ impl PolicyReader {
     }
 
     /// A name stands there.
-    fn after_name(&mut self, alloc: Global, word: Word, token: &Token) -> Result<bool, AllocError>
+    fn after_name(&mut self, alloc: Global, word: Ident, token: &Token) -> Result<bool, AllocError>
         requires last { self.old.last ≡ None }
         requires room { HasRoom self.old }
         ensures state { FollowsOk result (step_at (Place.Named word) (stack_in self.old)
@@ -423,7 +423,7 @@ impl PolicyReader {
         }
     }
 
-    /// One more token behind a part of an atom.
+    /// One more token after a part of an atom.
     fn step_in_atom(&mut self, alloc: Global, token: &Token) -> Result<bool, AllocError>
         requires last { self.old.last ≡ None }
         requires room { HasRoom self.old }

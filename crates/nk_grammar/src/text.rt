@@ -1,9 +1,9 @@
 //! The declarations of a text, read token by token up to the first fault.
 ghost use Rattle.std.specs.Prelude.{◌≡◌, ℕ, true, [], Some, Ok, IfErr, IfOk};
-ghost use Rattle.nk_lex.specs.declared.word.Word.{Word};
+ghost use Rattle.nk_lex.specs.declared.ident.Ident.{Ident};
 ghost use Rattle.nk_grammar.specs.File.{declaration_of};
 ghost use Rattle.nk_grammar.specs.FileMachine.{
-  Returns,
+  ParseReturns,
   begin_declaration,
   declarations_at_end,
   defined,
@@ -31,7 +31,7 @@ ghost use Rattle.nk_grammar.specs.FileReader.{
   declaration_done,
   phase_in,
 };
-ghost use Rattle.nk_grammar.specs.declared.decl.PolicyWord.{PolicyWord};
+ghost use Rattle.nk_grammar.specs.declared.decl.PolicyKeyword.{PolicyKeyword};
 ghost use Rattle.nk_grammar.specs.declared.decl.Stage.{Stage};
 ghost use Rattle.nk_grammar.specs.Machine.{policy_ended};
 ghost use Rattle.nk_grammar.specs.Reader.{reader_state};
@@ -39,22 +39,22 @@ ghost use Rattle.nk_grammar.specs.Terminal.{terminal_of};
 ghost use Rattle.nk_grammar.specs.Tree.{tree_of};
 
 use crate::ast::Ast;
-use crate::decl::{Decl, GrammarError, LinkWord, Naming, PolicyWord, Stage};
+use crate::decl::{Decl, GrammarError, LinkKeyword, Naming, PolicyKeyword, Stage};
 use crate::parts::{name_of, number_of, quad_after};
 use crate::place::{Quad, QuadNext};
 use crate::reader::PolicyReader;
 use nk_field::List;
-use nk_lex::{Kind, Number, Token, Word};
+use nk_lex::{Ident, Kind, Number, Token};
 use std::alloc::{AllocError, AllocFailed, Global};
 use std::mem::replace;
 
 /// The declaration of a policy.
-fn policy_of(word: PolicyWord, name: Word, policy: Ast, line: u64) -> Decl
+fn policy_of(word: PolicyKeyword, name: Ident, policy: Ast, line: u64) -> Decl
     ensures { declaration_of result ≡ defined word name (tree_of policy) line }
 {
     match word {
-        PolicyWord::Let => Decl::Let(name, policy, line),
-        PolicyWord::Fabric => Decl::Fabric(name, policy, line),
+        PolicyKeyword::Let => Decl::Let(name, policy, line),
+        PolicyKeyword::Fabric => Decl::Fabric(name, policy, line),
     }
 }
 
@@ -95,9 +95,9 @@ impl Reader {
         Ok(done)
     }
 
-    /// A declaration begins behind one that is done.
+    /// A declaration begins after one that is done.
     fn begin(&mut self, done: Option<Decl>, token: &Token) -> Result<Option<Decl>, GrammarError>
-        ensures begun { Returns (λ d. reading (phase_in self.new) (declaration_done d)) result
+        ensures begun { ParseReturns (λ d. reading (phase_in self.new) (declaration_done d)) result
             (judged token.now.line (begin_declaration (declaration_done done) (terminal_of token.now))) }
         ensures err { IfErr result (λ e. e ≡ GrammarError.Unexpected token.now.line) }
     {
@@ -105,17 +105,17 @@ impl Reader {
             Kind::Field => self.go(Stage::Name(Naming::Field), done),
             Kind::Tag => self.go(Stage::Name(Naming::Tag), done),
             Kind::Switch => self.go(Stage::Switch, done),
-            Kind::Link => self.go(Stage::Link(LinkWord::Link, Quad::Start), done),
-            Kind::Virtual => self.go(Stage::Link(LinkWord::Virtual, Quad::Start), done),
+            Kind::Link => self.go(Stage::Link(LinkKeyword::Link, Quad::Start), done),
+            Kind::Virtual => self.go(Stage::Link(LinkKeyword::Virtual, Quad::Start), done),
             Kind::Let => {
                 self.go(
-                    Stage::Name(Naming::Policy(PolicyWord::Let, token.line)),
+                    Stage::Name(Naming::Policy(PolicyKeyword::Let, token.line)),
                     done,
                 )
             }
             Kind::Fabric => {
                 self.go(
-                    Stage::Name(Naming::Policy(PolicyWord::Fabric, token.line)),
+                    Stage::Name(Naming::Policy(PolicyKeyword::Fabric, token.line)),
                     done,
                 )
             }
@@ -128,8 +128,8 @@ impl Reader {
 
     /// A policy took a token, and goes on.
     fn go_on_in_policy(&self, token: &Token) -> Result<bool, GrammarError>
-        ensures read { (k : PolicyWord) (w : Word) (line : ℕ) → self.now.stage ≡ Stage.Policy k w line
-            → Returns (λ taken. reading (phase_in self.now) []) result
+        ensures read { (k : PolicyKeyword) (w : Ident) (line : ℕ) → self.now.stage ≡ Stage.Policy k w line
+            → ParseReturns (λ taken. reading (phase_in self.now) []) result
             (judged token.now.line (Some (reading (in_policy k w line (reader_state self.now.policy)) []))) }
         ensures taken { IfOk result (λ taken. taken ≡ true) }
         ensures err { IfErr result (λ e. e ≡ GrammarError.TooDeep token.now.line) }
@@ -144,7 +144,7 @@ impl Reader {
     /// One more token of a policy, if it goes on with it. What is read of the declaration stays where it is.
     fn take_in_policy(&mut self, alloc: Global, token: &Token) -> Result<bool, GrammarError>
         requires stage { IsInPolicy self.old.stage }
-        ensures { (k : PolicyWord) (w : Word) (line : ℕ) → self.old.stage ≡ Stage.Policy k w line
+        ensures { (k : PolicyKeyword) (w : Ident) (line : ℕ) → self.old.stage ≡ Stage.Policy k w line
             → TakesInside (in_policy k w line (reader_state self.old.policy)) (phase_in self.new) token.now.line
             (terminal_of token.now) result }
     {
@@ -170,8 +170,8 @@ impl Reader {
     /// A policy ended before this token.
     fn end_policy(&mut self, policy: Ast, token: &Token) -> Result<Option<Decl>, GrammarError>
         requires stage { IsInPolicy self.old.stage }
-        ensures read { (k : PolicyWord) (w : Word) (line : ℕ) → self.old.stage ≡ Stage.Policy k w line
-            → Returns (λ d. reading (phase_in self.new) (declaration_done d)) result
+        ensures read { (k : PolicyKeyword) (w : Ident) (line : ℕ) → self.old.stage ≡ Stage.Policy k w line
+            → ParseReturns (λ d. reading (phase_in self.new) (declaration_done d)) result
             (judged token.now.line (begin_declaration (one_more [] (defined k w (tree_of policy) line)) (terminal_of token.now))) }
         ensures err { IfErr result (λ e. e ≡ GrammarError.Unexpected token.now.line) }
     {
@@ -181,15 +181,15 @@ impl Reader {
         self.begin(Some(policy_of(word, name, policy, line)), token)
     }
 
-    /// The first token behind a policy, which doesn't go on with it.
-    fn take_behind_policy(
+    /// The first token after a policy, which doesn't go on with it.
+    fn take_after_policy(
         &mut self,
         alloc: Global,
         token: &Token,
     ) -> Result<Option<Decl>, GrammarError>
         requires stage { IsInPolicy self.old.stage }
-        ensures read { (k : PolicyWord) (w : Word) (line : ℕ) → self.old.stage ≡ Stage.Policy k w line
-            → Returns (λ d. reading (phase_in self.new) (declaration_done d)) result
+        ensures read { (k : PolicyKeyword) (w : Ident) (line : ℕ) → self.old.stage ≡ Stage.Policy k w line
+            → ParseReturns (λ d. reading (phase_in self.new) (declaration_done d)) result
             (judged token.now.line (policy_done k w line [] (policy_ended (reader_state self.old.policy)) (terminal_of token.now))) }
         ensures kept { StaysWithoutMemory result (phase_in self.old) (phase_in self.new) }
     {
@@ -207,7 +207,7 @@ impl Reader {
         ports: Vec<Number>,
         token: &Token,
     ) -> Result<Option<Decl>, GrammarError>
-        ensures read { Returns (λ d. reading (phase_in self.new) (declaration_done d)) result
+        ensures read { ParseReturns (λ d. reading (phase_in self.new) (declaration_done d)) result
             (judged token.now.line (next_reading (port_read number ports.items) [] (terminal_of token.now))) }
         ensures err { IfErr result (λ e. e ≡ GrammarError.Unexpected token.now.line) }
     {
@@ -224,7 +224,7 @@ impl Reader {
         ports: Vec<Number>,
         token: &Token,
     ) -> Result<Option<Decl>, GrammarError>
-        ensures read { Returns (λ d. reading (phase_in self.new) (declaration_done d)) result
+        ensures read { ParseReturns (λ d. reading (phase_in self.new) (declaration_done d)) result
             (judged token.now.line (next_reading (port_wanted number ports.items) [] (terminal_of token.now))) }
         ensures kept { StaysWithoutMemory result (port_wanted number ports.items) (phase_in self.new) }
     {
@@ -244,11 +244,11 @@ impl Reader {
     /// One more token of a link.
     fn take_link(
         &mut self,
-        word: LinkWord,
+        word: LinkKeyword,
         quad: Quad,
         token: &Token,
     ) -> Result<Option<Decl>, GrammarError>
-        ensures read { Returns (λ d. reading (phase_in self.new) (declaration_done d)) result
+        ensures read { ParseReturns (λ d. reading (phase_in self.new) (declaration_done d)) result
             (judged token.now.line (next_reading (link_read word quad) [] (terminal_of token.now))) }
         ensures err { IfErr result (λ e. e ≡ GrammarError.Unexpected token.now.line) }
     {
@@ -256,8 +256,8 @@ impl Reader {
             QuadNext::Refused => Err(GrammarError::Unexpected { line: token.line }),
             QuadNext::Going(quad) => self.go(Stage::Link(word, quad), None),
             QuadNext::Full(a, m, b, n) => match word {
-                LinkWord::Link => self.go(Stage::Between, Some(Decl::Link(a, m, b, n))),
-                LinkWord::Virtual => self.go(Stage::By(a, m, b, n), None),
+                LinkKeyword::Link => self.go(Stage::Between, Some(Decl::Link(a, m, b, n))),
+                LinkKeyword::Virtual => self.go(Stage::By(a, m, b, n), None),
             },
         }
     }
@@ -269,7 +269,7 @@ impl Reader {
         naming: Naming,
         token: &Token,
     ) -> Result<Option<Decl>, GrammarError>
-        ensures read { Returns (λ d. reading (phase_in self.new) (declaration_done d)) result
+        ensures read { ParseReturns (λ d. reading (phase_in self.new) (declaration_done d)) result
             (judged token.now.line (next_reading (name_wanted naming) [] (terminal_of token.now))) }
         ensures kept { StaysWithoutMemory result (name_wanted naming) (phase_in self.new) }
     {
@@ -294,12 +294,12 @@ impl Reader {
     fn take_sign(
         &mut self,
         alloc: Global,
-        word: PolicyWord,
-        name: Word,
+        word: PolicyKeyword,
+        name: Ident,
         line: u64,
         token: &Token,
     ) -> Result<Option<Decl>, GrammarError>
-        ensures read { Returns (λ d. reading (phase_in self.new) (declaration_done d)) result
+        ensures read { ParseReturns (λ d. reading (phase_in self.new) (declaration_done d)) result
             (judged token.now.line (next_reading (policy_named word name line) [] (terminal_of token.now))) }
         ensures err { IfErr result (λ e. e ≡ GrammarError.Unexpected token.now.line) }
     {
@@ -315,7 +315,7 @@ impl Reader {
     /// One more token outside the policies.
     fn take_outside(&mut self, alloc: Global, token: &Token) -> Result<Option<Decl>, GrammarError>
         requires outside { IsInPolicy self.old.stage → ⊥ }
-        ensures read { Returns (λ d. reading (phase_in self.new) (declaration_done d)) result
+        ensures read { ParseReturns (λ d. reading (phase_in self.new) (declaration_done d)) result
             (judged token.now.line (read_one (reading (phase_in self.old) []) (terminal_of token.now))) }
         ensures kept { StaysWithoutMemory result (phase_in self.old) (phase_in self.new) }
     {
@@ -353,7 +353,7 @@ impl Reader {
         ensures { TakesTerminal (phase_in self.old) (phase_in self.new) token.now.line (terminal_of token.now) result }
     {
         if let Stage::Policy(..) = &self.stage {
-            self.take_behind_policy(alloc, token)
+            self.take_after_policy(alloc, token)
         } else {
             self.take_outside(alloc, token)
         }
@@ -362,7 +362,7 @@ impl Reader {
     /// Reads one more token, and hands out the declaration that it completes. An error is the first fault of the tokens so far, or that
     /// memory ran out.
     pub fn take(&mut self, alloc: Global, token: &Token) -> Result<Option<Decl>, GrammarError>
-        ensures read { Returns (λ d. reading (phase_in self.new) (declaration_done d)) result
+        ensures read { ParseReturns (λ d. reading (phase_in self.new) (declaration_done d)) result
             (judged token.now.line (read_one (reading (phase_in self.old) []) (terminal_of token.now))) }
         ensures kept { StaysWithoutMemory result (phase_in self.old) (phase_in self.new) }
     {
@@ -376,7 +376,7 @@ impl Reader {
     /// Ends the text, and hands out the declaration that its end completes; `line` is that of the last token. `Unexpected` comes where
     /// the tokens so far are no text.
     pub fn end(&mut self, alloc: Global, line: u64) -> Result<Option<Decl>, GrammarError>
-        ensures read { Returns declaration_done result
+        ensures read { ParseReturns declaration_done result
             (ended_at line (declarations_at_end (reading (phase_in self.old) []))) }
         ensures kept { StaysWithoutMemory result (phase_in self.old) (phase_in self.new) }
     {

@@ -71,10 +71,10 @@ one_above gs n (y ∷ a) p b [] k h = absurd k
 one_above gs n (y ∷ a) p b (r ∷ rs) k h = and_false (below n r) (list_all (below n) rs) (one_above gs n a p b rs k.3 h)
 
 -- it fails with rows before it
-fails_behind :
+fails_after :
     (n : ℕ) (pre rs : List Row) → list_all (below n) rs ≡ false → list_all (below n) (pre ++ rs) ≡ false
-fails_behind n [] rs h = h
-fails_behind n (q ∷ pre) rs h = and_false (below n q) (list_all (below n) (pre ++ rs)) (fails_behind n pre rs h)
+fails_after n [] rs h = h
+fails_after n (q ∷ pre) rs h = and_false (below n q) (list_all (below n) (pre ++ rs)) (fails_after n pre rs h)
 
 -- the row kept for one above all others is the highest, and has its buckets
 highest_is :
@@ -91,7 +91,7 @@ highest_is gs pre [] p b (r ∷ rs) e f g k =
 highest_is gs pre (y ∷ a) p b [] e f g k = absurd k
 highest_is gs pre (y ∷ a) p b (r ∷ rs) e f g k =
     let less : r.priority < p.priority = subst (λ z. z < p.priority) (sym k.0) f.0 in
-    let not_top : list_all (below r.priority) (pre ++ rs) ≡ false = fails_behind r.priority pre rs (one_above gs r.priority a p b rs k.3 (omega (arith, less))) in
+    let not_top : list_all (below r.priority) (pre ++ rs) ≡ false = fails_after r.priority pre rs (one_above gs r.priority a p b rs k.3 (omega (arith, less))) in
     ap (λ c. buckets_of_row gs (cond c (Some r) (highest (pre ++ r ∷ []) rs))) not_top
     ∙ highest_is gs (pre ++ r ∷ []) a p b rs (every_append (λ (z : Row). z.priority < p.priority) pre (r ∷ []) e (less, tt)) f.1 g k.3
 

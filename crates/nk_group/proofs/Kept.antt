@@ -12,7 +12,7 @@ use Rattle.nk_table.specs.declared.Plain.{Plain}
 use Rattle.nk_table.specs.Buckets.{same_buckets}
 use Rattle.nk_table.specs.Rules.{buckets_in, buckets_for}
 use Rattle.nk_table.proofs.SameBuckets.{same_buckets_tells, same_buckets_self}
-use Rattle.nk_group.specs.Groups.{with_list, taken, target_among, rows_after, lists_after, numbered, AreKept, GroupsKeepBuckets, GroupsDiffer}
+use Rattle.nk_group.specs.Groups.{with_list, taken, target_in_groups, rows_after, lists_after, numbered, AreKept, GroupsKeepBuckets, GroupsDiffer}
 
 -- equal numbers pass
 here_is : (n m : ℕ) → n ≡ m → (n == m) ≡ true
@@ -90,7 +90,7 @@ with_has ls bs = by (list_any (same_buckets bs) ls) refl
 -- a row's target names its buckets
 target_names :
     (ls rest : List (List Bucket)) (bs : List Bucket)
-    → buckets_for (numbered 1 (taken ls bs ++ rest)) (target_among (taken ls bs) bs) ≡ bs
+    → buckets_for (numbered 1 (taken ls bs ++ rest)) (target_in_groups (taken ls bs) bs) ≡ bs
 target_names ls rest [] = refl
 target_names ls rest (b ∷ []) = refl
 target_names ls rest (b ∷ c ∷ bs) = found (b ∷ c ∷ bs) (with_list ls (b ∷ c ∷ bs)) rest 1 (position_or_len (same_buckets (b ∷ c ∷ bs)) (with_list ls (b ∷ c ∷ bs)) + 1) (with_has ls (b ∷ c ∷ bs)) refl
@@ -104,7 +104,7 @@ kept_from ls (p ∷ ps) =
     let more = after_extends (taken ls p.buckets) ps in (
       refl,
       refl,
-      ap (λ l. buckets_for (numbered 1 l) (target_among (taken ls p.buckets) p.buckets)) more.is ∙ target_names ls more.rest p.buckets,
+      ap (λ l. buckets_for (numbered 1 l) (target_in_groups (taken ls p.buckets) p.buckets)) more.is ∙ target_names ls more.rest p.buckets,
       kept_from (taken ls p.buckets) ps,
     )
 

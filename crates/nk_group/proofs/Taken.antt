@@ -13,7 +13,7 @@ use Rattle.nk_table.specs.contracts.BucketPartialEq.TheImpl as bucket_impl
 use Rattle.nk_table.specs.contracts.ExitPartialEq.TheImpl as exit_impl
 use Rattle.nk_table.specs.Buckets.{same_buckets}
 use Rattle.nk_table.proofs.SameBuckets.{same_buckets_tells, same_buckets_self}
-use Rattle.nk_group.specs.Groups.{taken, target_among}
+use Rattle.nk_group.specs.Groups.{taken, target_in_groups}
 
 -- the test of two assignments decides
 pair_decides : (p q : ℕ × ℕ) → Decides (eqb p.0 q.0 && eqb p.1 q.1) (p ≡ q)
@@ -84,7 +84,7 @@ place_in p xs x h false n = sym (last_place p xs x h n)
 pub target_is :
     (ls : List (List Bucket)) (bs : List Bucket) (n : ℕ) → 1 < length bs
     → n ≡ position_or_len (pointwise bucket_impl.ghosts.eq bs) ls
-    → target.Group (n + 1) ≡ target_among (taken ls bs) bs
+    → target.Group (n + 1) ≡ target_in_groups (taken ls bs) bs
 target_is ls [] n h e = absurd (omega arith)
 target_is ls (b ∷ []) n h e = absurd (omega arith)
 target_is ls (b ∷ c ∷ bs) n h e =

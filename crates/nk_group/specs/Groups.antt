@@ -22,14 +22,14 @@ taken ls (b ∷ []) = ls
 taken ls (b ∷ c ∷ bs) = with_list ls (b ∷ c ∷ bs)
 
 -- what a row does: no bucket is drop, one stands in the row, several are the group of this list
-abbrev pub target_among : List (List Bucket) → List Bucket → Target
-target_among ls [] = target.Discard
-target_among ls (b ∷ []) = target.Bucket b
-target_among ls (b ∷ c ∷ bs) = target.Group (position_or_len (same_buckets (b ∷ c ∷ bs)) ls + 1)
+abbrev pub target_in_groups : List (List Bucket) → List Bucket → Target
+target_in_groups ls [] = target.Discard
+target_in_groups ls (b ∷ []) = target.Bucket b
+target_in_groups ls (b ∷ c ∷ bs) = target.Group (position_or_len (same_buckets (b ∷ c ∷ bs)) ls + 1)
 
 -- the row whose buckets were taken last
 abbrev pub row_among : List (List Bucket) → Plain → Row
-row_among ls r = record { priority = r.priority; matches = r.matches; target = target_among ls r.buckets }
+row_among ls r = record { priority = r.priority; matches = r.matches; target = target_in_groups ls r.buckets }
 
 -- the rows, where the lists ls have numbers already
 abbrev pub rows_after : List (List Bucket) → List Plain → List Row

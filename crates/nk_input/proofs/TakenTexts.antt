@@ -76,11 +76,11 @@ of_tokens bytes ts r cut h = if_ok r of h
     of (read.Fault text) h = subst (λ x. IsFaultOfBytes x text.items) (sym cut) h
 
 -- a fault of the tokens is told
-pub grammar_told : (ts : List Token) (e : GrammarError) (r : Result ReadText AllocError) → grammars.Fails e (file_of ts) → IfOk r (IsGrammarFault e)
+pub grammar_told : (ts : List Token) (e : GrammarError) (r : Result ReadText AllocError) → grammars.ParseFails e (file_of ts) → IfOk r (IsGrammarFault e)
     → IfOk r (IsReadOfTokens ts)
 grammar_told ts e r is h = if_ok r (of e is) h
   where
-    of : (e : GrammarError) → grammars.Fails e (file_of ts) → (x : ReadText) → IsGrammarFault e x → IsReadOfTokens ts x
+    of : (e : GrammarError) → grammars.ParseFails e (file_of ts) → (x : ReadText) → IsGrammarFault e x → IsReadOfTokens ts x
     of e is (read.Program p) h = absurd h
     of grammar.NoMemory is (read.Fault text) h = absurd h
     of (grammar.Unexpected line) is (read.Fault text) h = subst (λ x. IsFaultOfTokens x text.items) (sym is) h

@@ -3,18 +3,18 @@ use Rattle.std.specs.Prelude.{◌≡◌, List, Ok}
 use Rattle.nk_lex.specs.declared.token.Token.{Token}
 use Rattle.nk_grammar.specs.File.{Declaration}
 use Rattle.nk_grammar.specs.FileMachine.{file_of}
-use Rattle.nk_names.specs.ProgramOf.{Said, program_of}
+use Rattle.nk_names.specs.ProgramOf.{DeclaredProgram, program_of}
 use Rattle.nk_names.specs.ReadBack.{IsWritable}
 use Rattle.nk_names.specs.Topologies.{IsDeclarable}
 
 -- fields and a topology that a text can declare
-pub record CanBeDeclared (said : Said) : Type 0 where
+pub record CanBeDeclared (said : DeclaredProgram) : Type 0 where
   pub fields : IsWritable said.fields
   pub topology : IsDeclarable said.topo
 
 -- what the declarations say has such
 abbrev pub SayDeclared : List Declaration → Type 0
-SayDeclared ds = (s : Said) → program_of ds ≡ Ok s → CanBeDeclared s
+SayDeclared ds = (s : DeclaredProgram) → program_of ds ≡ Ok s → CanBeDeclared s
 
 -- what the tokens say has
 abbrev pub TokensSayDeclared : List Token → Type 0

@@ -11,11 +11,11 @@ use Rattle.nk_grammar.specs.File.{Declaration}
 use Rattle.nk_grammar.specs.FileMachine.{file_of}
 use Rattle.nk_names.specs.declared.fault.NamesError.{NamesError}
 use Rattle.nk_names.specs.declared.fault.NamesError.TheVariants as naming
-use Rattle.nk_names.specs.ProgramOf.{Said, program_of}
-use Rattle.nk_names.specs.Words.{fault_words, fault_line}
+use Rattle.nk_names.specs.ProgramOf.{DeclaredProgram, program_of}
+use Rattle.nk_names.specs.Messages.{fault_message_of, fault_line}
 
 -- the bytes are a text that declares this
-pub record Declares (bytes : List ℕ) (said : Said) : Type 0 where
+pub record Declares (bytes : List ℕ) (said : DeclaredProgram) : Type 0 where
   pub tokens : List Token
   pub cut : tokens_of bytes ≡ Ok tokens
   pub declarations : List Declaration
@@ -36,11 +36,11 @@ TellsGrammar grammar.NoMemory text = ⊥
 
 -- the line that tells the first fault of its declarations
 abbrev pub TellsNames : NamesError → List ℕ → Type 0
-TellsNames (naming.Fault kind line) text = text ≡ fault_line line (fault_words kind)
+TellsNames (naming.Fault kind line) text = text ≡ fault_line line (fault_message_of kind)
 TellsNames naming.NoMemory text = ⊥
 
 -- the declarations have a fault, and the line tells the first one
-abbrev pub IsFaultOfNames : Result Said NamesError → List ℕ → Type 0
+abbrev pub IsFaultOfNames : Result DeclaredProgram NamesError → List ℕ → Type 0
 IsFaultOfNames (Ok said) text = ⊥
 IsFaultOfNames (Err e) text = TellsNames e text
 

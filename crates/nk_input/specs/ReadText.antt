@@ -7,17 +7,17 @@ use Rattle.nk_grammar.specs.declared.decl.GrammarError.{GrammarError}
 use Rattle.nk_grammar.specs.File.{Declaration}
 use Rattle.nk_grammar.specs.FileMachine.{file_of}
 use Rattle.nk_names.specs.declared.Program.{Program}
-use Rattle.nk_names.specs.ProgramOf.{program_of, said_by}
+use Rattle.nk_names.specs.ProgramOf.{program_of, program_by}
 use Rattle.nk_input.specs.declared.program_text.ReadText.{ReadText}
 use Rattle.nk_input.specs.declared.program_text.ReadText.TheVariants as read
 use Rattle.nk_input.specs.Declarable.{CanBeDeclared}
-use Rattle.nk_names.specs.Words.{fault_line}
+use Rattle.nk_names.specs.Messages.{fault_line}
 use Rattle.nk_input.specs.ProgramText.{HasFault, IsFaultOfNames, IsFaultOfTokens, TellsGrammar, TellsLexical}
 
 -- the program is what the declarations say, with fields and a topology that a text can declare
 pub record IsOfDeclarations (declarations : List Declaration) (program : Program) : Type 0 where
-  pub declared : CanBeDeclared (said_by program)
-  pub means : program_of declarations ≡ Ok (said_by program)
+  pub declared : CanBeDeclared (program_by program)
+  pub means : program_of declarations ≡ Ok (program_by program)
 
 -- so it is of tokens
 pub record IsOfTokens (tokens : List Token) (program : Program) : Type 0 where

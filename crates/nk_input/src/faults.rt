@@ -1,11 +1,11 @@
 //! The lines that tell the faults of texts.
 ghost use Rattle.std.specs.Prelude.{◌≡◌, IfOk};
-ghost use Rattle.nk_names.specs.Words.{fault_line};
+ghost use Rattle.nk_names.specs.Messages.{fault_line};
 ghost use Rattle.nk_reply.specs.Outcome.{text_refused};
-ghost use Rattle.nk_reply.specs.Reply.{said};
+ghost use Rattle.nk_reply.specs.Reply.{outcome_of};
 
 use itoa::Buffer;
-use nk_reply::Said;
+use nk_reply::CommandAnswer;
 use std::alloc::{AllocError, Global};
 
 /// `line N: WORDS` with a line feed.
@@ -23,8 +23,8 @@ pub(crate) fn fault_message(alloc: Global, line: u64, words: &str) -> Result<Vec
 }
 
 /// The fault of a text.
-pub fn text_fault(alloc: Global, line: u64, words: &str) -> Result<Said, AllocError>
-    ensures { IfOk result (λ s. said s ≡ text_refused (fault_line line words.now)) }
+pub fn text_fault(alloc: Global, line: u64, words: &str) -> Result<CommandAnswer, AllocError>
+    ensures { IfOk result (λ s. outcome_of s ≡ text_refused (fault_line line words.now)) }
 {
-    Ok(Said::Text(fault_message(alloc, line, words)?))
+    Ok(CommandAnswer::Text(fault_message(alloc, line, words)?))
 }

@@ -63,7 +63,7 @@ fn read_tokens(alloc: Global, tokens: ProgramTokens) -> Result<ReadText, AllocEr
     }
 }
 
-/// The same behind the declaration that the end of the text completes, if it does.
+/// The same after the declaration that the end of the text completes, if it does.
 fn read_last(
     alloc: Global,
     program: ProgramReader,
@@ -85,7 +85,7 @@ fn read_declared(alloc: Global, program: ProgramReader) -> Result<ReadText, Allo
 {
     match program.finish() {
         Ok(program) => Ok(ReadText::Program(program)),
-        Err(NamesError::Fault { kind, line }) => fault(alloc, line, kind.words()),
+        Err(NamesError::Fault { kind, line }) => fault(alloc, line, kind.message()),
         Err(NamesError::NoMemory) => Err(AllocError),
     }
 }
@@ -113,8 +113,8 @@ fn grammar_fault(alloc: Global, error: GrammarError) -> Result<ReadText, AllocEr
 }
 
 /// The line of a text's fault.
-fn fault(alloc: Global, line: u64, words: &str) -> Result<ReadText, AllocError>
-    ensures { IfOk result (λ r. IsFaultLine line words.now r) }
+fn fault(alloc: Global, line: u64, message: &str) -> Result<ReadText, AllocError>
+    ensures { IfOk result (λ r. IsFaultLine line message.now r) }
 {
-    Ok(ReadText::Fault(fault_message(alloc, line, words)?))
+    Ok(ReadText::Fault(fault_message(alloc, line, message)?))
 }

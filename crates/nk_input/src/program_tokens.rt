@@ -6,7 +6,7 @@ ghost use Rattle.nk_grammar.specs.FileReader.{declaration_done};
 ghost use Rattle.nk_names.specs.Declaring.{IsDeclared};
 ghost use Rattle.nk_input.specs.ProgramTokens.{AreTaken};
 
-use nk_grammar::{Decl, TextReader};
+use nk_grammar::{Decl, TextParser};
 use nk_lex::Token;
 use nk_names::ProgramReader;
 use std::alloc::{AllocError, Global};
@@ -14,13 +14,13 @@ use std::alloc::{AllocError, Global};
 /// What the tokens of a program's text say so far. Each declaration goes to the program with the token that completes it, and neither
 /// tokens nor declarations are kept.
 pub struct ProgramTokens {
-    pub(crate) grammar: TextReader,
+    pub(crate) grammar: TextParser,
     pub(crate) program: ProgramReader,
 }
 
 impl ProgramTokens {
     /// The two readers.
-    pub(crate) fn into_readers(self) -> (TextReader, ProgramReader)
+    pub(crate) fn into_readers(self) -> (TextParser, ProgramReader)
         ensures grammar { result.0 ≡ self.grammar }
         ensures program { result.1 ≡ self.program }
     {
@@ -59,7 +59,7 @@ impl ProgramTokens {
         ensures { IfOk result (AreTaken []) }
     {
         Ok(ProgramTokens {
-            grammar: TextReader::new(alloc),
+            grammar: TextParser::new(alloc),
             program: ProgramReader::new(alloc)?,
         })
     }

@@ -1,4 +1,4 @@
--- A piece behind each kind of open lexeme.
+-- A piece after each kind of open lexeme.
 use Rattle.std.proofs.Common.{◌≡◌, ◌<◌, ◌≤◌, ◌+◌, ◌-◌, ◌*◌, ◌==◌, ◌&&◌, ℕ, suc, List, [], ◌∷◌, ◌++◌, Bool, true, false, length, take, drop, refl, sym, ◌∙◌, ap, arith, cond, Option, min, subst}
 use Rattle.std.proofs.lemmas.List.{length-append}
 use Rattle.std.proofs.lemmas.List.Folds.{list_all-append}
@@ -46,7 +46,7 @@ run_within p ys = omega (arith, run_length p ys, prefix_len-le-length p ys)
 pub all_then : (p : ℕ → Bool) (xs ys : List ℕ) (t : Bool) → list_all p xs ≡ true → list_all p ys ≡ t → list_all p (xs ++ ys) ≡ t
 all_then p xs ys t h k = list_all-append p xs ys ∙ ap (λ b. b && list_all p ys) h ∙ k
 
--- what lies behind a run that goes on into the piece
+-- what lies after a run that goes on into the piece
 pub settle_past : (rest piece : List ℕ) (n k line at fed : ℕ) → k ≡ length rest + n → n ≤ length piece → at + length rest ≡ fed
     → settle (rest ++ piece) k line at ≡ settle (drop n piece) 0 line (fed + n)
 settle_past rest piece n k line at fed e fits whole =
@@ -165,7 +165,7 @@ number_on b rest piece line at fed d o whole ends =
     ∙ ap (λ f. settle_on (cut f line at bytes) next') (digit_front b (rest ++ piece) d)
     ∙ ap (λ i. settle_on (cut (front.Number i) line at bytes) next') count
     ∙ ap (λ r. settle_on r next') kept
-    ∙ on_same m (number_or_fault at m line v) next' next (number_sized at m line v) behind
+    ∙ on_same m (number_or_fault at m line v) next' next (number_sized at m line v) following
   where
     bytes : List ℕ
     bytes = b ∷ rest ++ piece
@@ -210,8 +210,8 @@ number_on b rest piece line at fed d o whole ends =
         ∙ number_kept (value_of ((b ∷ rest) ++ take n piece)) at m line
         ∙ ap (number_or_fault at m line) value
 
-    behind : next' m ≡ next m
-    behind =
+    following : next' m ≡ next m
+    following =
         ap (λ l. settle (rest ++ piece) (m - 1) l (at + 1)) (same_line b line d)
         ∙ settle_past rest piece n (m - 1) line (at + 1) fed
         (let e : m - 1 ≡ length rest + n = omega (arith, whole) in e) (run_within is_digit piece)

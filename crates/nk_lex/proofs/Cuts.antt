@@ -1,4 +1,4 @@
--- A text that is cut as far as no further byte changes it, and more bytes behind it.
+-- A text that is cut as far as no further byte changes it, and more bytes after it.
 use Rattle.std.proofs.Common.{◌≡◌, ◌<◌, ◌≤◌, ◌+◌, ◌-◌, ◌==◌, ◌||◌, ◌&&◌, ℕ, zero, suc, List, [], ◌∷◌, ◌++◌, Bool, true, false, not, length, drop, get_or, refl, sym, ◌∙◌, ap, arith, cond, Option, option_to_list, append_assoc, append-nil, subst}
 use Rattle.std.specs.Prelude.{Some, None, Ok, Err, take_while, ⊤}
 use Rattle.std.specs.List.{list_all, prefix_len}
@@ -15,7 +15,7 @@ use Rattle.nk_lex.proofs.Joining.{IsSized, cut_same, sized}
 
 -- ---- what is left
 
--- how the piece is cut behind what is left
+-- how the piece is cut after what is left
 abbrev pub resumed : Left → List ℕ → Settled
 resumed (Rest line at bytes) piece = settle (bytes ++ piece) 0 line at
 resumed (Fault e) piece = ([], Fault e)
@@ -122,9 +122,9 @@ cut_more b rest more line at h =
     ap (λ f. cut f line at (b ∷ rest ++ more)) (front_more b rest more h)
     ∙ cut_same (front_of b rest) line at (b ∷ rest) more fits
 
--- ---- more bytes behind a text
+-- ---- more bytes after a text
 
--- what was cut, and then the piece behind what it leaves
+-- what was cut, and then the piece after what it leaves
 abbrev pub resume : Settled → List ℕ → Settled
 resume r ys = settle_after r.0 (resumed r.1 ys)
 

@@ -12,7 +12,7 @@ use Rattle.nk_lex.specs.declared.kind.Kind.TheVariants as kind
 use Rattle.nk_lex.specs.declared.front.Front.TheVariants as front
 use Rattle.nk_lex.specs.Classes.{is_digit, is_name_byte, is_name_start, is_white}
 use Rattle.nk_lex.specs.Kinds.{kind_of_name}
-use Rattle.nk_lex.specs.Lex.{cut, front_of, go_on, largest, line_after, number_of, scan, token, value_of, with_length, with_token, tokens_of, answer}
+use Rattle.nk_lex.specs.Lex.{cut, front_of, go_on, largest, line_after, number_of, scan, token, value_of, with_length, with_token, tokens_of, lex_result}
 use Rattle.nk_lex.specs.Spelling.{Sign, plus, semicolon, star, tilde, open_parenthesis, close_parenthesis, equal, becomes, fat_arrow, arrow, colon, comma, slash, dots, open_bracket, close_bracket, sign_bytes, sign_kind, Lexeme, space, line_feed, word, numeral, sign, text_of, tokens_from, IsWord, is_colon, begins_with_equal, IsApart, AreSeparate}
 use Rattle.nk_lex.proofs.Steps.{skipped}
 use Rattle.nk_lex.proofs.Digits.{StopsAt, run_is, Digits, digits_of}
@@ -69,7 +69,7 @@ digit_front b rest h =
     no_start : (b : ℕ) → is_digit b ≡ true → is_name_start b ≡ false
     no_start b h = grind (arith, nat_tests)
 
--- a run of bytes behind the first, and one more
+-- a run of bytes after the first, and one more
 run_length : (p : ℕ → Bool) (bs r : List ℕ) → take_while p (bs ++ r) ≡ bs
     → length (take_while p (bs ++ r)) + 1 ≡ suc (length bs)
 run_length p bs r e = omega (arith, ap length e)
@@ -164,7 +164,7 @@ sign_cut dots r line at s = one_cut 46 (46 ∷ []) r line at (token_of_sign dots
 sign_cut open_bracket r line at s = one_cut 91 [] r line at (token_of_sign open_bracket line at) refl
 sign_cut close_bracket r line at s = one_cut 93 [] r line at (token_of_sign close_bracket line at) refl
 
--- ---- what stands behind a lexeme
+-- ---- what stands after a lexeme
 
 -- the first byte of a symbol
 record Leads (s : Sign) : Type 0 where
@@ -264,30 +264,30 @@ digit_no_greater b h = grind (arith, nat_tests)
 digit_no_equal : (b : ℕ) → is_digit b ≡ true → (b == 61) ≡ false
 digit_no_equal b h = grind (arith, nat_tests)
 
--- what stands apart behind a lexeme doesn't make it longer
-stops_behind : (x : Lexeme) (ys : List Lexeme) → IsApart x ys → AreSeparate ys → StopsAt (extends x) (text_of ys)
-stops_behind space ys a h = blank_stops (text_of ys)
-stops_behind line_feed ys a h = blank_stops (text_of ys)
-stops_behind x [] a h = tt
-stops_behind (word w) (space ∷ ys) a h = refl
-stops_behind (word w) (line_feed ∷ ys) a h = refl
-stops_behind (word w) (word v ∷ ys) a h = absurd cc
-stops_behind (word w) (numeral n ∷ ys) a h = absurd cc
-stops_behind (word w) (sign t ∷ ys) a h = let l = leads t in stop is_name_byte (sign_bytes t) (text_of ys) l.rest l.first l.are l.no_name
-stops_behind (numeral n) (space ∷ ys) a h = refl
-stops_behind (numeral n) (line_feed ∷ ys) a h = refl
-stops_behind (numeral n) (word [] ∷ ys) a h = absurd h.0
-stops_behind (numeral n) (word (b ∷ bs) ∷ ys) a h = start_no_digit b h.0.0
-stops_behind (numeral n) (numeral m ∷ ys) a h = absurd cc
-stops_behind (numeral n) (sign t ∷ ys) a h = let l = leads t in stop is_digit (sign_bytes t) (text_of ys) l.rest l.first l.are l.no_digit
-stops_behind (sign s) (space ∷ ys) a h = not_longer s 32 refl refl
-stops_behind (sign s) (line_feed ∷ ys) a h = not_longer s 10 refl refl
-stops_behind (sign s) (word [] ∷ ys) a h = absurd h.0
-stops_behind (sign s) (word (b ∷ bs) ∷ ys) a h = not_longer s b (start_no_greater b h.0.0) (start_no_equal b h.0.0)
-stops_behind (sign s) (numeral m ∷ ys) a h =
+-- what stands apart after a lexeme doesn't make it longer
+stops_after : (x : Lexeme) (ys : List Lexeme) → IsApart x ys → AreSeparate ys → StopsAt (extends x) (text_of ys)
+stops_after space ys a h = blank_stops (text_of ys)
+stops_after line_feed ys a h = blank_stops (text_of ys)
+stops_after x [] a h = tt
+stops_after (word w) (space ∷ ys) a h = refl
+stops_after (word w) (line_feed ∷ ys) a h = refl
+stops_after (word w) (word v ∷ ys) a h = absurd cc
+stops_after (word w) (numeral n ∷ ys) a h = absurd cc
+stops_after (word w) (sign t ∷ ys) a h = let l = leads t in stop is_name_byte (sign_bytes t) (text_of ys) l.rest l.first l.are l.no_name
+stops_after (numeral n) (space ∷ ys) a h = refl
+stops_after (numeral n) (line_feed ∷ ys) a h = refl
+stops_after (numeral n) (word [] ∷ ys) a h = absurd h.0
+stops_after (numeral n) (word (b ∷ bs) ∷ ys) a h = start_no_digit b h.0.0
+stops_after (numeral n) (numeral m ∷ ys) a h = absurd cc
+stops_after (numeral n) (sign t ∷ ys) a h = let l = leads t in stop is_digit (sign_bytes t) (text_of ys) l.rest l.first l.are l.no_digit
+stops_after (sign s) (space ∷ ys) a h = not_longer s 32 refl refl
+stops_after (sign s) (line_feed ∷ ys) a h = not_longer s 10 refl refl
+stops_after (sign s) (word [] ∷ ys) a h = absurd h.0
+stops_after (sign s) (word (b ∷ bs) ∷ ys) a h = not_longer s b (start_no_greater b h.0.0) (start_no_equal b h.0.0)
+stops_after (sign s) (numeral m ∷ ys) a h =
     let d = digits_of m h.0 in
     stop (longer s) (decimal m) (text_of ys) d.rest d.first d.are (not_longer s d.first (digit_no_greater d.first d.first_digit) (digit_no_equal d.first d.first_digit))
-stops_behind (sign s) (sign t ∷ ys) a h =
+stops_after (sign s) (sign t ∷ ys) a h =
     let l = leads t in
     stop (longer s) (sign_bytes t) (text_of ys) l.rest l.first l.are (sign_apart s l.first (begins_with_equal t) l.no_greater l.no_equal a)
 
@@ -299,14 +299,14 @@ scan_all [] line at h = refl
 scan_all (space ∷ xs) line at h = one_cut 32 [] (text_of xs) line at None refl ∙ scan_all xs line (at + 1) h.2
 scan_all (line_feed ∷ xs) line at h = one_cut 10 [] (text_of xs) line at None refl ∙ scan_all xs (line + 1) (at + 1) h.2
 scan_all (word w ∷ xs) line at h =
-    word_cut w (text_of xs) line at h.0 (stops_behind (word w) xs h.1 h.2)
+    word_cut w (text_of xs) line at h.0 (stops_after (word w) xs h.1 h.2)
     ∙ ap (with_token (Some (token (kind_of_name w) at (length w) line 0 w))) (scan_all xs line (at + length w) h.2)
 scan_all (numeral n ∷ xs) line at h =
-    number_cut n (decimal n) (text_of xs) line at h.0 (digits_of n h.0) (stops_behind (numeral n) xs h.1 h.2)
+    number_cut n (decimal n) (text_of xs) line at h.0 (digits_of n h.0) (stops_after (numeral n) xs h.1 h.2)
     ∙ ap (with_token (Some (token kind.Number at (length (decimal n)) line n []))) (scan_all xs line (at + length (decimal n)) h.2)
 scan_all (sign s ∷ xs) line at h =
-    sign_cut s (text_of xs) line at (stops_behind (sign s) xs h.1 h.2)
+    sign_cut s (text_of xs) line at (stops_after (sign s) xs h.1 h.2)
     ∙ ap (with_token (token_of_sign s line at)) (scan_all xs line (at + length (sign_bytes s)) h.2)
 
 pub cuts : (xs : List Lexeme) → AreSeparate xs → tokens_of (text_of xs) ≡ Ok (tokens_from 1 0 xs)
-cuts xs h = ap answer (scan_all xs 1 0 h)
+cuts xs h = ap lex_result (scan_all xs 1 0 h)

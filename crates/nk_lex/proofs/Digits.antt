@@ -39,7 +39,7 @@ pub record Digits (n : ℕ) (ds : List ℕ) : Type 0 where
   pub digits : list_all is_digit rest ≡ true
   pub value : value_of ds ≡ n
 
--- the value with one more digit behind
+-- the value with one more digit after
 value_more : (ds : List ℕ) (start d : ℕ)
     → fold (λ n c. n * 10 + (c - 48)) start (ds ++ d ∷ []) ≡ fold (λ n c. n * 10 + (c - 48)) start ds * 10 + (d - 48)
 value_more [] start d = refl

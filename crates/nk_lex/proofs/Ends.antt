@@ -12,7 +12,7 @@ use Rattle.nk_lex.specs.declared.kind.Kind.TheVariants as kind
 use Rattle.nk_lex.specs.declared.unfinished.Pending.{Pending}
 use Rattle.nk_lex.specs.declared.unfinished.Pending.TheVariants as pending
 use Rattle.nk_lex.specs.Classes.{is_digit, not_line_feed}
-use Rattle.nk_lex.specs.Lex.{Returns, Scanned, after, answer, cut, front_of, go_on, largest, line_after, number_of, scan, token, tokens_of, value_of, with_length, with_token}
+use Rattle.nk_lex.specs.Lex.{LexReturns, Scanned, after, lex_result, cut, front_of, go_on, largest, line_after, number_of, scan, token, tokens_of, value_of, with_length, with_token}
 use Rattle.nk_lex.proofs.Cuts.{IsLeft, finished, resumed, settle_after, is_left, scan_finish, settle_more}
 use Rattle.nk_lex.specs.Kept.{FeedState, IsFed, IsKept}
 use Rattle.nk_lex.specs.NextPiece.{alone, end_answer, ended, goes_on, held_answer, held_past, number_answer, pending_past, wanted_past}
@@ -50,26 +50,26 @@ sole_is (front.Symbol n k) b rest bytes line at h =
     sole_token _ _ (scan_passed rest (n - 1) (line_after line b) (at + 1) (let e : n - 1 ≡ length rest = omega (arith, h) in e))
 sole_is front.Bad b rest bytes line at h = refl
 
-sole_answer : (r : Result (ℕ × Option Token) LexError) → answer (sole r) ≡ alone r
+sole_answer : (r : Result (ℕ × Option Token) LexError) → lex_result (sole r) ≡ alone r
 sole_answer (Ok p) = refl
 sole_answer (Err e) = refl
 
 -- an open lexeme at the end of the text
 open_end : (b : ℕ) (rest : List ℕ) (line at : ℕ) → is_open b rest ≡ true
-    → answer (finished (Rest line at (b ∷ rest))) ≡ alone (cut (front_of b rest) line at (b ∷ rest))
+    → lex_result (finished (Rest line at (b ∷ rest))) ≡ alone (cut (front_of b rest) line at (b ∷ rest))
 open_end b rest line at o =
-    ap answer (sole_is (front_of b rest) b rest (b ∷ rest) line at (open_all b rest o))
+    ap lex_result (sole_is (front_of b rest) b rest (b ∷ rest) line at (open_all b rest o))
     ∙ sole_answer (cut (front_of b rest) line at (b ∷ rest))
 
 pub ends_at : (l : Left) (fed line : ℕ) (p : Pending) (held : List ℕ) → IsOpened l fed line p held
-    → answer (finished l) ≡ end_answer p held fed line
-ends_at l fed line pending.Nothing held i = ap (λ m. answer (finished m)) i
+    → lex_result (finished l) ≡ end_answer p held fed line
+ends_at l fed line pending.Nothing held i = ap (λ m. lex_result (finished m)) i
 ends_at l fed line pending.Comment held (b, rest, at, is, c, o, whole) =
-    ap (λ m. answer (finished m)) is ∙ open_end b rest line at o
+    ap (λ m. lex_result (finished m)) is ∙ open_end b rest line at o
     ∙ ap (λ f. alone (cut f line at (b ∷ rest)))
     (let e : front_of b rest ≡ front.Blank (length (take_while not_line_feed rest) + 1) = rw (open_white b rest o, c) refl in e)
 ends_at l fed line (pending.Number at v) held (b, rest, is, d, o, whole, value) =
-    ap (λ m. answer (finished m)) is ∙ open_end b rest line at o
+    ap (λ m. lex_result (finished m)) is ∙ open_end b rest line at o
     ∙ ap (λ f. alone (cut f line at (b ∷ rest))) (digit_front b rest d)
     ∙ ap (λ n. alone (cut (front.Number n) line at (b ∷ rest))) count
     ∙ ap (λ xs. alone (with_length (fed - at) (number_of xs at (fed - at) line))) all
@@ -85,23 +85,23 @@ ends_at l fed line (pending.Number at v) held (b, rest, is, d, o, whole, value) 
     all : take (fed - at) (b ∷ rest) ≡ b ∷ rest
     all = take_all (fed - at) (b ∷ rest) (let e : length (b ∷ rest) ≤ fed - at = omega (arith, whole) in e)
 ends_at l fed line pending.Held held (b, rest, is, bytes, o, c, d) =
-    ap (λ m. answer (finished m)) is ∙ open_end b rest line (fed - length held) o
+    ap (λ m. lex_result (finished m)) is ∙ open_end b rest line (fed - length held) o
     ∙ ap (λ xs. held_answer xs line (fed - length held)) (sym bytes)
-ends_at l fed line (pending.Fault e) held i = ap (λ m. answer (finished m)) i
+ends_at l fed line (pending.Fault e) held i = ap (λ m. lex_result (finished m)) i
 
 -- ---- the whole text
 
--- what comes behind these tokens
+-- what comes after these tokens
 abbrev prefixed : List Token → Result (List Token) LexError → Result (List Token) LexError
 prefixed ts (Ok us) = Ok (ts ++ us)
 prefixed ts (Err e) = Err e
 
-answer_after : (ts us : List Token) (o : Option LexError) → answer (after ts (us, o)) ≡ prefixed ts (answer (us, o))
+answer_after : (ts us : List Token) (o : Option LexError) → lex_result (after ts (us, o)) ≡ prefixed ts (lex_result (us, o))
 answer_after ts us None = refl
 answer_after ts us (Some e) = refl
 
 returns_after : {Y : Type 0} (view : Y → List Token) (ts : List Token) (result : Result Y LexError) (a : Result (List Token) LexError)
-    → Returns view result a → Returns (λ v. ts ++ view v) result (prefixed ts a)
+    → LexReturns view result a → LexReturns (λ v. ts ++ view v) result (prefixed ts a)
 returns_after view ts (Ok x) a h = ap (prefixed ts) h
 returns_after view ts (Err error.NoMemory) a h = tt
 returns_after view ts (Err (error.BadByte line)) a h = ap (prefixed ts) h
@@ -115,15 +115,15 @@ fed_opened text s f =
     f.kept
 
 pub fed_ends : {Y : Type 0} (view : Y → List Token) (text : List ℕ) (s : FeedState) (result : Result Y LexError) → IsFed text s
-    → Returns view result (end_answer s.pending s.held s.fed s.line)
-    → Returns (λ v. completed text ++ view v) result (tokens_of text)
+    → LexReturns view result (end_answer s.pending s.held s.fed s.line)
+    → LexReturns (λ v. completed text ++ view v) result (tokens_of text)
 fed_ends view text s result f r =
     let l : Left = left_by text in
     let same : tokens_of text ≡ prefixed (completed text) (end_answer s.pending s.held s.fed s.line)
-    = ap answer (scan_finish text 0 1 0)
+    = ap lex_result (scan_finish text 0 1 0)
     ∙ answer_after (completed text) (finished l).0 (finished l).1
     ∙ ap (prefixed (completed text)) (ends_at l s.fed s.line s.pending s.held (fed_opened text s f)) in
-    subst (Returns (λ v. completed text ++ view v) result) (sym same)
+    subst (LexReturns (λ v. completed text ++ view v) result) (sym same)
     (returns_after view (completed text) result (end_answer s.pending s.held s.fed s.line) r)
 
 -- ---- one piece more

@@ -13,10 +13,10 @@ use Rattle.nk_lex.specs.declared.front.Front.{Front}
 use Rattle.nk_lex.specs.declared.front.Front.TheVariants as front
 use Rattle.nk_lex.specs.Classes.{is_digit, is_name_byte, not_line_feed}
 use Rattle.nk_lex.specs.Kinds.{kind_of_name}
-use Rattle.nk_lex.specs.Lex.{Scanned, answer, cut, front_of, go_on, largest, line_after, number_of, scan, starts_with_byte, token, tokens_of, value_of, with_length, with_token}
+use Rattle.nk_lex.specs.Lex.{Scanned, lex_result, cut, front_of, go_on, largest, line_after, number_of, scan, starts_with_byte, token, tokens_of, value_of, with_length, with_token}
 use Rattle.nk_lex.specs.Spans.{line_feeds}
 use Rattle.nk_lex.specs.Spelling.{Lexeme, sign_bytes, sign_kind, tokens_from}
-use Rattle.nk_lex.specs.Joined.{joined, token_moved, fault_moved, behind}
+use Rattle.nk_lex.specs.Joined.{joined, token_moved, fault_moved, joined_after}
 use Rattle.nk_lex.proofs.Standing.{size, inside, run_length, feeds_append, line_feed_counts}
 
 -- ---- a text further on
@@ -95,7 +95,7 @@ run_ends p none (x ∷ xs) c = ap (λ n. cond (p x) (1 + n) 0) (run_ends p none 
 run_of : (p : ℕ → Bool) → p 10 ≡ false → (xs c : List ℕ) → length (take_while p (xs ++ 10 ∷ c)) ≡ length (take_while p xs)
 run_of p none xs c = run_length p (xs ++ 10 ∷ c) ∙ run_ends p none xs c ∙ sym (run_length p xs)
 
--- the byte behind a first one
+-- the byte after a first one
 starts_same : (d : ℕ) → (10 == d) ≡ false → (xs c : List ℕ) → starts_with_byte d (xs ++ 10 ∷ c) ≡ starts_with_byte d xs
 starts_same d none [] c = none
 starts_same d none (x ∷ xs) c = refl
@@ -163,17 +163,17 @@ last_line_counts (b ∷ rest) zero line h =
       feeds_append (b ∷ []) rest,
     )
 
--- what is scanned behind these tokens, unless they end with a fault
-abbrev behind_scan : List Token → Option LexError → Scanned → Scanned
-behind_scan ts None r = (ts ++ r.0, r.1)
-behind_scan ts (Some e) r = (ts, Some e)
+-- what is scanned after these tokens, unless they end with a fault
+abbrev after_scan : List Token → Option LexError → Scanned → Scanned
+after_scan ts None r = (ts ++ r.0, r.1)
+after_scan ts (Some e) r = (ts, Some e)
 
--- the same behind what was scanned
+-- the same after what was scanned
 abbrev both : Scanned → Scanned → Scanned
-both r s = behind_scan r.0 r.1 s
+both r s = after_scan r.0 r.1 s
 
 token_before : (t : Token) (ts : List Token) (o : Option LexError) (s : Scanned)
-    → with_token (Some t) (behind_scan ts o s) ≡ behind_scan (t ∷ ts) o s
+    → with_token (Some t) (after_scan ts o s) ≡ after_scan (t ∷ ts) o s
 token_before t ts None s = refl
 token_before t ts (Some e) s = refl
 
@@ -211,13 +211,13 @@ scan_joined (b ∷ rest) c zero line at h =
 
 -- what both give is answered
 answer_both : (ts us : List Token) (o p : Option LexError) (lines places : ℕ)
-    → answer (behind_scan ts o (moved lines places (us, p))) ≡ behind (answer (ts, o)) lines places (answer (us, p))
+    → lex_result (after_scan ts o (moved lines places (us, p))) ≡ joined_after (lex_result (ts, o)) lines places (lex_result (us, p))
 answer_both ts us None None lines places = refl
 answer_both ts us None (Some e) lines places = refl
 answer_both ts us (Some e) p lines places = refl
 
 -- the tokens of two texts with a line feed between them
-pub joins : (a b : List ℕ) → tokens_of (joined a b) ≡ behind (tokens_of a) (line_feeds a + 1) (length a + 1) (tokens_of b)
+pub joins : (a b : List ℕ) → tokens_of (joined a b) ≡ joined_after (tokens_of a) (line_feeds a + 1) (length a + 1) (tokens_of b)
 joins a b =
     let first : Scanned = scan a 0 1 0 in
     let second : Scanned = scan b 0 1 0 in
@@ -225,13 +225,13 @@ joins a b =
     let places : ℕ = length a + 1 in
     let at : 0 + length a + 1 ≡ 0 + places = omega arith in
     let line : last_line a 0 1 + 1 ≡ 1 + lines = omega (arith, last_line_counts a 0 1 (omega arith)) in
-    ap answer (scan_joined a b 0 1 0 (omega arith)
+    ap lex_result (scan_joined a b 0 1 0 (omega arith)
     ∙ ap (λ n. both first (scan b 0 n (0 + length a + 1))) line
     ∙ ap (λ n. both first (scan b 0 (1 + lines) n)) at
     ∙ ap (both first) (scan_moves lines places b 0 1 0))
     ∙ answer_both first.0 second.0 first.1 second.1 lines places
 
--- one token and those behind it, further on
+-- one token and those after it, further on
 one_further : (lines places : ℕ) (k : Kind) (at n line value : ℕ) (text : List ℕ) (xs : List Lexeme)
     → map (token_moved lines places) (tokens_from line (at + n) xs) ≡ tokens_from (line + lines) (at + n + places) xs
     → map (token_moved lines places) (token k at n line value text ∷ tokens_from line (at + n) xs)

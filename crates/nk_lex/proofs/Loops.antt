@@ -14,7 +14,7 @@ use Rattle.std.proofs.Common.{◌==◌}
 use Rattle.nk_lex.specs.declared.unfinished.Pending.{Pending}
 use Rattle.nk_lex.specs.Classes.{is_digit}
 use Rattle.nk_lex.proofs.Standing.{of_both}
-use Rattle.nk_lex.specs.Lex.{largest, value_of, Fails, cut, cut_front, front_of, line_after, HasToken, IsFaultOfText}
+use Rattle.nk_lex.specs.Lex.{largest, value_of, LexFails, cut, cut_front, front_of, line_after, HasToken, IsFaultOfText}
 use Rattle.nk_lex.proofs.Cuts.{settle_after, front_settles, whole_opens}
 use Rattle.nk_lex.specs.Kept.{IsKept, IsPendingWithin, pending_of}
 use Rattle.nk_lex.specs.NextPiece.{Fits, IsNext, has_whole, wanted}
@@ -126,7 +126,7 @@ left_at_fault bytes at first before from line ts e g w h =
 -- ---- what is answered
 
 -- a fault that isn't want of memory is the text's
-pub fails_is : {Y : Type 0} (e : LexError) (read : Result Y LexError) → IsFaultOfText e → Fails e read → read ≡ Err e
+pub fails_is : {Y : Type 0} (e : LexError) (read : Result Y LexError) → IsFaultOfText e → LexFails e read → read ≡ Err e
 fails_is error.NoMemory read f h = absurd f
 fails_is (error.BadByte line) read f h = h
 fails_is (error.NumberTooLarge line) read f h = h

@@ -45,7 +45,7 @@ abbrev pub IsSymbol : Front → Type 0
 IsSymbol (front.Symbol n k) = (k ≡ kind.Name → ⊥) × (k ≡ kind.Number → ⊥)
 IsSymbol f = ⊤
 
--- a lexeme has a byte, no more than there are, and no line feed behind its first byte
+-- a lexeme has a byte, no more than there are, and no line feed after its first byte
 pub record Inside (f : Front) (rest : List ℕ) : Type 0 where
   pub some : 0 < size f
   pub fits : size f ≤ 1 + length rest
@@ -72,7 +72,7 @@ run_fits p (x ∷ xs) = by_test (p x) (run_fits p xs)
     by_test true h = omega arith
     by_test false h = omega arith
 
--- the line feeds of two texts, one behind the other
+-- the line feeds of two texts, one after the other
 pub feeds_append : (xs ys : List ℕ) → line_feeds (xs ++ ys) ≡ line_feeds xs + line_feeds ys
 feeds_append xs ys = sum_by-append (λ b. cond (b == 10) 1 0) xs ys
 
@@ -95,7 +95,7 @@ run_feeds p none (x ∷ xs) = by_test (p x) refl (run_feeds p none xs)
         rw one (feeds_more x (take (prefix_len p xs) xs) (none x h) rest)
     by_test false h rest = refl
 
--- a run of bytes behind the first
+-- a run of bytes after the first
 run_size : (p : ℕ → Bool) (rest : List ℕ) → length (take_while p rest) + 1 - 1 ≡ prefix_len p rest
 run_size p rest = omega (arith, run_length p rest)
 
@@ -115,7 +115,7 @@ no_feed_in_name b h = grind (arith, nat_tests)
 no_feed_in_number : (b : ℕ) → is_digit b ≡ true → (b == 10) ≡ false
 no_feed_in_number b h = grind (arith, nat_tests)
 
--- one byte has no line feed behind it
+-- one byte has no line feed after it
 one_inside : (f : Front) (rest : List ℕ) → size f ≡ 1 → IsSymbol f → Inside f rest
 one_inside f rest e s = record {
   some = omega arith;
@@ -173,7 +173,7 @@ symbol_inside b rest =
     one : (k : Kind) → (k ≡ kind.Name → ⊥) × (k ≡ kind.Number → ⊥) → Inside (front.Symbol 1 k) rest
     one k s = one_inside (front.Symbol 1 k) rest refl s
 
--- what stands at the front fits, and has no line feed behind its first byte
+-- what stands at the front fits, and has no line feed after its first byte
 pub inside : (b : ℕ) (rest : List ℕ) → Inside (front_of b rest) rest
 inside b rest =
     of_both (λ f. Inside f rest) (is_white b) _ _ (one_inside (front.Blank 1) rest refl tt)
@@ -314,12 +314,12 @@ is_cut front.Bad text pre bytes at line f fits s = tt
 
 -- ---- the scan
 
--- what stands behind a place stands behind an earlier one
+-- what stands after a place stands after an earlier one
 ascend_from : (m k : ℕ) (ts : List Token) → k ≤ m → StandInOrder m ts → StandInOrder k ts
 ascend_from m k [] h a = tt
 ascend_from m k (t ∷ ts) h a = (omega (arith, a.0), a.1, a.2)
 
--- each token stands in the text, one behind the other
+-- each token stands in the text, one after the other
 record AllStand (text : List ℕ) (from : ℕ) (ts : List Token) : Type 0 where
   stand : All (Stands text) ts
   ascend : StandInOrder from ts

@@ -11,14 +11,14 @@ use Rattle.nk_lex.specs.declared.front.Front.{Front}
 use Rattle.nk_lex.specs.declared.front.Front.TheVariants as front
 use Rattle.nk_lex.specs.declared.kind.Kind.TheVariants as kind
 use Rattle.nk_lex.specs.Classes.{is_digit, is_name_byte, is_name_start, is_white, not_line_feed}
-use Rattle.nk_lex.specs.Lex.{answer, cut, front_of, scan, token, value_of, with_length, largest}
+use Rattle.nk_lex.specs.Lex.{lex_result, cut, front_of, scan, token, value_of, with_length, largest}
 use Rattle.nk_lex.proofs.Cuts.{IsLeft, finished, resumed, settle_after, finish, is_left, scan_finish}
 use Rattle.nk_lex.specs.Pieces.{Begins, CompletedStay, FaultsStay, Left, Rest, Fault, begins_longer, completed, is_empty, is_open, left_by, settle}
 use Rattle.nk_lex.specs.Spans.{tokens_before_fault}
 use Rattle.nk_lex.proofs.Held.{HasAll, empty_is, open_all}
 use Rattle.nk_lex.proofs.Ends.{sole, sole_is, text_more}
 
--- the tokens of a text with more bytes behind it
+-- the tokens of a text with more bytes after it
 tokens_more : (text more : List ℕ)
     → tokens_before_fault (text ++ more) ≡ completed text ++ (finish (resumed (left_by text) more)).0
 tokens_more text more =
@@ -123,7 +123,7 @@ abbrev tail_of : {X : Type 0} → List X → List X
 tail_of [] = []
 tail_of (x ∷ xs) = xs
 
--- a list that begins both of two lists, which part behind cs, begins cs
+-- a list that begins both of two lists, which part after cs, begins cs
 begins_both : (ts cs us vs xs ys : List Token) (m k : ℕ) → cs ++ xs ≡ ts ++ us → cs ++ ys ≡ ts ++ vs
     → EndsAt m xs → EndsAt k ys → m < k → Begins ts cs
 begins_both [] cs us vs xs ys m k e f a b less = (cs, refl)
@@ -185,5 +185,5 @@ faults_stay text e h more =
     = text_more text more ∙ ap (λ l. settle_after (completed text) (resumed l more)) h in (
       ap (λ r. r.1) is,
       ap (λ r. r.0) is ∙ append-nil (completed text),
-      ap answer (scan_finish (text ++ more) 0 1 0) ∙ ap (λ r. answer (finish r)) is,
+      ap lex_result (scan_finish (text ++ more) 0 1 0) ∙ ap (λ r. lex_result (finish r)) is,
     )

@@ -1,4 +1,4 @@
--- Two texts with a line feed between them: the tokens of the second stand behind those of the first, on later lines and at
+-- Two texts with a line feed between them: the tokens of the second stand after those of the first, on later lines and at
 -- later places.
 use Rattle.std.specs.Prelude.{◌≡◌, ◌+◌, ℕ, List, ◌∷◌, ◌++◌, Ok, Err, map, length}
 use Rattle.std.specs.declared.result.Result.{Result}
@@ -30,21 +30,21 @@ fault_moved lines error.NoMemory = error.NoMemory
 fault_moved lines (error.BadByte line) = error.BadByte (line + lines)
 fault_moved lines (error.NumberTooLarge line) = error.NumberTooLarge (line + lines)
 
--- the tokens of a second text, so many lines and places further on, stand behind these; or its fault, on its line
-abbrev pub behind_tokens : List Token → (lines places : ℕ) → Result (List Token) LexError → Result (List Token) LexError
-behind_tokens ts lines places (Ok us) = Ok (ts ++ map (token_moved lines places) us)
-behind_tokens ts lines places (Err e) = Err (fault_moved lines e)
+-- the tokens of a second text, so many lines and places further on, stand after these; or its fault, on its line
+abbrev pub after_tokens : List Token → (lines places : ℕ) → Result (List Token) LexError → Result (List Token) LexError
+after_tokens ts lines places (Ok us) = Ok (ts ++ map (token_moved lines places) us)
+after_tokens ts lines places (Err e) = Err (fault_moved lines e)
 
--- the same behind what a first text gives, whose fault is the first of both
-abbrev pub behind : Result (List Token) LexError → (lines places : ℕ) → Result (List Token) LexError
+-- the same after what a first text gives, whose fault is the first of both
+abbrev pub joined_after : Result (List Token) LexError → (lines places : ℕ) → Result (List Token) LexError
     → Result (List Token) LexError
-behind (Ok ts) lines places r = behind_tokens ts lines places r
-behind (Err e) lines places r = Err e
+joined_after (Ok ts) lines places r = after_tokens ts lines places r
+joined_after (Err e) lines places r = Err e
 
--- the second text begins one line below the first one's last line, and one place behind its last byte
+-- the second text begins one line below the first one's last line, and one place after its last byte
 abbrev pub JoinsTexts : Type 0
 JoinsTexts = (a b : List ℕ)
-    → tokens_of (joined a b) ≡ behind (tokens_of a) (line_feeds a + 1) (length a + 1) (tokens_of b)
+    → tokens_of (joined a b) ≡ joined_after (tokens_of a) (line_feeds a + 1) (length a + 1) (tokens_of b)
 
 -- the tokens of lexemes further on are those of the lexemes from a later line and place on
 abbrev pub MovesLexemes : Type 0

@@ -6,7 +6,7 @@ use Rattle.nk_lex.specs.Classes.{is_digit}
 use Rattle.nk_lex.specs.Lex.{largest, value_of}
 use Rattle.nk_lex.specs.Pieces.{Left, left_by, held_of, Rest, Fault}
 
--- the number that these digits write behind a front of this value
+-- the number that these digits write after a front of this value
 abbrev pub value_on : ℕ → List ℕ → ℕ
 value_on front digits = fold (λ n d. n * 10 + (d - 48)) front digits
 

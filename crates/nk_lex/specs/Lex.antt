@@ -105,7 +105,7 @@ abbrev pub line_after : ℕ → ℕ → ℕ
 line_after line b = if b == 10 then line + 1 else line
 
 -- The tokens of the bytes from place `at` on, or the first fault. The first `skip` bytes belong to the
--- lexeme before, and `line` is the line of the first byte behind it.
+-- lexeme before, and `line` is the line of the first byte after it.
 abbrev pub scan : List ℕ → ℕ → ℕ → ℕ → Scanned
 scan [] skip line at = ([], None)
 scan (b ∷ rest) zero line at =
@@ -116,22 +116,22 @@ abbrev pub answer_with : List Token → Option LexError → Result (List Token) 
 answer_with ts None = Ok ts
 answer_with ts (Some e) = Err e
 
-abbrev pub answer : Scanned → Result (List Token) LexError
-answer r = answer_with r.0 r.1
+abbrev pub lex_result : Scanned → Result (List Token) LexError
+lex_result r = answer_with r.0 r.1
 
 -- the tokens of a text, or its first fault
 abbrev pub tokens_of : List ℕ → Result (List Token) LexError
-tokens_of text = answer (scan text 0 1 0)
+tokens_of text = lex_result (scan text 0 1 0)
 
 -- memory ran out, or the fault is this one
-abbrev pub Fails : {Y : Type 0} → LexError → Result Y LexError → Type 0
-Fails error.NoMemory read = ⊤
-Fails e read = read ≡ Err e
+abbrev pub LexFails : {Y : Type 0} → LexError → Result Y LexError → Type 0
+LexFails error.NoMemory read = ⊤
+LexFails e read = read ≡ Err e
 
 -- what was answered is what reading gives, unless memory ran out
-abbrev pub Returns : {X Y : Type 0} → (X → Y) → Result X LexError → Result Y LexError → Type 0
-Returns view (Ok x) read = read ≡ Ok (view x)
-Returns view (Err e) read = Fails e read
+abbrev pub LexReturns : {X Y : Type 0} → (X → Y) → Result X LexError → Result Y LexError → Type 0
+LexReturns view (Ok x) read = read ≡ Ok (view x)
+LexReturns view (Err e) read = LexFails e read
 
 -- the lexeme has a byte, and at most so many
 abbrev pub FitsIn : Front → ℕ → Type 0

@@ -42,7 +42,7 @@ abbrev pub held_past : Pending → List ℕ → List ℕ → List ℕ
 held_past pending.Held held piece = held ++ piece
 held_past p held piece = held
 
--- a lexeme behind which nothing comes
+-- a lexeme after which nothing comes
 abbrev pub alone : Result (ℕ × Option Token) LexError → Result (List Token) LexError
 alone (Ok p) = Ok (option_to_list p.1)
 alone (Err e) = Err e
@@ -56,14 +56,14 @@ number_or_fault at len line value =
 abbrev pub number_answer : (at len line value : ℕ) → Result (List Token) LexError
 number_answer at len line value = alone (number_or_fault at len line value)
 
--- how a piece is cut behind an open number with this place and value, that of its bytes before `fed`
+-- how a piece is cut after an open number with this place and value, that of its bytes before `fed`
 abbrev pub number_settled : (start value fed line : ℕ) → List ℕ → Settled
 number_settled start value fed line piece =
     let n = length (take_while is_digit piece) in
     settle_on (number_or_fault start (fed + n - start) line (min (value_on value (take n piece)) (largest + 1)))
     (λ k. settle (drop n piece) 0 line (fed + n))
 
--- how a piece is cut behind what is kept, where the piece ends it
+-- how a piece is cut after what is kept, where the piece ends it
 abbrev pub ended : Pending → (held : List ℕ) → (fed line : ℕ) → List ℕ → Settled
 ended pending.Nothing held fed line piece = settle piece 0 line fed
 ended pending.Comment held fed line piece =
@@ -88,12 +88,12 @@ end_answer (pending.Fault e) held fed line = Err e
 abbrev pub wanted : Settled → ℕ
 wanted r = length r.0 + length (held_in r.1)
 
--- the same behind what is kept: an open name or symbol needs some
+-- the same after what is kept: an open name or symbol needs some
 abbrev pub wanted_past : Pending → Settled → ℕ
 wanted_past pending.Held r = 1
 wanted_past p r = wanted r
 
--- the tokens that came behind those before, and what is kept of what is left
+-- the tokens that came after those before, and what is kept of what is left
 pub record IsNext (before : List Token) (r : Settled) (n : Next) : Type 0 where
   pub tokens : n.tokens.items ≡ before ++ r.0
   pub kept : IsKept r.1 n.line n.pending n.held.items

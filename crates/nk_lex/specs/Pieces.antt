@@ -26,12 +26,12 @@ is_open b rest =
     else if begins_longer b then is_empty rest
     else false
 
--- what stands behind the lexemes that are complete: the bytes of an open one, with their line and their place, or a fault
+-- what stands after the lexemes that are complete: the bytes of an open one, with their line and their place, or a fault
 pub data Left : Type 0 where
   Rest : (line at : ℕ) → List ℕ → Left
   Fault : LexError → Left
 
--- the tokens that are complete, and what stands behind them
+-- the tokens that are complete, and what stands after them
 abbrev pub Settled : Type 0
 Settled = List Token × Left
 
@@ -44,7 +44,7 @@ settle_on (Ok p) next = with_complete p.1 (next p.0)
 settle_on (Err e) next = ([], Fault e)
 
 -- How the bytes from place `at` on are cut as far as no further byte changes it: up to a lexeme that is open, or to the first
--- fault. The first `skip` bytes belong to the lexeme before, and `line` is the line of the first byte behind it.
+-- fault. The first `skip` bytes belong to the lexeme before, and `line` is the line of the first byte after it.
 abbrev pub settle : List ℕ → (skip line at : ℕ) → Settled
 settle [] skip line at = ([], Rest line at [])
 settle (b ∷ rest) zero line at =
@@ -56,7 +56,7 @@ settle (b ∷ rest) (suc skip) line at = settle rest skip line (at + 1)
 abbrev pub completed : List ℕ → List Token
 completed text = (settle text 0 1 0).0
 
--- what the text leaves behind them
+-- what the text leaves after them
 abbrev pub left_by : List ℕ → Left
 left_by text = (settle text 0 1 0).1
 
@@ -78,7 +78,7 @@ open_in text = held_in (left_by text)
 abbrev pub HasLexicalFault : List ℕ → LexError → Type 0
 HasLexicalFault text e = left_by text ≡ Fault e
 
--- the piece completes no token behind the text, and leaves no name and no symbol open
+-- the piece completes no token after the text, and leaves no name and no symbol open
 abbrev pub CompletesNothing : List ℕ → List ℕ → Type 0
 CompletesNothing text piece = (completed (text ++ piece) ≡ completed text) × (open_in (text ++ piece) ≡ [])
 
@@ -86,7 +86,7 @@ CompletesNothing text piece = (completed (text ++ piece) ≡ completed text) × 
 abbrev pub Begins : List Token → List Token → Type 0
 Begins ts us = (vs : List Token) × (us ≡ ts ++ vs)
 
--- these tokens stand at the front, whatever bytes come behind the text
+-- these tokens stand at the front, whatever bytes come after the text
 abbrev pub Stay : List ℕ → List Token → Type 0
 Stay text ts = (more : List ℕ) → Begins ts (tokens_before_fault (text ++ more))
 
@@ -94,7 +94,7 @@ Stay text ts = (more : List ℕ) → Begins ts (tokens_before_fault (text ++ mor
 abbrev pub CompletedStay : Type 0
 CompletedStay = (text : List ℕ) → Stay text (completed text) × ((ts : List Token) → Stay text ts → Begins ts (completed text))
 
--- whatever bytes come behind a fault, no token is completed, and the fault is the first one of the whole text
+-- whatever bytes come after a fault, no token is completed, and the fault is the first one of the whole text
 abbrev pub FaultsStay : Type 0
 FaultsStay = (text : List ℕ) (e : LexError) → HasLexicalFault text e → (more : List ℕ)
     → HasLexicalFault (text ++ more) e × (completed (text ++ more) ≡ completed text) × (tokens_of (text ++ more) ≡ Err e)

@@ -22,7 +22,7 @@ last_line line (t ∷ ts) = last_line t.line ts
 abbrev pub line_feeds : List ℕ → ℕ
 line_feeds text = count_by (λ b. b == 10) text
 
--- the tokens stand one behind the other from this place on, each with a byte at least
+-- the tokens stand one after the other from this place on, each with a byte at least
 abbrev pub StandInOrder : ℕ → List Token → Type 0
 StandInOrder from [] = ⊤
 StandInOrder from (t ∷ ts) = (from ≤ t.start) × (t.start < t.end) × StandInOrder t.end ts

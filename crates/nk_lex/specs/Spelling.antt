@@ -1,4 +1,4 @@
--- Texts by their lexemes: words, numbers and signs one behind the other, with spaces and line feeds where they are wanted.
+-- Texts by their lexemes: words, numbers and signs one after the other, with spaces and line feeds where they are wanted.
 use Rattle.std.specs.Prelude.{All, ◌≡◌, ◌≤◌, ◌+◌, ℕ, Bool, true, false, ◌&&◌, List, [], ◌∷◌, ◌++◌, Ok, length, codes, decimal, ⊤}
 use Rattle.std.specs.List.{list_all}
 use Rattle.nk_lex.specs.declared.kind.Kind.{Kind}
@@ -122,7 +122,7 @@ begins_with_equal equal = true
 begins_with_equal fat_arrow = true
 begins_with_equal s = false
 
--- the second lexeme, right behind the first, would make it longer
+-- the second lexeme, right after the first, would make it longer
 abbrev pub merges : Lexeme → Lexeme → Bool
 merges (word v) (word w) = true
 merges (word v) (numeral n) = true

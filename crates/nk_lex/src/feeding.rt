@@ -21,7 +21,7 @@ ghost use Rattle.std.specs.Prelude.{
 ghost use Rattle.std.specs.List.{All};
 ghost use Rattle.nk_lex.specs.declared.token.LexError.{LexError};
 ghost use Rattle.nk_lex.specs.declared.unfinished.Pending.TheVariants.{Fault};
-ghost use Rattle.nk_lex.specs.Lex.{largest, tokens_of, Returns};
+ghost use Rattle.nk_lex.specs.Lex.{largest, tokens_of, LexReturns};
 ghost use Rattle.nk_lex.specs.Kept.{IsFed};
 ghost use Rattle.nk_lex.specs.Pieces.{completed, open_in, HasLexicalFault, CompletesNothing};
 
@@ -78,7 +78,7 @@ impl Feed {
     /// its byte on no token comes, whatever is fed, and `end` answers it.
     ///
     /// `AllocError` says that memory ran out, and then nothing changed, so the piece can be fed again. No
-    /// memory is taken where no name and no symbol is open, neither before nor behind the piece, and no
+    /// memory is taken where no name and no symbol is open, neither before nor after the piece, and no
     /// token is completed, nor after a fault.
     pub fn feed(&mut self, alloc: Global, piece: &[u8]) -> Result<Vec<Token>, AllocError>
         requires room { self.now.fed + length piece.now < 2 ^ 64 - 1 }
@@ -116,7 +116,7 @@ impl Feed {
     /// those of `tokens`: the first fault of the whole text, with its line, or `NoMemory`.
     pub fn end(self, alloc: Global) -> Result<Vec<Token>, LexError>
         ensures tokens { (text : List ℕ) → IsFed text self
-            → Returns (λ v. completed text ++ v.items) result (tokens_of text) }
+            → LexReturns (λ v. completed text ++ v.items) result (tokens_of text) }
         ensures small { (text : List ℕ) → IsFed text self → IfOk result (λ v.
             All (λ t. t.value ≤ largest) v.items) }
         ensures texts { (text : List ℕ) → IsFed text self → IfOk result (λ v.

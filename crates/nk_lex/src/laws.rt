@@ -44,7 +44,7 @@ pub fn a_name_is_one()
     ensures { NamesAreNames }
 {}
 
-/// The tokens of a text, a line feed and a second text are those of the first, and behind them those of the second, their
+/// The tokens of a text, a line feed and a second text are those of the first, and after them those of the second, their
 /// lines moved on by the first text's lines and their places by its bytes and one; or the first fault of both.
 pub fn texts_are_joined()
     ensures { JoinsTexts }

@@ -41,9 +41,9 @@ ghost use Rattle.nk_lex.specs.Lex.{
   token,
   tokens_of,
   value_of,
-  Fails,
+  LexFails,
   HasToken,
-  Returns,
+  LexReturns,
 };
 
 use crate::front::{Front, front_at};
@@ -154,7 +154,7 @@ fn put_number(
     requires room { at + length digits.now < 2 ^ 64 }
     ensures ok { OnOk result ((t : Token) × (Ok t ≡ number_of digits.now at (length digits.now) line)
         × (tokens.new.items ≡ tokens.old.items ++ t ∷ [])) }
-    ensures err { IfErr result (λ e. Fails e (number_of digits.now at (length digits.now) line)) }
+    ensures err { IfErr result (λ e. LexFails e (number_of digits.now at (length digits.now) line)) }
     ensures token { IfErr result (λ e. e ≡ LexError.NoMemory
         → (t : Token) × (Ok t ≡ number_of digits.now at (length digits.now) line)) }
     ensures kept { OnErr result (tokens.new.items ≡ tokens.old.items) }
@@ -168,7 +168,7 @@ fn put_number(
     }
 }
 
-/// Puts the token of what stands at the front of the bytes behind the others, where it has one, and answers how many bytes it has.
+/// Puts the token of what stands at the front of the bytes after the others, where it has one, and answers how many bytes it has.
 #[inline(always)]
 pub fn put_front(
     alloc: Global,
@@ -184,7 +184,7 @@ pub fn put_front(
     requires fits { FitsIn front (length bytes.now) }
     ensures ok { IfOk result (λ n. (t : Option Token) × (cut_front bytes.now line at ≡ Ok (n, t))
         × (tokens.new.items ≡ tokens.old.items ++ option_to_list t)) }
-    ensures err { IfErr result (λ e. Fails e (cut_front bytes.now line at)) }
+    ensures err { IfErr result (λ e. LexFails e (cut_front bytes.now line at)) }
     ensures kept { OnErr result (tokens.new.items ≡ tokens.old.items) }
     ensures token { IfErr result (λ e. e ≡ LexError.NoMemory → HasToken (cut_front bytes.now line at)) }
     ensures fits { IfOk result (λ n. (0 < n) × (n ≤ length bytes.now)) }
@@ -219,7 +219,7 @@ pub fn read_lexeme(
     requires room { at + length bytes.now < 2 ^ 64 }
     ensures ok { IfOk result (λ n. (t : Option Token) × (cut_front bytes.now line at ≡ Ok (n, t))
         × (tokens.new.items ≡ tokens.old.items ++ option_to_list t)) }
-    ensures err { IfErr result (λ e. Fails e (cut_front bytes.now line at)) }
+    ensures err { IfErr result (λ e. LexFails e (cut_front bytes.now line at)) }
     ensures fits { IfOk result (λ n. (0 < n) × (n ≤ length bytes.now)) }
 {
     let [first, rest @ ..] = bytes else {
@@ -228,7 +228,7 @@ pub fn read_lexeme(
     put_front(alloc, tokens, front_at(*first, rest), bytes, at, line)
 }
 
-/// The line behind a byte.
+/// The line after a byte.
 pub fn line_past(line: u64, byte: u8) -> u64
     requires { line < 2 ^ 64 - 1 }
     ensures { result ≡ line_after line byte }
@@ -239,7 +239,7 @@ pub fn line_past(line: u64, byte: u8) -> u64
 /// The tokens of a text, in the order of the text. A byte that begins no lexeme is `BadByte`, a
 /// number above `LARGEST` is `NumberTooLarge`; the first fault in the text is answered, with its line.
 pub fn tokens(alloc: Global, text: &[u8]) -> Result<Vec<Token>, LexError>
-    ensures tokens { Returns (λ v. v.items) result (tokens_of text.now) }
+    ensures tokens { LexReturns (λ v. v.items) result (tokens_of text.now) }
     ensures small { IfOk result (λ v. All (λ t. t.value ≤ largest) v.items) }
     ensures texts { IfOk result (λ v. All (λ t. IsUtf8 t.text) v.items) }
 {

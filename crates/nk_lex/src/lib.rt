@@ -12,6 +12,7 @@ mod bytes;
 mod classes;
 mod feeding;
 mod front;
+mod ident;
 mod kind;
 mod laws;
 mod lexemes;
@@ -19,10 +20,10 @@ mod piece_laws;
 mod settling;
 mod token;
 mod unfinished;
-mod word;
 
 pub use bytes::Bytes;
 pub use feeding::Feed;
+pub use ident::{Ident, Number, ident_of};
 pub use kind::Kind;
 pub use laws::{
     a_line_is_one_more_than_the_line_feeds_before, a_name_is_one, a_name_is_what_stands_there,
@@ -32,4 +33,3 @@ pub use laws::{
 pub use lexemes::tokens;
 pub use piece_laws::{a_fault_stays, complete_tokens_stay};
 pub use token::{LARGEST, LexError, Token};
-pub use word::{Number, Word, word_of};

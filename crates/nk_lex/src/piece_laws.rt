@@ -2,12 +2,12 @@
 ghost use Rattle.nk_lex.specs.Pieces.{CompletedStay, FaultsStay};
 
 /// The tokens that are complete are exactly those that stand at the front of the text's tokens whatever
-/// bytes come behind it.
+/// bytes come after it.
 pub fn complete_tokens_stay()
     ensures { CompletedStay }
 {}
 
-/// Behind a fault no token is completed, whatever bytes come, and the whole text has this fault as its first.
+/// After a fault no token is completed, whatever bytes come, and the whole text has this fault as its first.
 pub fn a_fault_stays()
     ensures { FaultsStay }
 {}

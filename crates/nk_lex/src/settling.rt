@@ -1,4 +1,4 @@
-//! How a piece is cut behind what is open, and what it leaves open.
+//! How a piece is cut after what is open, and what it leaves open.
 ghost use Rattle.std.specs.Prelude.{
   ◌≡◌,
   ◌<◌,
@@ -24,7 +24,7 @@ ghost use Rattle.nk_lex.specs.declared.token.LexError.TheVariants.{NoMemory};
 ghost use Rattle.nk_lex.specs.declared.unfinished.Pending.TheVariants.{Fault, Held};
 ghost use Rattle.std.specs.List.{list_all};
 ghost use Rattle.nk_lex.specs.Classes.{is_digit, is_name_byte, not_line_feed};
-ghost use Rattle.nk_lex.specs.Lex.{front_of, largest, FitsIn, IsFaultOfText, Returns};
+ghost use Rattle.nk_lex.specs.Lex.{front_of, largest, FitsIn, IsFaultOfText, LexReturns};
 ghost use Rattle.nk_lex.specs.Kept.{pending_of, IsPendingWithin};
 ghost use Rattle.nk_lex.specs.NextPiece.{
   end_answer,
@@ -51,7 +51,7 @@ use crate::unfinished::Pending;
 use crate::{Kind, LARGEST, LexError, Token};
 use std::alloc::{AllocError, Global};
 
-/// What is kept behind a piece, and the tokens that it completes.
+/// What is kept after a piece, and the tokens that it completes.
 #[derive(Drop)]
 pub struct Next {
     pub tokens: Vec<Token>,
@@ -190,7 +190,7 @@ fn stop(alloc: Global, tokens: Vec<Token>, line: u64, error: LexError) -> Result
     }
 }
 
-/// The tokens of the bytes from this place on as far as no further byte changes them, behind those
+/// The tokens of the bytes from this place on as far as no further byte changes them, after those
 /// that came before, and what is kept of the rest.
 fn settle(
     alloc: Global,
@@ -243,7 +243,7 @@ fn holds_on(held: &[u8], piece: &[u8]) -> bool
     }
 }
 
-/// Puts the piece behind the bytes of an open name or symbol, where one is open.
+/// Puts the piece after the bytes of an open name or symbol, where one is open.
 pub fn hold(held: &mut Vec<u8>, pending: Pending, piece: &[u8]) -> Result<(), AllocError>
     ensures ok { OnOk result (held.new.items ≡ held_past pending held.old.items piece.now) }
     ensures err { OnErr result (held.new.items ≡ held.old.items) }
@@ -269,7 +269,7 @@ pub fn pending_past(pending: Pending, piece: &[u8]) -> Pending
     }
 }
 
-/// The bytes that are held, and the piece behind them.
+/// The bytes that are held, and the piece after them.
 fn joined(alloc: Global, held: &[u8], piece: &[u8]) -> Result<Vec<u8>, AllocError>
     ensures { IfOk result (λ v. v.items ≡ held.now ++ piece.now) }
 {
@@ -278,7 +278,7 @@ fn joined(alloc: Global, held: &[u8], piece: &[u8]) -> Result<Vec<u8>, AllocErro
     Ok(bytes)
 }
 
-/// The tokens that a piece completes behind what is open, where it ends it, and what is kept then.
+/// The tokens that a piece completes after what is open, where it ends it, and what is kept then.
 pub fn cut_on(
     alloc: Global,
     pending: Pending,
@@ -311,7 +311,7 @@ pub fn cut_on(
     }
 }
 
-/// The token of an open number whose last digits stand at the front of a piece, and those behind it.
+/// The token of an open number whose last digits stand at the front of a piece, and those after it.
 fn number_ends(
     alloc: Global,
     start: usize,
@@ -349,7 +349,7 @@ pub fn ending(
 ) -> Result<Vec<Token>, LexError>
     requires held { length held.now ≤ fed }
     requires within { IsPendingWithin pending fed }
-    ensures { Returns (λ v. v.items) result (end_answer pending held.now fed line) }
+    ensures { LexReturns (λ v. v.items) result (end_answer pending held.now fed line) }
 {
     match pending {
         Pending::Nothing | Pending::Comment => Ok(Vec::new(alloc)),
@@ -368,7 +368,7 @@ fn number_alone(
     value: u64,
 ) -> Result<Vec<Token>, LexError>
     requires room { at + len < 2 ^ 64 }
-    ensures { Returns (λ v. v.items) result (number_answer at len line value) }
+    ensures { LexReturns (λ v. v.items) result (number_answer at len line value) }
 {
     if value > LARGEST {
         return Err(LexError::NumberTooLarge { line });
@@ -381,10 +381,10 @@ fn number_alone(
     Ok(tokens)
 }
 
-/// The token of a name or a symbol behind which nothing comes.
+/// The token of a name or a symbol after which nothing comes.
 fn held_alone(alloc: Global, held: &[u8], at: usize, line: u64) -> Result<Vec<Token>, LexError>
     requires room { at + length held.now < 2 ^ 64 }
-    ensures { Returns (λ v. v.items) result (held_answer held.now line at) }
+    ensures { LexReturns (λ v. v.items) result (held_answer held.now line at) }
 {
     let mut tokens = Vec::new(alloc);
     if held.is_empty() {

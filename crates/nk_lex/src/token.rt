@@ -16,7 +16,7 @@ pub struct Token {
     pub kind: Kind,
     /// The place of its first byte.
     pub start: usize,
-    /// The place behind its last byte.
+    /// The place after its last byte.
     pub end: usize,
     /// The line of its first byte, from 1 on.
     pub line: u64,

@@ -3,15 +3,15 @@ use Rattle.std.proofs.Common.{◌≡◌, ℕ, zero, suc, ◌-◌, ◌<◌, ◌�
 use Rattle.std.specs.Prelude.{◌↔◌, slice_index}
 use Rattle.std.proofs.lemmas.Bool.Decides.{leb_tells}
 use Rattle.nk_policy.specs.PositionSets.{last_from}
-use Rattle.nk_store.specs.Held.{Held, IsPacket, AreTidy}
+use Rattle.nk_store.specs.StoreState.{StoreState, IsStorePacket, AreTidy}
 use Rattle.nk_determ.specs.Exact.{Sends}
 use Rattle.nk_determ.specs.Pairs.{AreStates}
 use Rattle.nk_determ.proofs.Sending.{sent_in_range}
-use Rattle.nk_merge.specs.Twice.{again, label_count, AreTwice}
+use Rattle.nk_merge.specs.DisjointCopies.{again, label_count, AreDisjointCopies}
 use Rattle.nk_merge.proofs.Marks.{again_is, again_some, some_again, again_one}
 use Rattle.nk_merge.proofs.Runs.{RunsTo, LabelGives, runs_in_range, runs_above}
 
-module _ (st : Held) (states rows : List ℕ) (tw : AreTwice st states rows) where
+module _ (st : StoreState) (states rows : List ℕ) (tw : AreDisjointCopies st states rows) where
   -- a label is one of the rows, and so is the one that is marked again
   pub once_within : (l : ℕ) → l < length states → l < length rows
   once_within l lt = omega (arith, lt, tw.count, tw.some)
@@ -23,9 +23,9 @@ module _ (st : Held) (states rows : List ℕ) (tw : AreTwice st states rows) whe
   pub twice_above : (l : ℕ) → 0 < l → length states ≤ again (label_count states) l
   twice_above l some = let e = again_is (label_count states) l some in omega (arith, e, some)
 
-module _ (st : Held) (states rows : List ℕ) (tw : AreTwice st states rows) (ok : AreStates st states) (tidy : AreTidy st) where
+module _ (st : StoreState) (states rows : List ℕ) (tw : AreDisjointCopies st states rows) (ok : AreStates st states) (tidy : AreTidy st) where
   -- what the rows send to are labels of the rows
-  row_targets : (l : ℕ) (x y : List ℕ) (t : ℕ) → l < length rows → IsPacket st x → Sends st (slice_index rows l) x y t → t < length rows
+  row_targets : (l : ℕ) (x y : List ℕ) (t : ℕ) → l < length rows → IsStorePacket st x → Sends st (slice_index rows l) x y t → t < length rows
   row_targets l x y t lt r s = ⊎_elim (λ le. low le.1) (λ more. high more.1) (leb_tells (length states) l)
     where
       low : length states ≤ l → t < length rows
@@ -34,7 +34,7 @@ module _ (st : Held) (states rows : List ℕ) (tw : AreTwice st states rows) (ok
           let some : 0 < k = omega (arith, le, tw.some) in
           let less : k < length states = omega (arith, lt, tw.count) in
           let is : again (label_count states) k ≡ l = again_is (label_count states) k some ∙ omega (arith, le, tw.some) in
-          let w = (tw.twice k x y t some less r).0 (subst (λ i. Sends st (slice_index rows i) x y t) (sym is) s) in
+          let w = (tw.disjoint k x y t some less r).0 (subst (λ i. Sends st (slice_index rows i) x y t) (sym is) s) in
           let within : w.0 < length states = ok.targets k x y w.0 less r w.1 in
           to_row w.0 within w.2
         where
@@ -52,7 +52,7 @@ module _ (st : Held) (states rows : List ℕ) (tw : AreTwice st states rows) (ok
   rows_are = record { ids = tw.ids; targets = λ l x y t lt r s. row_targets l x y t lt r s }
 
   -- from a label as it is the rows record what the states do
-  pub once_runs : (w : List (List ℕ)) (l : ℕ) (x : List ℕ) (m : ℕ) → l < length states → IsPacket st x
+  pub once_runs : (w : List (List ℕ)) (l : ℕ) (x : List ℕ) (m : ℕ) → l < length states → IsStorePacket st x
       → RunsTo st rows l x w m ↔ RunsTo st states l x w m
   once_runs [] l x m lt r = (λ e. e, λ e. e)
   once_runs (z ∷ w) l x m lt r = (
@@ -65,32 +65,32 @@ module _ (st : Held) (states rows : List ℕ) (tw : AreTwice st states rows) (ok
   )
 
   -- from one that is marked again too, and to labels that are marked again
-  pub twice_runs : (w : List (List ℕ)) (l : ℕ) (x : List ℕ) (m : ℕ) → 0 < l → l < length states → IsPacket st x
+  pub disjoint_runs : (w : List (List ℕ)) (l : ℕ) (x : List ℕ) (m : ℕ) → 0 < l → l < length states → IsStorePacket st x
       → RunsTo st rows (again (label_count states) l) x w m ↔ ((k : ℕ) × (m ≡ again (label_count states) k) × RunsTo st states l x w k)
-  twice_runs [] l x m some lt r = (λ e. (l, sym e, refl), λ h. ap (again (label_count states)) h.2 ∙ sym h.1)
-  twice_runs (z ∷ w) l x m some lt r = (
+  disjoint_runs [] l x m some lt r = (λ e. (l, sym e, refl), λ h. ap (again (label_count states)) h.2 ∙ sym h.1)
+  disjoint_runs (z ∷ w) l x m some lt r = (
     λ h.
-        let t = (tw.twice l x z h.0 some lt r).0 h.2 in
+        let t = (tw.disjoint l x z h.0 some lt r).0 h.2 in
         let next : 0 < t.0 = again_some (label_count states) t.0 (subst (λ k. 0 < k) t.2 h.1) in
         let within : t.0 < length states = ok.targets l x z t.0 lt r t.1 in
-        let range : IsPacket st z = sent_in_range st (slice_index states l) x z t.0 tidy r t.1 in
-        let b = (twice_runs w t.0 z m next within range).0 (subst (λ k. RunsTo st rows k z w m) t.2 h.3) in
+        let range : IsStorePacket st z = sent_in_range st (slice_index states l) x z t.0 tidy r t.1 in
+        let b = (disjoint_runs w t.0 z m next within range).0 (subst (λ k. RunsTo st rows k z w m) t.2 h.3) in
         (b.0, b.1, (t.0, next, t.1, b.2)),
     λ h.
         let u = h.2.0 in
         let next : 0 < u = h.2.1 in
         let s : Sends st (slice_index states l) x z u = h.2.2 in
         let within : u < length states = ok.targets l x z u lt r s in
-        let range : IsPacket st z = sent_in_range st (slice_index states l) x z u tidy r s in (
+        let range : IsStorePacket st z = sent_in_range st (slice_index states l) x z u tidy r s in (
           again (label_count states) u,
           some_again (label_count states) u next,
-          (tw.twice l x z (again (label_count states) u) some lt r).1 (u, s, refl),
-          (twice_runs w u z m next within range).1 (h.0, h.1, h.2.3),
+          (tw.disjoint l x z (again (label_count states) u) some lt r).1 (u, s, refl),
+          (disjoint_runs w u z m next within range).1 (h.0, h.1, h.2.3),
         ),
   )
 
   -- each copy of a label gives what the label gives
-  pub once_gives : (l : ℕ) (x : List ℕ) (w : List (List ℕ)) (y : List ℕ) → l < length states → IsPacket st x
+  pub once_gives : (l : ℕ) (x : List ℕ) (w : List (List ℕ)) (y : List ℕ) → l < length states → IsStorePacket st x
       → LabelGives st rows l x w y ↔ LabelGives st states l x w y
   once_gives l x w y lt r = (
     λ h.
@@ -103,24 +103,24 @@ module _ (st : Held) (states rows : List ℕ) (tw : AreTwice st states rows) (ok
   )
 
   -- what a label ends at is what it ends at marked again
-  pub twice_ends : (l : ℕ) (x y : List ℕ) → 0 < l → l < length states → IsPacket st x
+  pub disjoint_ends : (l : ℕ) (x y : List ℕ) → 0 < l → l < length states → IsStorePacket st x
       → Sends st (slice_index rows (again (label_count states) l)) x y 0 ↔ Sends st (slice_index states l) x y 0
-  twice_ends l x y some lt r =
-      let e = tw.twice l x y 0 some lt r in (
+  disjoint_ends l x y some lt r =
+      let e = tw.disjoint l x y 0 some lt r in (
         λ h. let b = e.0 h in subst (λ k. Sends st (slice_index states l) x y k) (sym (again_one (label_count states) 0 b.0 b.2)) b.1,
         λ h. e.1 (0, h, refl),
       )
 
-  pub twice_gives : (l : ℕ) (x : List ℕ) (w : List (List ℕ)) (y : List ℕ) → 0 < l → l < length states → IsPacket st x
+  pub disjoint_gives : (l : ℕ) (x : List ℕ) (w : List (List ℕ)) (y : List ℕ) → 0 < l → l < length states → IsStorePacket st x
       → LabelGives st rows (again (label_count states) l) x w y ↔ LabelGives st states l x w y
-  twice_gives l x w y some lt r = (
+  disjoint_gives l x w y some lt r = (
     λ h.
-        let b = (twice_runs w l x h.0 some lt r).0 h.1 in
+        let b = (disjoint_runs w l x h.0 some lt r).0 h.1 in
         let there = runs_in_range st states ok tidy w l x b.0 lt r b.2 in
         let above = runs_above st states w l x b.0 some b.2 in
-        (b.0, b.2, (twice_ends b.0 (last_from x w) y above there.1 there.0).0 (subst (λ k. Sends st (slice_index rows k) (last_from x w) y 0) b.1 h.2)),
+        (b.0, b.2, (disjoint_ends b.0 (last_from x w) y above there.1 there.0).0 (subst (λ k. Sends st (slice_index rows k) (last_from x w) y 0) b.1 h.2)),
     λ h.
         let there = runs_in_range st states ok tidy w l x h.0 lt r h.1 in
         let above = runs_above st states w l x h.0 some h.1 in
-        (again (label_count states) h.0, (twice_runs w l x (again (label_count states) h.0) some lt r).1 (h.0, refl, h.1), (twice_ends h.0 (last_from x w) y above there.1 there.0).1 h.2),
+        (again (label_count states) h.0, (disjoint_runs w l x (again (label_count states) h.0) some lt r).1 (h.0, refl, h.1), (disjoint_ends h.0 (last_from x w) y above there.1 there.0).1 h.2),
   )

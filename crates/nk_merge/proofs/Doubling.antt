@@ -4,18 +4,18 @@ use Rattle.std.specs.Prelude.{◌↔◌, slice_index, slice_index_or}
 use Rattle.std.specs.Map.{lookup}
 use Rattle.std.proofs.lemmas.Bool.Decides.{leb_tells}
 use Rattle.nk_store.specs.declared.node.Out.{Out}
-use Rattle.nk_store.specs.Held.{Held, IsId, IsPacket, look, Grows, HasLeaves}
+use Rattle.nk_store.specs.StoreState.{StoreState, IsId, IsStorePacket, look, Grows, HasLeaves}
 use Rattle.nk_store.proofs.Stores.{grows_on}
 use Rattle.nk_apply.specs.Unions.{AreIds}
 use Rattle.nk_apply.proofs.Members.{Has, contains_has, has_contains, gathered_has, has_gathered}
 use Rattle.nk_determ.specs.Exact.{Sends}
 use Rattle.nk_determ.specs.Targets.{option_out, out_by_table, retargeted}
-use Rattle.nk_determ.specs.Pairs.{HavePlaces, AreStates}
-use Rattle.nk_reach.specs.Sides.{alone, ends_of, AreOneSided, IsGoalOf}
+use Rattle.nk_determ.specs.Pairs.{AreLabelsBelow, AreStates}
+use Rattle.nk_reach.specs.Sides.{alone, ends_of, AreOneSided, IsPropertyOfEnds}
 use Rattle.nk_reach.proofs.Kept.{packet_on, packet_back}
 use Rattle.nk_reach.proofs.Growing.{sends_on, sends_back, states_grow}
-use Rattle.nk_merge.specs.Twice.{again, label_count, AreTwice, IsTwice, IsTwiceUpTo, IsMadeBy, AreMadeBy}
-use Rattle.nk_merge.specs.declared.twice.Twice.{Twice}
+use Rattle.nk_merge.specs.DisjointCopies.{again, label_count, AreDisjointCopies, IsDisjointCopy, IsDisjointCopyUpTo, IsMadeBy, AreMadeBy}
+use Rattle.nk_merge.specs.declared.disjoint_copy.DisjointCopy.{DisjointCopy}
 use Rattle.nk_merge.proofs.Marks.{again_is}
 use Rattle.nk_merge.proofs.Entries.{put_entry}
 use Rattle.nk_merge.proofs.Numbering.{before, last_is, longer, last_or_before}
@@ -32,7 +32,7 @@ some_one : (a b : ℕ) → Some a ≡ Some b → a ≡ b
 some_one a b e = cc
 
 -- a diagram with targets by a table sends what it sent to what the table has
-module _ (st new : Held) (table : List (Option ℕ)) (d r : ℕ) (h : HasLeaves new r (λ pk. retargeted table (look st d pk))) (pk y : List ℕ) (p : IsPacket st pk) (t : ℕ) where
+module _ (st new : StoreState) (table : List (Option ℕ)) (d r : ℕ) (h : HasLeaves new r (λ pk. retargeted table (look st d pk))) (pk y : List ℕ) (p : IsStorePacket st pk) (t : ℕ) where
   by_table : Sends new r pk y t → (u : ℕ) × Sends st d pk y u × (get_or table u None ≡ Some t)
   by_table s =
       let a = s.0 in
@@ -51,16 +51,16 @@ module _ (st new : Held) (table : List (Option ℕ)) (d r : ℕ) (h : HasLeaves 
       (a, has_contains (look new r pk) (record { act = a; target = t }) (subst (λ os. Has os (record { act = a; target = t })) (sym (h.leaf pk p.0)) all), s.2)
 
 -- the states as they are stand there once
-pub none_again : (old new : Held) (states rows : List ℕ) → rows ≡ states → IsTwiceUpTo old new states rows 1
+pub none_again : (old new : StoreState) (states rows : List ℕ) → rows ≡ states → IsDisjointCopyUpTo old new states rows 1
 none_again old new states rows e = record {
   count = ap (λ xs. length xs + 1) e;
   once = λ l lt. ap (λ xs. get_or xs l 0) e;
   ids = λ l some lt. absurd (omega (arith, some, lt));
-  twice = λ l pk y t some lt r. absurd (omega (arith, some, lt));
+  disjoint = λ l pk y t some lt r. absurd (omega (arith, some, lt));
 }
 
-module _ (old mid new : Held) (states rows : List ℕ) (n row : ℕ) (table : List (Option ℕ)) (begun : Grows old mid) (grows : Grows mid new) (ok : AreStates old states) (some : 0 < n) (lt : n < length states)
-    (k : IsTwiceUpTo old mid states rows n)
+module _ (old mid new : StoreState) (states rows : List ℕ) (n row : ℕ) (table : List (Option ℕ)) (begun : Grows old mid) (grows : Grows mid new) (ok : AreStates old states) (some : 0 < n) (lt : n < length states)
+    (k : IsDisjointCopyUpTo old mid states rows n)
     (is : (t : ℕ) → t < length states → slice_index_or table t None ≡ Some (again (label_count states) t))
     (h : HasLeaves new row (λ pk. retargeted table (look mid (slice_index states n) pk))) where
   -- an earlier row, and the new one
@@ -73,10 +73,10 @@ module _ (old mid new : Held) (states rows : List ℕ) (n row : ℕ) (table : Li
   newest = last_is rows row (again (label_count states) n) (omega (arith, again_is (label_count states) n some, lt, k.count))
 
   -- the new row does what the state does, to labels that are marked again
-  new_sends : (pk y : List ℕ) (t : ℕ) → IsPacket old pk
+  new_sends : (pk y : List ℕ) (t : ℕ) → IsStorePacket old pk
       → Sends new row pk y t ↔ ((u : ℕ) × Sends old (slice_index states n) pk y u × (t ≡ again (label_count states) u))
   new_sends pk y t r =
-      let q : IsPacket mid pk = packet_on old mid pk begun r in
+      let q : IsStorePacket mid pk = packet_on old mid pk begun r in
       let id = ok.ids n lt in (
         λ s.
             let b = by_table mid new table (slice_index states n) row h pk y q t s in
@@ -90,7 +90,7 @@ module _ (old mid new : Held) (states rows : List ℕ) (n row : ℕ) (table : Li
       )
 
   -- one label more
-  pub one_again : IsTwiceUpTo old new states (rows ++ row ∷ []) (n + 1)
+  pub one_again : IsDisjointCopyUpTo old new states (rows ++ row ∷ []) (n + 1)
   one_again = record {
     count = omega (arith, longer rows row, k.count);
     once = λ l less. before rows row l (omega (arith, less, k.count, some)) ∙ k.once l less;
@@ -99,25 +99,25 @@ module _ (old mid new : Held) (states rows : List ℕ) (n row : ℕ) (table : Li
         (λ old_one. subst (λ d. IsId new d) (sym (earlier l above old_one)) (grows.ids (get_or rows (again (label_count states) l) 0) (k.ids l above old_one)))
         (λ e. subst (λ d. IsId new d) (sym (ap (λ j. slice_index (rows ++ row ∷ []) (again (label_count states) j)) e ∙ newest)) h.id)
         (last_or_before n l (omega (arith, less)));
-    twice = λ l pk y t above less r.
+    disjoint = λ l pk y t above less r.
         ⊎_elim
         (λ old_one. by_earlier l pk y t above old_one r)
         (λ e. by_newest l pk y t e r)
         (last_or_before n l (omega (arith, less)));
   }
     where
-      by_earlier : (l : ℕ) (pk y : List ℕ) (t : ℕ) → 0 < l → l < n → IsPacket old pk
+      by_earlier : (l : ℕ) (pk y : List ℕ) (t : ℕ) → 0 < l → l < n → IsStorePacket old pk
           → Sends new (slice_index (rows ++ row ∷ []) (again (label_count states) l)) pk y t
           ↔ ((u : ℕ) × Sends old (slice_index states l) pk y u × (t ≡ again (label_count states) u))
       by_earlier l pk y t above old_one r =
           let e = earlier l above old_one in
-          let b = k.twice l pk y t above old_one r in
+          let b = k.disjoint l pk y t above old_one r in
           let id = k.ids l above old_one in (
             λ s. b.0 (sends_back mid new (get_or rows (again (label_count states) l) 0) pk y t grows id (subst (λ d. Sends new d pk y t) e s)),
             λ s. subst (λ d. Sends new d pk y t) (sym e) (sends_on mid new (get_or rows (again (label_count states) l) 0) pk y t grows id (b.1 s)),
           )
 
-      by_newest : (l : ℕ) (pk y : List ℕ) (t : ℕ) → l ≡ n → IsPacket old pk
+      by_newest : (l : ℕ) (pk y : List ℕ) (t : ℕ) → l ≡ n → IsStorePacket old pk
           → Sends new (slice_index (rows ++ row ∷ []) (again (label_count states) l)) pk y t
           ↔ ((u : ℕ) × Sends old (slice_index states l) pk y u × (t ≡ again (label_count states) u))
       by_newest l pk y t e r =
@@ -128,15 +128,15 @@ module _ (old mid new : Held) (states rows : List ℕ) (n row : ℕ) (table : Li
           )
 
 -- all labels
-pub all_again : (old new : Held) (states rows : List ℕ) (n : ℕ) → Grows old new → AreStates old states → 0 < length states → n ≡ length states
-    → IsTwiceUpTo old new states rows n → AreTwice new states rows
+pub all_again : (old new : StoreState) (states rows : List ℕ) (n : ℕ) → Grows old new → AreStates old states → 0 < length states → n ≡ length states
+    → IsDisjointCopyUpTo old new states rows n → AreDisjointCopies new states rows
 all_again old new states rows n g ok some e k = record {
   some = some;
   count = omega (arith, k.count, e);
   ids = λ i lt. id_at i lt;
   once = k.once;
-  twice = λ l pk y t above less r.
-      let b = k.twice l pk y t above (omega (arith, less, e)) (packet_back old new pk g r) in (
+  disjoint = λ l pk y t above less r.
+      let b = k.disjoint l pk y t above (omega (arith, less, e)) (packet_back old new pk g r) in (
         λ s. let w = b.0 s in (w.0, sends_on old new (get_or states l 0) pk y w.0 g (ok.ids l less) w.1, w.2),
         λ s. b.1 (s.0, sends_back old new (get_or states l 0) pk y s.0 g (ok.ids l less) s.1, s.2),
       );
@@ -155,22 +155,22 @@ all_again old new states rows n g ok some e k = record {
         (leb_tells (length states) i)
 
 -- with a goal of ends of one copy alone
-pub made_twice : (old mid new : Held) (states rows given : List ℕ) (start : ℕ) (t : Twice) → AreStates old states → length states + length states < 2 ^ 64
-    → Grows old mid → Grows mid new → AreTwice mid states rows → given ≡ rows → start ≡ slice_index states 0 → t.rows ≡ rows
-    → IsGoalOf new t.goal.ends t.goal.seen.entries → length t.goal.ends ≡ length given
-    → ((set pk : List ℕ) → HavePlaces (length given) set → IsPacket mid pk → AreOneSided mid given start start (length states) set pk (alone (ends_of new t.goal.ends set pk)))
-    → IsTwice new states t
-made_twice old mid new states rows given start t ok few begun grows twice same first rows_is fits labels sides = record {
+pub made_twice : (old mid new : StoreState) (states rows given : List ℕ) (start : ℕ) (t : DisjointCopy) → AreStates old states → length states + length states < 2 ^ 64
+    → Grows old mid → Grows mid new → AreDisjointCopies mid states rows → given ≡ rows → start ≡ slice_index states 0 → t.rows ≡ rows
+    → IsPropertyOfEnds new t.goal.ends t.goal.seen.entries → length t.goal.ends ≡ length given
+    → ((set pk : List ℕ) → AreLabelsBelow (length given) set → IsStorePacket mid pk → AreOneSided mid given start start (length states) set pk (alone (ends_of new t.goal.ends set pk)))
+    → IsDisjointCopy new states t
+made_twice old mid new states rows given start t ok few begun grows disjoint same first rows_is fits labels sides = record {
   states_are = states_grow old new states (grows_on old mid new begun grows) ok;
   few = few;
-  rows = subst (λ r. AreTwice new states r) (sym rows_is) (rows_on mid new states rows grows states_mid twice);
+  rows = subst (λ r. AreDisjointCopies new states r) (sym rows_is) (rows_on mid new states rows grows states_mid disjoint);
   fits = fits;
   labels = labels ∙ ap length (same ∙ sym rows_is);
   sides = λ set pk places range.
       let one : given ≡ t.rows = same ∙ sym rows_is in
-      let there : HavePlaces (length given) set = subst (λ r. HavePlaces (length r) set) (sym one) places in
+      let there : AreLabelsBelow (length given) set = subst (λ r. AreLabelsBelow (length r) set) (sym one) places in
       let kept = one_sided_on mid new given start (length states) set pk (alone (ends_of new t.goal.ends set pk)) grows
-      (subst (λ d. IsId mid d) (sym first) (states_mid.ids 0 twice.some)) (subst (λ r. AreIds mid r) (sym same) twice.ids) there (sides set pk there (packet_back mid new pk grows range)) in
+      (subst (λ d. IsId mid d) (sym first) (states_mid.ids 0 disjoint.some)) (subst (λ r. AreIds mid r) (sym same) disjoint.ids) there (sides set pk there (packet_back mid new pk grows range)) in
       subst (λ r. AreOneSided new r (slice_index states 0) (slice_index states 0) (length states) set pk (alone (ends_of new t.goal.ends set pk))) one
       (subst (λ d. AreOneSided new given d d (length states) set pk (alone (ends_of new t.goal.ends set pk))) first kept);
 }
@@ -179,7 +179,7 @@ made_twice old mid new states rows given start t ok few begun grows twice same f
     states_mid = states_grow old mid states begun ok
 
 -- what is made of states stays so as the store grows, with one state more
-made_on : (a b : Held) (table : List (Option ℕ)) (entries : List (ℕ × ℕ)) → Grows a b → AreMadeBy a table entries → AreMadeBy b table entries
+made_on : (a b : StoreState) (table : List (Option ℕ)) (entries : List (ℕ × ℕ)) → Grows a b → AreMadeBy a table entries → AreMadeBy b table entries
 made_on a b table entries g k state r e =
     let s = k state r e in
     record {
@@ -190,7 +190,7 @@ made_on a b table entries g k state r e =
       };
     }
 
-pub made_more : (a b : Held) (table : List (Option ℕ)) (state r : ℕ) (entries after : List (ℕ × ℕ)) → Grows a b → IsId a state → AreMadeBy a table entries
+pub made_more : (a b : StoreState) (table : List (Option ℕ)) (state r : ℕ) (entries after : List (ℕ × ℕ)) → Grows a b → IsId a state → AreMadeBy a table entries
     → HasLeaves b r (λ pk. retargeted table (look a state pk))
     → ((q : ℕ) → lookup (eqb q) after ≡ cond (eqb state q) (Some r) (lookup (eqb q) entries)) → AreMadeBy b table after
 made_more a b table state r entries after g id k h put =

@@ -4,21 +4,21 @@ use Rattle.std.specs.Prelude.{◌↔◌, Contains, slice_index}
 use Rattle.nk_field.proofs.Lists.{contains_from_in}
 use Rattle.nk_field.proofs.Ascending.{all_from_members}
 use Rattle.nk_policy.specs.PositionSets.{last_from}
-use Rattle.nk_store.specs.Held.{Held, IsPacket, AreTidy}
+use Rattle.nk_store.specs.StoreState.{StoreState, IsStorePacket, AreTidy}
 use Rattle.nk_determ.specs.Exact.{Sends}
-use Rattle.nk_determ.specs.Pairs.{Node, HavePlaces, AreStates, IsStep}
+use Rattle.nk_determ.specs.Pairs.{Node, AreLabelsBelow, AreStates, IsStep}
 use Rattle.nk_determ.specs.Breaks.{Walks}
 use Rattle.nk_reach.specs.Sides.{EndsAt}
 use Rattle.nk_reach.proofs.Growing.{place_of}
 use Rattle.nk_merge.specs.Alike.{SetGives}
-use Rattle.nk_merge.specs.Twice.{again, label_count, AreTwice}
+use Rattle.nk_merge.specs.DisjointCopies.{again, label_count, AreDisjointCopies}
 use Rattle.nk_merge.specs.Joined.{both_sets}
 use Rattle.nk_merge.proofs.Marks.{mark_below, mark_above, below_from, above_from, some_again, from_both, first_of_both, second_of_both}
 use Rattle.nk_merge.proofs.Runs.{RunsTo, runs_above, runs_in_range, walk_members, walk_last, run_walks, gives_runs}
-use Rattle.nk_merge.proofs.Copies.{once_within, twice_within, twice_above, rows_are, once_runs, twice_runs, twice_ends}
+use Rattle.nk_merge.proofs.Copies.{once_within, twice_within, twice_above, rows_are, once_runs, disjoint_runs, disjoint_ends}
 
-module _ (st : Held) (states rows : List ℕ) (tw : AreTwice st states rows) (ok : AreStates st states) (tidy : AreTidy st)
-    (s t : List ℕ) (sp : HavePlaces (length states) s) (tp : HavePlaces (length states) t)
+module _ (st : StoreState) (states rows : List ℕ) (tw : AreDisjointCopies st states rows) (ok : AreStates st states) (tidy : AreTidy st)
+    (s t : List ℕ) (sp : AreLabelsBelow (length states) s) (tp : AreLabelsBelow (length states) t)
     (sa : (l : ℕ) → Contains s l → 0 < l) (ta : (l : ℕ) → Contains t l → 0 < l) where
   -- both sets together
   abbrev pub whole : List ℕ
@@ -32,7 +32,7 @@ module _ (st : Held) (states rows : List ℕ) (tw : AreTwice st states rows) (ok
       (λ h. subst (λ k. 0 < k) (sym h.2) (some_again (label_count states) h.0 (ta h.0 h.1)))
       (from_both (label_count states) s t l c)
 
-  pub whole_places : HavePlaces (length rows) whole
+  pub whole_places : AreLabelsBelow (length rows) whole
   whole_places =
       all_from_members (λ l. l < length rows) whole
       (λ l i. by l (from_both (label_count states) s t l (contains_from_in whole l i)))
@@ -44,33 +44,33 @@ module _ (st : Held) (states rows : List ℕ) (tw : AreTwice st states rows) (ok
           (twice_within st states rows tw h.0 (ta h.0 h.1) (place_of (length states) t h.0 tp h.1))
 
   -- a label of the first set leads where it leads
-  pub first_walks : (x : List ℕ) (w : List (List ℕ)) (l m : ℕ) → IsPacket st x → Contains s l → RunsTo st states l x w m
+  pub first_walks : (x : List ℕ) (w : List (List ℕ)) (l m : ℕ) → IsStorePacket st x → Contains s l → RunsTo st states l x w m
       → (n : Node) × Walks (IsStep st rows) (whole, x) w n
   first_walks x w l m r c h =
       run_walks st rows (rows_are st states rows tw ok tidy) tidy w whole x l m whole_places r (first_of_both (label_count states) s t l c)
       ((once_runs st states rows tw ok tidy w l x m (place_of (length states) s l sp c) r).1 h)
 
-  pub second_walks : (x : List ℕ) (w : List (List ℕ)) (l m : ℕ) → IsPacket st x → Contains t l → RunsTo st states l x w m
+  pub second_walks : (x : List ℕ) (w : List (List ℕ)) (l m : ℕ) → IsStorePacket st x → Contains t l → RunsTo st states l x w m
       → (n : Node) × Walks (IsStep st rows) (whole, x) w n
   second_walks x w l m r c h =
       run_walks st rows (rows_are st states rows tw ok tidy) tidy w whole x (again (label_count states) l) (again (label_count states) m) whole_places r
       (second_of_both (label_count states) s t l c)
-      ((twice_runs st states rows tw ok tidy w l x (again (label_count states) m) (ta l c) (place_of (length states) t l tp c) r).1 (m, refl, h))
+      ((disjoint_runs st states rows tw ok tidy w l x (again (label_count states) m) (ta l c) (place_of (length states) t l tp c) r).1 (m, refl, h))
 
   -- a set that gives a history has its records walked
-  pub first_walked : (x : List ℕ) (w : List (List ℕ)) (y : List ℕ) → IsPacket st x → SetGives st states s x w y
+  pub first_walked : (x : List ℕ) (w : List (List ℕ)) (y : List ℕ) → IsStorePacket st x → SetGives st states s x w y
       → (n : Node) × Walks (IsStep st rows) (whole, x) w n
   first_walked x w y r g =
       let h = (gives_runs st states ok tidy s x w y sp r).0 g in
       first_walks x w h.0 h.2.0 r h.1 h.2.1
 
-  pub second_walked : (x : List ℕ) (w : List (List ℕ)) (y : List ℕ) → IsPacket st x → SetGives st states t x w y
+  pub second_walked : (x : List ℕ) (w : List (List ℕ)) (y : List ℕ) → IsStorePacket st x → SetGives st states t x w y
       → (n : Node) × Walks (IsStep st rows) (whole, x) w n
   second_walked x w y r g =
       let h = (gives_runs st states ok tidy t x w y tp r).0 g in
       second_walks x w h.0 h.2.0 r h.1 h.2.1
 
-  module _ (x : List ℕ) (w : List (List ℕ)) (n : Node) (r : IsPacket st x) (walk : Walks (IsStep st rows) (whole, x) w n) (start : ℕ) (y : List ℕ) where
+  module _ (x : List ℕ) (w : List (List ℕ)) (n : Node) (r : IsStorePacket st x) (walk : Walks (IsStep st rows) (whole, x) w n) (start : ℕ) (y : List ℕ) where
     -- the labels where the walk leads are those to which labels of one of the sets lead
     from_sets : (m : ℕ) → Contains n.0 m
         → ((l : ℕ) × Contains s l × RunsTo st states l x w m)
@@ -85,7 +85,7 @@ module _ (st : Held) (states rows : List ℕ) (tw : AreTwice st states rows) (ok
             ⊎ ((l : ℕ) × (k : ℕ) × Contains t l × (m ≡ again (label_count states) k) × RunsTo st states l x w k)
         by l run (inl i) = inl (l, i, (once_runs st states rows tw ok tidy w l x m (place_of (length states) s l sp i) r).0 run)
         by l run (inr i) =
-            let u = (twice_runs st states rows tw ok tidy w i.0 x m (ta i.0 i.1) (place_of (length states) t i.0 tp i.1) r).0 (subst (λ k. RunsTo st rows k x w m) i.2 run) in
+            let u = (disjoint_runs st states rows tw ok tidy w i.0 x m (ta i.0 i.1) (place_of (length states) t i.0 tp i.1) r).0 (subst (λ k. RunsTo st rows k x w m) i.2 run) in
             inr (i.0, u.0, i.1, u.1, u.2)
 
     -- none of them is 0
@@ -148,7 +148,7 @@ module _ (st : Held) (states rows : List ℕ) (tw : AreTwice st states rows) (ok
             let there = runs_in_range st states ok tidy w h.0 x h.1 place r h.4 in
             let above = runs_above st states w h.0 x h.1 (ta h.0 h.2) h.4 in
             let moved = subst (λ v. Sends st (slice_index rows e.0) v y 0) (walk_last st rows w whole x n walk) e.4 in
-            let sends = (twice_ends st states rows tw ok tidy h.1 (last_from x w) y above there.1 there.0).0
+            let sends = (disjoint_ends st states rows tw ok tidy h.1 (last_from x w) y above there.1 there.0).0
             (subst (λ k. Sends st (slice_index rows k) (last_from x w) y 0) h.3 moved) in
             (gives_runs st states ok tidy t x w y tp r).1 (h.0, h.2, (h.1, h.4, sends)))
             (from_sets e.0 e.1)
@@ -161,8 +161,8 @@ module _ (st : Held) (states rows : List ℕ) (tw : AreTwice st states rows) (ok
             let above = runs_above st states w h.0 x h.2.0 (ta h.0 h.1) h.2.1 in
             let m : ℕ = again (label_count states) h.2.0 in
             let here = (walk_members st rows w whole x n walk m).1
-            (again (label_count states) h.0, second_of_both (label_count states) s t h.0 h.1, (twice_runs st states rows tw ok tidy w h.0 x m (ta h.0 h.1) place r).1 (h.2.0, refl, h.2.1)) in
-            let sends = (twice_ends st states rows tw ok tidy h.2.0 (last_from x w) y above there.1 there.0).1 h.2.2 in
+            (again (label_count states) h.0, second_of_both (label_count states) s t h.0 h.1, (disjoint_runs st states rows tw ok tidy w h.0 x m (ta h.0 h.1) place r).1 (h.2.0, refl, h.2.1)) in
+            let sends = (disjoint_ends st states rows tw ok tidy h.2.0 (last_from x w) y above there.1 there.0).1 h.2.2 in
             inr (
               m,
               here,

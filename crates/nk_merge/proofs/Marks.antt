@@ -3,15 +3,15 @@ use Rattle.std.proofs.Common.{◌≡◌, ℕ, zero, suc, ◌+◌, ◌<◌, ◌�
 use Rattle.std.specs.Prelude.{nat_lt, map, Contains, slice_index}
 use Rattle.std.proofs.lemmas.Bool.{ltb-true, ltb-false, lt-ltb, le-ltb}
 use Rattle.nk_field.proofs.Lists.{in_from_contains, contains_from_in, in_left, in_right, in_either, in_mapped, from_mapped, in_decided, numbers_decided, Decided}
-use Rattle.nk_store.specs.Held.{Held, IsPacket, HasLeaves}
+use Rattle.nk_store.specs.StoreState.{StoreState, IsStorePacket, HasLeaves}
 use Rattle.nk_apply.specs.Seqs.{no_out}
-use Rattle.nk_sets.specs.PacketSets.{has_out, is_in}
+use Rattle.nk_sets.specs.PacketSets.{has_some_out, is_in}
 use Rattle.nk_determ.specs.Exact.{Sends}
 use Rattle.nk_determ.specs.States.{StateLeads}
-use Rattle.nk_reach.specs.Sides.{mark_of, EndsAt}
+use Rattle.nk_reach.specs.Sides.{label_side, EndsAt}
 use Rattle.nk_runs.proofs.Listings.{some_decided, sends_decided}
-use Rattle.nk_merge.specs.Alike.{labels_behind}
-use Rattle.nk_merge.specs.Twice.{again}
+use Rattle.nk_merge.specs.Alike.{labels_after}
+use Rattle.nk_merge.specs.DisjointCopies.{again}
 use Rattle.nk_merge.specs.Joined.{both_sets}
 
 -- the mark by the side
@@ -19,20 +19,20 @@ abbrev mark_by : Bool → ℕ
 mark_by b = cond b 1 2
 
 -- labels below the bound have mark 1, and the others mark 2
-pub mark_below : (bound l : ℕ) → l < bound → mark_of bound l ≡ 1
+pub mark_below : (bound l : ℕ) → l < bound → label_side bound l ≡ 1
 mark_below bound l lt = ap mark_by (lt-ltb l bound lt)
 
-pub mark_above : (bound l : ℕ) → bound ≤ l → mark_of bound l ≡ 2
+pub mark_above : (bound l : ℕ) → bound ≤ l → label_side bound l ≡ 2
 mark_above bound l le = ap mark_by (le-ltb l bound le)
 
-pub below_from : (bound l : ℕ) → mark_of bound l ≡ 1 → l < bound
+pub below_from : (bound l : ℕ) → label_side bound l ≡ 1 → l < bound
 below_from bound l e = by (nat_lt l bound) refl
   where
     by : (b : Bool) → nat_lt l bound ≡ b → l < bound
     by true is = ltb-true l bound is
     by false is = let two : 2 ≡ 1 = sym (ap mark_by is) ∙ e in absurd (omega (arith, two))
 
-pub above_from : (bound l : ℕ) → mark_of bound l ≡ 2 → bound ≤ l
+pub above_from : (bound l : ℕ) → label_side bound l ≡ 2 → bound ≤ l
 above_from bound l e = by (nat_lt l bound) refl
   where
     by : (b : Bool) → nat_lt l bound ≡ b → bound ≤ l
@@ -81,7 +81,7 @@ above_zero zero = inr (λ lt. omega (arith, lt))
 above_zero (suc l) = inl (omega arith)
 
 -- whether the states at some labels send a packet to a target
-pub leads_decided : (st : Held) (states s x y : List ℕ) (t : ℕ) → Decided (StateLeads st states s x y t)
+pub leads_decided : (st : StoreState) (states s x y : List ℕ) (t : ℕ) → Decided (StateLeads st states s x y t)
 leads_decided st states s x y t =
     decided_for
     (λ h. (h.0, contains_from_in s h.0 h.1, h.2))
@@ -89,15 +89,15 @@ leads_decided st states s x y t =
     (some_decided (λ l. Sends st (slice_index states l) x y t) (λ l. sends_decided st (slice_index states l) x y t) s)
 
 -- whether a side ends at a packet
-pub ends_decided : (st : Held) (states : List ℕ) (d bound k : ℕ) (s x y : List ℕ) → Decided (EndsAt st states d bound k s x y)
+pub ends_decided : (st : StoreState) (states : List ℕ) (d bound k : ℕ) (s x y : List ℕ) → Decided (EndsAt st states d bound k s x y)
 ends_decided st states d bound k s x y =
     either_decided
     (both_decided
     (decided_for (λ i. contains_from_in s 0 i) (λ c. in_from_contains s 0 c) (in_decided numbers_decided s 0))
     (sends_decided st d x y 0))
     (decided_for (λ h. (h.0, contains_from_in s h.0 h.1, h.2.0, h.2.1.0, h.2.1.1)) (λ h. (h.0, in_from_contains s h.0 h.1, (h.2, (h.3, h.4))))
-    (some_decided (λ l. (0 < l) × ((mark_of bound l ≡ k) × Sends st (slice_index states l) x y 0))
-    (λ l. both_decided (above_zero l) (both_decided (numbers_decided (mark_of bound l) k) (sends_decided st (slice_index states l) x y 0)))
+    (some_decided (λ l. (0 < l) × ((label_side bound l ≡ k) × Sends st (slice_index states l) x y 0))
+    (λ l. both_decided (above_zero l) (both_decided (numbers_decided (label_side bound l) k) (sends_decided st (slice_index states l) x y 0)))
     s))
 
 -- a label of both sets is one of the first set, or one of the second that is marked again
@@ -115,9 +115,9 @@ pub second_of_both : (n : ℕ) (s t : List ℕ) (k : ℕ) → Contains t k → C
 second_of_both n s t k c =
     contains_from_in (both_sets n s t) (again n k) (in_right s (map (again n) t) (again n k) (in_mapped (again n) t k (in_from_contains t k c)))
 
--- a label behind others is above 0
-pub behind_some : (s : List ℕ) (l : ℕ) → Contains (labels_behind s) l → 0 < l
-behind_some s l c = let m = from_mapped (λ k. k + 1) s l (in_from_contains (labels_behind s) l c) in omega (arith, m.2)
+-- a label after others is above 0
+pub following_some : (s : List ℕ) (l : ℕ) → Contains (labels_after s) l → 0 < l
+following_some s l c = let m = from_mapped (λ k. k + 1) s l (in_from_contains (labels_after s) l c) in omega (arith, m.2)
 
 -- a list that can't but be empty is empty
 pub empty_from : {X : Type 0} (xs : List X) → ((xs ≡ [] → ⊥) → ⊥) → xs ≡ []
@@ -134,5 +134,5 @@ pub none_in : {X : Type 0} (xs : List X) (x : X) → xs ≡ [] → Contains xs x
 none_in xs x e c = in_from_contains [] x (subst (λ z. Contains z x) e c)
 
 -- the diagram that passes each packet has all packets
-pub everywhere : (st : Held) (d : ℕ) (pk : List ℕ) → HasLeaves st d (λ x. no_out ∷ []) → IsPacket st pk → is_in st d pk ≡ true
-everywhere st d pk h r = ap has_out (h.leaf pk r.0)
+pub everywhere : (st : StoreState) (d : ℕ) (pk : List ℕ) → HasLeaves st d (λ x. no_out ∷ []) → IsStorePacket st pk → is_in st d pk ≡ true
+everywhere st d pk h r = ap has_some_out (h.leaf pk r.0)

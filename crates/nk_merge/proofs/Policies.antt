@@ -11,14 +11,14 @@ use Rattle.nk_policy.specs.After.{has_dup, after}
 use Rattle.nk_policy.specs.Distinct.{HasDistinct}
 use Rattle.nk_policy.proofs.Again.{again}
 use Rattle.nk_policy.proofs.LabelSteps.{gives_is_runs}
-use Rattle.nk_store.specs.Held.{Held, IsPacket, AreTidy}
+use Rattle.nk_store.specs.StoreState.{StoreState, IsStorePacket, AreTidy}
 use Rattle.nk_determ.specs.Exact.{Sends}
 use Rattle.nk_determ.specs.Automaton.{IsState, IsAutomaton}
-use Rattle.nk_determ.specs.Pairs.{HavePlaces}
+use Rattle.nk_determ.specs.Pairs.{AreLabelsBelow}
 use Rattle.nk_determ.proofs.Sending.{sent_in_range}
 use Rattle.nk_runs.proofs.Numbers.{dup_within, rest_record_dup}
 use Rattle.nk_runs.proofs.Stands.{are_states}
-use Rattle.nk_runs.proofs.Steps.{state_at}
+use Rattle.nk_runs.proofs.Steps.{state_of_dup}
 use Rattle.nk_merge.specs.Alike.{SetGives, AreAlike}
 use Rattle.nk_merge.specs.SumsAfter.{sum_after}
 use Rattle.nk_merge.proofs.Runs.{LabelGives, gives_runs}
@@ -69,41 +69,41 @@ module _ (p : Policy) (d : HasDistinct p) where
             (gives_is_runs (after p r.1) z w y).1 (v, rest_is z w r v e, subst (λ (q : Packet). Runs (after p r.1) q v y) is s.1),
           )
 
-  module _ (st : Held) (states : List ℕ) (a : IsAutomaton st states 1 p) (tidy : AreTidy st) where
+  module _ (st : StoreState) (states : List ℕ) (a : IsAutomaton st states 1 p) (tidy : AreTidy st) where
     -- a label gives what is left after its dup
-    label_gives : (w : List Packet) (l : ℕ) (x y : Packet) → has_dup p l ≡ true → IsPacket st x
+    label_gives : (w : List Packet) (l : ℕ) (x y : Packet) → has_dup p l ≡ true → IsStorePacket st x
         → LabelGives st states l x w y ↔ Gives (after p l) x w y
     label_gives [] l x y dup r =
-        let state : IsState st (slice_index states l) (after p l) = state_at st states p a d tidy l dup in (
+        let state : IsState st (slice_index states l) (after p l) = state_of_dup st states p a d tidy l dup in (
           λ g. (state.ends x y r).0 (subst (λ k. Sends st (slice_index states k) x y 0) (sym g.1) g.2),
           λ g. (l, refl, (state.ends x y r).1 g),
         )
     label_gives (z ∷ w) l x y dup r =
-        let state : IsState st (slice_index states l) (after p l) = state_at st states p a d tidy l dup in (
+        let state : IsState st (slice_index states l) (after p l) = state_of_dup st states p a d tidy l dup in (
           λ g.
               let k = g.1.0 in
               let record_is = (state.records x z k r g.1.1).0 g.1.2 in
               let next = rest_record_dup p l x z k record_is in
-              let range : IsPacket st z = sent_in_range st (slice_index states l) x z k tidy r g.1.2 in
+              let range : IsStorePacket st z = sent_in_range st (slice_index states l) x z k tidy r g.1.2 in
               (next_gives l x z w y).1 (k, record_is, (label_gives w k z y next range).0 (g.0, g.1.3, g.2)),
           λ g.
               let h = (next_gives l x z w y).0 g in
               let next = rest_record_dup p l x z h.0 h.1 in
               let some : 0 < h.0 = (dup_within p a.labels h.0 next).0 in
               let sends = (state.records x z h.0 r some).1 h.1 in
-              let range : IsPacket st z = sent_in_range st (slice_index states l) x z h.0 tidy r sends in
+              let range : IsStorePacket st z = sent_in_range st (slice_index states l) x z h.0 tidy r sends in
               let rest = (label_gives w h.0 z y next range).1 h.2 in
               (rest.0, (h.0, some, sends, rest.1), rest.2),
         )
 
     -- the dups of a policy are places among the states
-    dups_have_places : (s : List ℕ) → ((l : ℕ) → Contains s l → has_dup p l ≡ true) → HavePlaces (length states) s
+    dups_have_places : (s : List ℕ) → ((l : ℕ) → Contains s l → has_dup p l ≡ true) → AreLabelsBelow (length states) s
     dups_have_places s dups =
         all_from_members (λ l. l < length states) s
         (λ l i. let b = (dup_within p a.labels l (dups l (contains_from_in s l i))).1 in omega (arith, b, a.count))
 
     -- a set gives what is left after its dups
-    pub set_gives : (s : List ℕ) → ((l : ℕ) → Contains s l → has_dup p l ≡ true) → (x : Packet) (w : List Packet) (y : Packet) → IsPacket st x
+    pub set_gives : (s : List ℕ) → ((l : ℕ) → Contains s l → has_dup p l ≡ true) → (x : Packet) (w : List Packet) (y : Packet) → IsStorePacket st x
         → SetGives st states s x w y ↔ Gives (sum_after p s) x w y
     set_gives s dups x w y r =
         let e = gives_runs st states (are_states st states p a) tidy s x w y (dups_have_places s dups) r in
@@ -120,7 +120,7 @@ module _ (p : Policy) (d : HasDistinct p) where
     -- so two sets are alike where that gives the same
     pub alike_is : (s t : List ℕ) → ((l : ℕ) → Contains s l → has_dup p l ≡ true) → ((l : ℕ) → Contains t l → has_dup p l ≡ true)
         → AreAlike st states s t
-        ↔ ((x : Packet) → IsPacket st x → (w : List Packet) (y : Packet) → Gives (sum_after p s) x w y ↔ Gives (sum_after p t) x w y)
+        ↔ ((x : Packet) → IsStorePacket st x → (w : List Packet) (y : Packet) → Gives (sum_after p s) x w y ↔ Gives (sum_after p t) x w y)
     alike_is s t sd td = (
       λ h x r w y.
           let a = set_gives s sd x w y r in

@@ -1,35 +1,35 @@
--- Labels that are raised by a number, and two lists of them one behind the other.
+-- Labels that are raised by a number, and two lists of them one after the other.
 use Rattle.std.proofs.Common.{◌≡◌, ℕ, ◌+◌, ◌-◌, ◌<◌, ◌≤◌, inl, inr, ⊎_elim, List, [], ◌∷◌, ◌++◌, length, refl, sym, ap, ◌∙◌, arith}
 use Rattle.std.specs.Prelude.{All, map, slice_index}
 use Rattle.std.proofs.lemmas.List.{get_or_default}
 use Rattle.std.specs.List.Sorted.{IsStrictlyIncreasing}
 use Rattle.nk_field.proofs.Lists.{In, in_either, in_mapped, from_mapped, in_from_place}
 use Rattle.nk_field.proofs.Ascending.{Rising, all_from_members, members_from_all, rising_from, increasing_from}
-use Rattle.nk_determ.specs.Pairs.{HavePlaces}
-use Rattle.nk_merge.specs.Alike.{labels_behind}
-use Rattle.nk_merge.specs.Twice.{again}
+use Rattle.nk_determ.specs.Pairs.{AreLabelsBelow}
+use Rattle.nk_merge.specs.Alike.{labels_after}
+use Rattle.nk_merge.specs.DisjointCopies.{again}
 use Rattle.nk_merge.specs.Joined.{both_sets}
 use Rattle.nk_merge.proofs.Marks.{again_is}
 
--- a label behind which is a place
-pub each_below : (n : ℕ) (xs : List ℕ) → HavePlaces n (labels_behind xs) → (l : ℕ) → In xs l → l + 1 < n
-each_below n xs p l i = members_from_all (λ k. k < n) (labels_behind xs) p (l + 1) (in_mapped (λ k. k + 1) xs l i)
+-- a label after which is a place
+pub each_below : (n : ℕ) (xs : List ℕ) → AreLabelsBelow n (labels_after xs) → (l : ℕ) → In xs l → l + 1 < n
+each_below n xs p l i = members_from_all (λ k. k < n) (labels_after xs) p (l + 1) (in_mapped (λ k. k + 1) xs l i)
 
 -- raised labels fit
-pub raised_fit : (n by most : ℕ) (xs : List ℕ) → HavePlaces n (labels_behind xs) → n + by ≤ most → All (λ l. l + by < most) xs
+pub raised_fit : (n by most : ℕ) (xs : List ℕ) → AreLabelsBelow n (labels_after xs) → n + by ≤ most → All (λ l. l + by < most) xs
 raised_fit n by most xs p le = all_from_members (λ l. l + by < most) xs (λ l i. let lt = each_below n xs p l i in omega (arith, lt, le))
 
--- the labels behind others, marked again, are those others raised
-marked_is : (n : ℕ) (ys : List ℕ) → ((l : ℕ) → In ys l → l + 1 < n) → map (again (n - 1)) (labels_behind ys) ≡ map (λ l. l + n) ys
+-- the labels after others, marked again, are those others raised
+marked_is : (n : ℕ) (ys : List ℕ) → ((l : ℕ) → In ys l → l + 1 < n) → map (again (n - 1)) (labels_after ys) ≡ map (λ l. l + n) ys
 marked_is n [] h = refl
 marked_is n (y ∷ ys) h =
     let lt = h y (inl refl) in
     let some : 0 < y + 1 = omega arith in
     let first : again (n - 1) (y + 1) ≡ y + n = again_is (n - 1) (y + 1) some ∙ omega (arith, lt) in
-    ap (λ z. z ∷ map (again (n - 1)) (labels_behind ys)) first ∙ ap (λ zs. (y + n) ∷ zs) (marked_is n ys (λ l i. h l (inr i)))
+    ap (λ z. z ∷ map (again (n - 1)) (labels_after ys)) first ∙ ap (λ zs. (y + n) ∷ zs) (marked_is n ys (λ l i. h l (inr i)))
 
--- both sets behind, as raised labels
-pub both_are : (n : ℕ) (xs ys : List ℕ) → HavePlaces n (labels_behind ys) → map (λ l. l + 1) xs ++ map (λ l. l + n) ys ≡ both_sets (n - 1) (labels_behind xs) (labels_behind ys)
+-- both sets after, as raised labels
+pub both_are : (n : ℕ) (xs ys : List ℕ) → AreLabelsBelow n (labels_after ys) → map (λ l. l + 1) xs ++ map (λ l. l + n) ys ≡ both_sets (n - 1) (labels_after xs) (labels_after ys)
 both_are n xs ys p = ap (λ zs. map (λ l. l + 1) xs ++ zs) (sym (marked_is n ys (each_below n ys p)))
 
 -- raised labels rise
@@ -52,7 +52,7 @@ joined_rise (x ∷ xs) ys a b h = (
 )
 
 -- so both together ascend
-pub both_ascend : (n : ℕ) (xs ys : List ℕ) → HavePlaces n (labels_behind xs) → IsStrictlyIncreasing xs → IsStrictlyIncreasing ys
+pub both_ascend : (n : ℕ) (xs ys : List ℕ) → AreLabelsBelow n (labels_after xs) → IsStrictlyIncreasing xs → IsStrictlyIncreasing ys
     → IsStrictlyIncreasing (map (λ l. l + 1) xs ++ map (λ l. l + n) ys)
 both_ascend n xs ys p a b =
     increasing_from (map (λ l. l + 1) xs ++ map (λ l. l + n) ys)
@@ -64,5 +64,5 @@ both_ascend n xs ys p a b =
     omega (arith, lt, k.2, m.2)))
 
 -- by its place
-pub places_below : (n : ℕ) (xs : List ℕ) → HavePlaces n (labels_behind xs) → (k : ℕ) → k < length xs → slice_index xs k + 1 < n
+pub places_below : (n : ℕ) (xs : List ℕ) → AreLabelsBelow n (labels_after xs) → (k : ℕ) → k < length xs → slice_index xs k + 1 < n
 places_below n xs p k lt = each_below n xs p (slice_index xs k) (in_from_place xs (slice_index xs k) k lt (get_or_default xs k (slice_index xs k) 0 lt))

@@ -4,23 +4,23 @@ use Rattle.std.specs.Prelude.{◌↔◌, map, slice_index}
 use Rattle.std.specs.Map.{lookup}
 use Rattle.std.proofs.lemmas.List.{get_or-map, length-map}
 use Rattle.nk_store.specs.declared.node.Out.{Out}
-use Rattle.nk_store.specs.Held.{Held, IsId, IsPacket, look, Grows, HasLeaves}
+use Rattle.nk_store.specs.StoreState.{StoreState, IsId, IsStorePacket, look, Grows, HasLeaves}
 use Rattle.nk_apply.specs.Unions.{AreIds, unions}
 use Rattle.nk_apply.proofs.Members.{Has, contains_has, has_contains}
 use Rattle.nk_determ.specs.Exact.{Sends}
 use Rattle.nk_determ.specs.Sets.{SetsGrow}
 use Rattle.nk_determ.specs.States.{StateLeads}
-use Rattle.nk_determ.specs.Pairs.{Node, HavePlaces, AreStates, IsStep}
+use Rattle.nk_determ.specs.Pairs.{Node, AreLabelsBelow, AreStates, IsStep}
 use Rattle.nk_determ.proofs.Sending.{unions_has, has_unions}
 use Rattle.nk_reach.proofs.Kept.{packet_on, packet_back}
 use Rattle.nk_reach.proofs.Growing.{sends_on, sends_back, leads_on, leads_back, sets_same}
-use Rattle.nk_merge.specs.Alike.{SetGives, AreAlike, labels_behind, tag_set}
+use Rattle.nk_merge.specs.Alike.{SetGives, AreAlike, labels_after, tag_set}
 use Rattle.nk_merge.specs.Seen.{DoesTogether, IsSeenAt, AreSeenDiagrams}
 use Rattle.nk_merge.proofs.Growing.{alike_on}
 use Rattle.nk_merge.proofs.Lawful.{alike_on_to}
 
 -- a set that leads where another one does gives what that one gives
-gives_by_leads : (st : Held) (states s t : List ℕ) (x : List ℕ) (w : List (List ℕ)) (y : List ℕ)
+gives_by_leads : (st : StoreState) (states s t : List ℕ) (x : List ℕ) (w : List (List ℕ)) (y : List ℕ)
     → ((z : List ℕ) (k : ℕ) → StateLeads st states s x z k ↔ StateLeads st states t x z k) → SetGives st states s x w y → SetGives st states t x w y
 gives_by_leads st states s t x [] y e h =
     ((t, x), refl, (e y 0).0 (subst (λ (n : Node). StateLeads st states n.0 n.1 y 0) (sym h.1) h.2))
@@ -37,13 +37,13 @@ gives_by_leads st states s t x (z ∷ w) y e h =
     (h.0, (h.1.0, step, h.1.2), h.2)
 
 -- sets with one diagram are alike
-pub one_diagram : (st : Held) (states s t : List ℕ) (d : ℕ) → DoesTogether st states s d → DoesTogether st states t d → AreAlike st states s t
+pub one_diagram : (st : StoreState) (states s t : List ℕ) (d : ℕ) → DoesTogether st states s d → DoesTogether st states t d → AreAlike st states s t
 one_diagram st states s t d a b x r w y = (
   λ g. gives_by_leads st states s t x w y (λ z k. (λ l. (b.sends x z k r).0 ((a.sends x z k r).1 l), λ l. (a.sends x z k r).0 ((b.sends x z k r).1 l))) g,
   λ g. gives_by_leads st states t s x w y (λ z k. (λ l. (a.sends x z k r).0 ((b.sends x z k r).1 l), λ l. (b.sends x z k r).0 ((a.sends x z k r).1 l))) g,
 )
 
-module _ (states labels ds : List ℕ) (p : HavePlaces (length states) (labels_behind labels)) (is : ds ≡ map (λ l. slice_index states (l + 1)) labels) where
+module _ (states labels ds : List ℕ) (p : AreLabelsBelow (length states) (labels_after labels)) (is : ds ≡ map (λ l. slice_index states (l + 1)) labels) where
   -- the state at a place of the list
   long : length ds ≡ length labels
   long = ap length is ∙ length-map labels (λ l. slice_index states (l + 1))
@@ -51,29 +51,29 @@ module _ (states labels ds : List ℕ) (p : HavePlaces (length states) (labels_b
   at : (k : ℕ) → k < length labels → slice_index ds k ≡ slice_index states (slice_index labels k + 1)
   at k lt = ap (λ xs. get_or xs k 0) is ∙ get_or-map (λ l. slice_index states (l + 1)) labels k 0 0 lt
 
-  label : (k m : ℕ) → k < length labels → get_or (labels_behind labels) k m ≡ slice_index labels k + 1
+  label : (k m : ℕ) → k < length labels → get_or (labels_after labels) k m ≡ slice_index labels k + 1
   label k m lt = get_or-map (λ l. l + 1) labels k 0 m lt
 
-  within : (k : ℕ) → k < length labels → k < length (labels_behind labels)
+  within : (k : ℕ) → k < length labels → k < length (labels_after labels)
   within k lt = subst (λ n. k < n) (sym (length-map labels (λ l. l + 1))) lt
 
   placed : (k : ℕ) → k < length labels → slice_index labels k + 1 < length states
   placed k lt = let q = p k 0 (within k lt) in let e = label k 0 lt in omega (arith, q, e)
 
-  -- the states behind labels are diagrams
-  pub behind_ids : (st : Held) → AreIds st states → AreIds st ds
-  behind_ids st ids k lt = let less : k < length labels = omega (arith, lt, long) in subst (λ d. IsId st d) (sym (at k less)) (ids (slice_index labels k + 1) (placed k less))
+  -- the states after labels are diagrams
+  pub after_ids : (st : StoreState) → AreIds st states → AreIds st ds
+  after_ids st ids k lt = let less : k < length labels = omega (arith, lt, long) in subst (λ d. IsId st d) (sym (at k less)) (ids (slice_index labels k + 1) (placed k less))
 
-module _ (old new : Held) (states labels ds : List ℕ) (r : ℕ) (g : Grows old new) (ids : AreIds old states) (p : HavePlaces (length states) (labels_behind labels))
+module _ (old new : StoreState) (states labels ds : List ℕ) (r : ℕ) (g : Grows old new) (ids : AreIds old states) (p : AreLabelsBelow (length states) (labels_after labels))
     (is : ds ≡ map (λ l. slice_index states (l + 1)) labels) (h : HasLeaves new r (λ pk. unions old ds 0 (length ds) pk)) where
-  -- the union of the states behind labels does what they do together
-  pub union_does : DoesTogether new states (labels_behind labels) r
+  -- the union of the states after labels does what they do together
+  pub union_does : DoesTogether new states (labels_after labels) r
   union_does = record {
     id = h.id;
     sends = λ pk y t range. (λ s. forth pk y t (packet_back old new pk g range) s, λ s. back pk y t (packet_back old new pk g range) s);
   }
     where
-      forth : (pk y : List ℕ) (t : ℕ) → IsPacket old pk → Sends new r pk y t → StateLeads new states (labels_behind labels) pk y t
+      forth : (pk y : List ℕ) (t : ℕ) → IsStorePacket old pk → Sends new r pk y t → StateLeads new states (labels_after labels) pk y t
       forth pk y t range s =
           let o : Out = record { act = s.0; target = t } in
           let m : Has (unions old ds 0 (length ds) pk) o = subst (λ os. Has os o) (h.leaf pk range.0) (contains_has _ _ s.1) in
@@ -84,7 +84,7 @@ module _ (old new : Held) (states labels ds : List ℕ) (r : ℕ) (g : Grows old
           let sent : Sends old (slice_index states l) pk y t = (s.0, has_contains _ _ (subst (λ d. Has (look old d pk) o) (at states labels ds p is u.0 lt) u.2), s.2) in
           (l, (u.0, within states labels ds p is u.0 lt, label states labels ds p is u.0 l lt), sends_on old new (slice_index states l) pk y t g (ids l there) sent)
 
-      back : (pk y : List ℕ) (t : ℕ) → IsPacket old pk → StateLeads new states (labels_behind labels) pk y t → Sends new r pk y t
+      back : (pk y : List ℕ) (t : ℕ) → IsStorePacket old pk → StateLeads new states (labels_after labels) pk y t → Sends new r pk y t
       back pk y t range s =
           let l = s.0 in
           let k = s.1.0 in
@@ -98,7 +98,7 @@ module _ (old new : Held) (states labels ds : List ℕ) (r : ℕ) (g : Grows old
           (sent.0, has_contains _ _ (subst (λ os. Has os o) (sym (h.leaf pk range.0)) all), sent.2)
 
 -- what a diagram does together stays as the store grows, and was so before
-pub does_on : (a b : Held) (states set : List ℕ) (d : ℕ) → Grows a b → AreStates a states → HavePlaces (length states) set → DoesTogether a states set d → DoesTogether b states set d
+pub does_on : (a b : StoreState) (states set : List ℕ) (d : ℕ) → Grows a b → AreStates a states → AreLabelsBelow (length states) set → DoesTogether a states set d → DoesTogether b states set d
 does_on a b states set d g ok p k = record {
   id = g.ids d k.id;
   sends = λ pk y t r.
@@ -108,7 +108,7 @@ does_on a b states set d g ok p k = record {
       );
 }
 
-pub does_back : (a b : Held) (states set : List ℕ) (d : ℕ) → Grows a b → AreStates a states → HavePlaces (length states) set → IsId a d → DoesTogether b states set d → DoesTogether a states set d
+pub does_back : (a b : StoreState) (states set : List ℕ) (d : ℕ) → Grows a b → AreStates a states → AreLabelsBelow (length states) set → IsId a d → DoesTogether b states set d → DoesTogether a states set d
 does_back a b states set d g ok p id k = record {
   id = id;
   sends = λ pk y t r.
@@ -119,15 +119,15 @@ does_back a b states set d g ok p id k = record {
 }
 
 -- nothing is seen in the beginning
-pub none_seen : (st : Held) (states : List ℕ) (ss : List (List ℕ)) (tags firsts : List ℕ) → AreSeenDiagrams st states ss tags firsts []
+pub none_seen : (st : StoreState) (states : List ℕ) (ss : List (List ℕ)) (tags firsts : List ℕ) → AreSeenDiagrams st states ss tags firsts []
 none_seen st states ss tags firsts d c e = absurd (nothing e)
   where
     nothing : lookup (eqb d) [] ≡ Some c → ⊥
     nothing e = cc
 
-module _ (a b : Held) (ss more : List (List ℕ)) (states tags firsts : List ℕ) (g : Grows a b) (sets : SetsGrow ss more) (ok : AreStates a states)
+module _ (a b : StoreState) (ss more : List (List ℕ)) (states tags firsts : List ℕ) (g : Grows a b) (sets : SetsGrow ss more) (ok : AreStates a states)
     (known : (c : ℕ) → c < length firsts → slice_index tags (slice_index firsts c) < length ss)
-    (places : (c : ℕ) → c < length firsts → HavePlaces (length states) (labels_behind (tag_set ss tags (slice_index firsts c)))) where
+    (places : (c : ℕ) → c < length firsts → AreLabelsBelow (length states) (labels_after (tag_set ss tags (slice_index firsts c)))) where
   -- what was seen stays so as the store and the sets grow
   pub seen_on : (entries : List (ℕ × ℕ)) → AreSeenDiagrams a states ss tags firsts entries → AreSeenDiagrams b states more tags firsts entries
   seen_on entries k d c e =
@@ -136,12 +136,12 @@ module _ (a b : Held) (ss more : List (List ℕ)) (states tags firsts : List ℕ
         id = g.ids d s.id;
         class = s.class;
         alike = λ set p does.
-            subst (λ (z : List ℕ). AreAlike b states (labels_behind z) set) (sym (sets_same ss more (slice_index tags (slice_index firsts c)) sets (known c s.class)))
-            (alike_on a b states g ok (labels_behind (tag_set ss tags (slice_index firsts c))) set (places c s.class) p (s.alike set p (does_back a b states set d g ok p s.id does)));
+            subst (λ (z : List ℕ). AreAlike b states (labels_after z) set) (sym (sets_same ss more (slice_index tags (slice_index firsts c)) sets (known c s.class)))
+            (alike_on a b states g ok (labels_after (tag_set ss tags (slice_index firsts c))) set (places c s.class) p (s.alike set p (does_back a b states set d g ok p s.id does)));
       }
 
 -- and with one more first member
-pub seen_longer : (st : Held) (states : List ℕ) (ss : List (List ℕ)) (tags firsts longer : List ℕ) (entries : List (ℕ × ℕ))
+pub seen_longer : (st : StoreState) (states : List ℕ) (ss : List (List ℕ)) (tags firsts longer : List ℕ) (entries : List (ℕ × ℕ))
     → ((c : ℕ) → c < length firsts → (c < length longer) × (slice_index longer c ≡ slice_index firsts c))
     → AreSeenDiagrams st states ss tags firsts entries → AreSeenDiagrams st states ss tags longer entries
 seen_longer st states ss tags firsts longer entries same k d c e =
@@ -150,14 +150,14 @@ seen_longer st states ss tags firsts longer entries same k d c e =
     record {
       id = s.id;
       class = w.0;
-      alike = λ set p does. subst (λ j. AreAlike st states (labels_behind (tag_set ss tags j)) set) (sym w.1) (s.alike set p does);
+      alike = λ set p does. subst (λ j. AreAlike st states (labels_after (tag_set ss tags j)) set) (sym w.1) (s.alike set p does);
     }
 
 -- the diagram of a tag of that class is seen
-pub seen_one : (st : Held) (states : List ℕ) (ss : List (List ℕ)) (tags firsts : List ℕ) (d c : ℕ) (set : List ℕ) → c < length firsts
-    → DoesTogether st states set d → AreAlike st states (labels_behind (tag_set ss tags (slice_index firsts c))) set → IsSeenAt st states ss tags firsts d c
+pub seen_one : (st : StoreState) (states : List ℕ) (ss : List (List ℕ)) (tags firsts : List ℕ) (d c : ℕ) (set : List ℕ) → c < length firsts
+    → DoesTogether st states set d → AreAlike st states (labels_after (tag_set ss tags (slice_index firsts c))) set → IsSeenAt st states ss tags firsts d c
 seen_one st states ss tags firsts d c set lt mine alike = record {
   id = mine.id;
   class = lt;
-  alike = λ other p does. alike_on_to st states (labels_behind (tag_set ss tags (slice_index firsts c))) set other alike (one_diagram st states set other d mine does);
+  alike = λ other p does. alike_on_to st states (labels_after (tag_set ss tags (slice_index firsts c))) set other alike (one_diagram st states set other d mine does);
 }

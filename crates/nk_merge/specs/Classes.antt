@@ -21,6 +21,6 @@ pub record IsEquivalence (Alike : ℕ → ℕ → Type 0) : Type 0 where
   pub back : (i j : ℕ) → Alike i j → Alike j i
   pub on : (i j k : ℕ) → Alike i j → Alike j k → Alike i k
 
--- the first members with the next one, where it is of the class behind all others
+-- the first members with the next one, where it is of the class after all others
 abbrev pub with_first_member : List ℕ → ℕ → ℕ → List ℕ
 with_first_member firsts i c = cond (eqb c (length firsts)) (firsts ++ i ∷ []) firsts

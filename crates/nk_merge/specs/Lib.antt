@@ -1,7 +1,7 @@
 pub mod Alike
 pub mod Classes
-pub mod Twice
-pub mod Apart
+pub mod DisjointCopies
+pub mod Distinguish
 pub mod Seen
 pub mod Joined
 pub mod SumsAfter

@@ -1,17 +1,17 @@
 //! The classes of tags.
 ghost use Rattle.std.specs.Prelude.{◌≡◌, ◌+◌, ◌^◌, ◌<◌, ◌≤◌, ℕ, suc, eqb, [], ◌∷◌, ◌++◌, All, IfOk, OnOk, length, slice_index, slice_index_or};
 ghost use Rattle.std.specs.Map.{lookup};
-ghost use Rattle.nk_store.specs.Held.{Grows};
+ghost use Rattle.nk_store.specs.StoreState.{Grows};
 ghost use Rattle.nk_determ.specs.Sets.{SetsGrow};
-ghost use Rattle.nk_reach.specs.Pairs.{HavePlaces};
-ghost use Rattle.nk_merge.specs.Alike.{labels_behind, tag_set, AreAlike, AreTagsAlike};
+ghost use Rattle.nk_reach.specs.Pairs.{AreLabelsBelow};
+ghost use Rattle.nk_merge.specs.Alike.{labels_after, tag_set, AreAlike, AreTagsAlike};
 ghost use Rattle.nk_merge.specs.Classes.{AreClasses, AreFirsts, with_first_member};
 ghost use Rattle.nk_merge.specs.Seen.{DoesTogether, AreSeenDiagrams};
-ghost use Rattle.nk_merge.specs.Twice.{IsTwice};
+ghost use Rattle.nk_merge.specs.DisjointCopies.{IsDisjointCopy};
 
-use crate::compared::are_alike;
-use crate::together::diagram_behind;
-use crate::twice::Twice;
+use crate::disjoint_copy::DisjointCopy;
+use crate::distinguish::are_alike;
+use crate::together::diagram_after;
 use nk_determ::{SetId, Sets};
 use nk_field::List;
 use nk_store::{Id, Store};
@@ -27,23 +27,23 @@ pub struct Classes {
     pub firsts: List<usize>,
 }
 
-/// The class of each tag: two tags are of one class where what is left behind their sets gives the same histories from every
+/// The class of each tag: two tags are of one class where what is left after their sets gives the same histories from every
 /// packet in range. `tags` are the tags' sets in their order. The only error is that memory ran out; then the store and the sets have
-/// only grown, `twice` keeps its states, and nothing is said of its goal.
+/// only grown, `disjoint` keeps its states, and nothing is said of its goal.
 pub fn classes_of(
     st: &mut Store,
     ss: &mut Sets,
     states: &[Id],
-    twice: &mut Twice,
+    disjoint: &mut DisjointCopy,
     tags: &[SetId],
 ) -> Result<Classes, AllocError>
-    requires twice { IsTwice st.old states.now twice.old }
+    requires disjoint { IsDisjointCopy st.old states.now disjoint.old }
     requires known { All (λ s. s < length ss.old) tags.now }
-    requires places { All (λ s. HavePlaces (length states.now) (labels_behind (slice_index_or ss.old s []))) tags.now }
+    requires places { All (λ s. AreLabelsBelow (length states.now) (labels_after (slice_index_or ss.old s []))) tags.now }
     ensures grows { Grows st.old st.new }
     ensures sets { SetsGrow ss.old ss.new }
-    ensures twice { OnOk result (IsTwice st.new states.now twice.new) }
-    ensures rows { twice.new.rows ≡ twice.old.rows }
+    ensures disjoint { OnOk result (IsDisjointCopy st.new states.now disjoint.new) }
+    ensures rows { disjoint.new.rows ≡ disjoint.old.rows }
     ensures classes { IfOk result (λ c. AreClasses (AreTagsAlike st.old states.now ss.old tags.now) (length tags.now) c.numbers) }
     ensures firsts { IfOk result (λ c. AreFirsts c.numbers c.firsts) }
 {
@@ -54,9 +54,9 @@ pub fn classes_of(
     let mut seen = HashMap::new(st.alloc());
     for i in 0..tags.len() {
         let s = tags[i];
-        let d = diagram_behind(st, ss, states, s)?;
+        let d = diagram_after(st, ss, states, s)?;
         let firsts = all.firsts.as_slice();
-        let c = class_by(st, ss, states, twice, tags, firsts, &seen, d, s)?;
+        let c = class_by(st, ss, states, disjoint, tags, firsts, &seen, d, s)?;
         add(&mut all, i, c)?;
         seen.insert(d, c)?;
     }
@@ -68,35 +68,35 @@ fn class_by(
     st: &mut Store,
     ss: &mut Sets,
     states: &[Id],
-    twice: &mut Twice,
+    disjoint: &mut DisjointCopy,
     tags: &[SetId],
     firsts: &[usize],
     seen: &HashMap<Id, usize>,
     d: Id,
     s: SetId,
 ) -> Result<usize, AllocError>
-    requires twice { IsTwice st.old states.now twice.old }
+    requires disjoint { IsDisjointCopy st.old states.now disjoint.old }
     requires known { All (λ s. s < length ss.old) tags.now }
-    requires places { All (λ s. HavePlaces (length states.now) (labels_behind (slice_index_or ss.old s []))) tags.now }
+    requires places { All (λ s. AreLabelsBelow (length states.now) (labels_after (slice_index_or ss.old s []))) tags.now }
     requires firsts { All (λ i. i < length tags.now) firsts.now }
     requires tag { s < length ss.old }
-    requires tag_places { HavePlaces (length states.now) (labels_behind (slice_index_or ss.old s [])) }
-    requires diagram { DoesTogether st.old states.now (labels_behind (slice_index_or ss.old s [])) d }
+    requires tag_places { AreLabelsBelow (length states.now) (labels_after (slice_index_or ss.old s [])) }
+    requires diagram { DoesTogether st.old states.now (labels_after (slice_index_or ss.old s [])) d }
     requires seen { AreSeenDiagrams st.old states.now ss.old tags.now firsts.now seen.now.entries }
     ensures grows { Grows st.old st.new }
     ensures sets { SetsGrow ss.old ss.new }
-    ensures twice { OnOk result (IsTwice st.new states.now twice.new) }
-    ensures rows { twice.new.rows ≡ twice.old.rows }
+    ensures disjoint { OnOk result (IsDisjointCopy st.new states.now disjoint.new) }
+    ensures rows { disjoint.new.rows ≡ disjoint.old.rows }
     ensures within { IfOk result (λ c. c ≤ length firsts.now) }
     ensures yes { IfOk result (λ c. c < length firsts.now →
-        AreAlike st.old states.now (labels_behind (tag_set ss.old tags.now (slice_index firsts.now c))) (labels_behind (slice_index_or ss.old s []))) }
+        AreAlike st.old states.now (labels_after (tag_set ss.old tags.now (slice_index firsts.now c))) (labels_after (slice_index_or ss.old s []))) }
     ensures none { IfOk result (λ c. c ≡ length firsts.now → (b : ℕ) → b < c →
-        AreAlike st.old states.now (labels_behind (tag_set ss.old tags.now (slice_index firsts.now b))) (labels_behind (slice_index_or ss.old s [])) → ⊥) }
+        AreAlike st.old states.now (labels_after (tag_set ss.old tags.now (slice_index firsts.now b))) (labels_after (slice_index_or ss.old s [])) → ⊥) }
 {
     if let Some(place) = seen_at(seen, d) {
         return Ok(place);
     }
-    class_of(st, ss, states, twice, tags, firsts, s)
+    class_of(st, ss, states, disjoint, tags, firsts, s)
 }
 
 /// What the table has for a diagram.
@@ -111,36 +111,36 @@ fn class_of(
     st: &mut Store,
     ss: &mut Sets,
     states: &[Id],
-    twice: &mut Twice,
+    disjoint: &mut DisjointCopy,
     tags: &[SetId],
     firsts: &[usize],
     s: SetId,
 ) -> Result<usize, AllocError>
-    requires twice { IsTwice st.old states.now twice.old }
+    requires disjoint { IsDisjointCopy st.old states.now disjoint.old }
     requires known { All (λ s. s < length ss.old) tags.now }
-    requires places { All (λ s. HavePlaces (length states.now) (labels_behind (slice_index_or ss.old s []))) tags.now }
+    requires places { All (λ s. AreLabelsBelow (length states.now) (labels_after (slice_index_or ss.old s []))) tags.now }
     requires firsts { All (λ i. i < length tags.now) firsts.now }
     requires tag { s < length ss.old }
-    requires tag_places { HavePlaces (length states.now) (labels_behind (slice_index_or ss.old s [])) }
+    requires tag_places { AreLabelsBelow (length states.now) (labels_after (slice_index_or ss.old s [])) }
     ensures grows { Grows st.old st.new }
     ensures sets { SetsGrow ss.old ss.new }
-    ensures twice { OnOk result (IsTwice st.new states.now twice.new) }
-    ensures rows { twice.new.rows ≡ twice.old.rows }
+    ensures disjoint { OnOk result (IsDisjointCopy st.new states.now disjoint.new) }
+    ensures rows { disjoint.new.rows ≡ disjoint.old.rows }
     ensures within { IfOk result (λ c. c ≤ length firsts.now) }
     ensures yes { IfOk result (λ c. c < length firsts.now →
-        AreAlike st.old states.now (labels_behind (tag_set ss.old tags.now (slice_index firsts.now c))) (labels_behind (slice_index_or ss.old s []))) }
+        AreAlike st.old states.now (labels_after (tag_set ss.old tags.now (slice_index firsts.now c))) (labels_after (slice_index_or ss.old s []))) }
     ensures none { IfOk result (λ c. c ≡ length firsts.now → (b : ℕ) → b < c →
-        AreAlike st.old states.now (labels_behind (tag_set ss.old tags.now (slice_index firsts.now b))) (labels_behind (slice_index_or ss.old s [])) → ⊥) }
+        AreAlike st.old states.now (labels_after (tag_set ss.old tags.now (slice_index firsts.now b))) (labels_after (slice_index_or ss.old s [])) → ⊥) }
 {
     for c in 0..firsts.len() {
-        if are_alike(st, ss, states, twice, tags[firsts[c]], s)? {
+        if are_alike(st, ss, states, disjoint, tags[firsts[c]], s)? {
             return Ok(c);
         }
     }
     Ok(firsts.len())
 }
 
-/// Puts the next tag into the class at that place, a new one behind the last.
+/// Puts the next tag into the class at that place, a new one after the last.
 fn add(all: &mut Classes, i: usize, c: usize) -> Result<(), AllocError>
     requires within { c ≤ length all.old.firsts }
     requires few { length all.old.firsts ≤ i }

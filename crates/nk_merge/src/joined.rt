@@ -2,15 +2,15 @@
 ghost use Rattle.std.specs.Prelude.{◌≡◌, ◌+◌, ◌-◌, ◌<◌, ◌^◌, ◌++◌, [], All, IfOk, OnOk, map, length, slice_index_or};
 ghost use Rattle.std.specs.List.Sorted.{IsStrictlyIncreasing};
 ghost use Rattle.nk_determ.specs.Sets.{SetsGrow, IsSetOf};
-ghost use Rattle.nk_reach.specs.Pairs.{HavePlaces};
-ghost use Rattle.nk_merge.specs.Alike.{labels_behind};
+ghost use Rattle.nk_reach.specs.Pairs.{AreLabelsBelow};
+ghost use Rattle.nk_merge.specs.Alike.{labels_after};
 ghost use Rattle.nk_merge.specs.Joined.{both_sets};
 
 use nk_determ::{SetId, Sets};
 use nk_field::List;
 use std::alloc::{AllocError, Global};
 
-/// The labels behind two sets as one set, those behind the second one marked again behind so many states.
+/// The labels after two sets as one set, those after the second one marked again after so many states.
 pub fn joined(
     alloc: Global,
     ss: &mut Sets,
@@ -20,11 +20,11 @@ pub fn joined(
 ) -> Result<SetId, AllocError>
     requires first { s < length ss.old }
     requires second { t < length ss.old }
-    requires first_places { HavePlaces count (labels_behind (slice_index_or ss.old s [])) }
-    requires second_places { HavePlaces count (labels_behind (slice_index_or ss.old t [])) }
+    requires first_places { AreLabelsBelow count (labels_after (slice_index_or ss.old s [])) }
+    requires second_places { AreLabelsBelow count (labels_after (slice_index_or ss.old t [])) }
     requires few { count + count < 2 ^ 64 }
     ensures sets { SetsGrow ss.old ss.new }
-    ensures is { IfOk result (λ i. IsSetOf ss.new i (both_sets (count - 1) (labels_behind (slice_index_or ss.old s [])) (labels_behind (slice_index_or ss.old t [])))) }
+    ensures is { IfOk result (λ i. IsSetOf ss.new i (both_sets (count - 1) (labels_after (slice_index_or ss.old s [])) (labels_after (slice_index_or ss.old t [])))) }
 {
     let labels = both_labels(alloc, ss, s, t, count)?;
     ss.intern(labels)
@@ -40,10 +40,10 @@ fn both_labels(
 ) -> Result<List<u64>, AllocError>
     requires first { s < length ss.now }
     requires second { t < length ss.now }
-    requires first_places { HavePlaces count (labels_behind (slice_index_or ss.now s [])) }
-    requires second_places { HavePlaces count (labels_behind (slice_index_or ss.now t [])) }
+    requires first_places { AreLabelsBelow count (labels_after (slice_index_or ss.now s [])) }
+    requires second_places { AreLabelsBelow count (labels_after (slice_index_or ss.now t [])) }
     requires few { count + count < 2 ^ 64 }
-    ensures is { IfOk result (λ r. r ≡ both_sets (count - 1) (labels_behind (slice_index_or ss.now s [])) (labels_behind (slice_index_or ss.now t []))) }
+    ensures is { IfOk result (λ r. r ≡ both_sets (count - 1) (labels_after (slice_index_or ss.now s [])) (labels_after (slice_index_or ss.now t []))) }
     ensures ascend { IfOk result (λ r. IsStrictlyIncreasing r) }
 {
     let mut labels = List::new(alloc);

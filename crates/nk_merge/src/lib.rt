@@ -2,12 +2,12 @@
 #![tactic(auto)]
 
 mod classes;
-mod compared;
+mod disjoint_copy;
+mod distinguish;
 mod joined;
 pub mod laws;
 mod together;
-mod twice;
 
 pub use classes::{Classes, classes_of};
-pub use compared::apart;
-pub use twice::Twice;
+pub use disjoint_copy::DisjointCopy;
+pub use distinguish::distinguish;

@@ -3,8 +3,8 @@ use Rattle.std.proofs.Common.{◌≡◌, ℕ, ◌≤◌, Bool, true, false, None
 use Rattle.std.specs.Prelude.{nat_lt}
 use Rattle.nk_field.specs.Packet.{FieldTable}
 use Rattle.nk_policy.specs.Policy.{depth_of, size_of}
-use Rattle.nk_lex.specs.declared.word.Word.{Word}
-use Rattle.nk_lex.specs.declared.word.Number.{Number}
+use Rattle.nk_lex.specs.declared.ident.Ident.{Ident}
+use Rattle.nk_lex.specs.declared.ident.Number.{Number}
 use Rattle.nk_declare.proofs.Checks.{none_both}
 use Rattle.nk_grammar.specs.Tree.{Tree}
 use Rattle.nk_names.specs.declared.fault.FaultKind.{FaultKind}
@@ -26,13 +26,13 @@ pub in_bound : (most : ℕ) (n : Number) → value_above most n ≡ None → n.v
 in_bound most n h = at_most most n.value (not_wrong (nat_lt most n.value) kind.ValueOutOfRange n.line h)
 
 -- what is known of a policy that has no fault
-pub record IsFaultless (fields : FieldTable) (lets : Lets) (w : Word) (t : Tree) : Type 0 where
+pub record IsFaultless (fields : FieldTable) (lets : Lets) (w : Ident) (t : Tree) : Type 0 where
   pub known : unknown_in fields lets t ≡ None
   pub placed : misplaced_in fields lets t ≡ None
   pub shallow : depth_of (policy_for fields lets t) ≤ 256
   pub small : size_of (policy_for fields lets t) ≤ 1048576
 
-pub faultless : (fields : FieldTable) (lets taken : Lets) (w : Word) (t : Tree) (line : ℕ)
+pub faultless : (fields : FieldTable) (lets taken : Lets) (w : Ident) (t : Tree) (line : ℕ)
     → named_fault fields lets taken w t line ≡ None → IsFaultless fields lets w t
 faultless fields lets taken w t line h =
     let r1 = none_both _ _ h in

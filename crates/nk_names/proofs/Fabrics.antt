@@ -11,8 +11,8 @@ use Rattle.nk_field.specs.Packet.{FieldTable}
 use Rattle.nk_topo.specs.Topology.{Topology, SwitchPorts, is_port, is_target, link_from, target_among, with_switch, ascending}
 use Rattle.nk_topo.proofs.Orders.{any_insert}
 use Rattle.nk_policy.specs.Policy.{Policy}
-use Rattle.nk_lex.specs.declared.word.Word.{Word}
-use Rattle.nk_lex.specs.declared.word.Number.{Number}
+use Rattle.nk_lex.specs.declared.ident.Ident.{Ident}
+use Rattle.nk_lex.specs.declared.ident.Number.{Number}
 use Rattle.nk_lex.specs.Faults.{first_of}
 use Rattle.nk_declare.specs.declared.fault.DeclareFault.TheVariants as fault
 use Rattle.nk_declare.specs.Declarations.{MaybeFault, fault_if, above, links_ends, link_fault}
@@ -327,7 +327,7 @@ virtual_with_fabric fields topo fabrics links name p is h = record {
 }
 
 -- one more virtual link
-pub virtual_with_link : (fields : FieldTable) (topo : Topology) (fabrics : Lets) (links : List VirtualLink) (a m b n : Number) (w : Word)
+pub virtual_with_link : (fields : FieldTable) (topo : Topology) (fabrics : Lets) (links : List VirtualLink) (a m b n : Number) (w : Ident)
     → IsFree topo links a m b n → IsLet fields (virtual_over fabrics a m b n w).fabric
     → AreVirtual fields topo fabrics links → AreVirtual fields topo fabrics (links ++ virtual_over fabrics a m b n w ∷ [])
 virtual_with_link fields topo fabrics links a m b n w f is h =

@@ -7,14 +7,14 @@ use Rattle.std.proofs.lemmas.List.Elements.{All-nil, All-push, recursion_from_Al
 use Rattle.nk_field.specs.Packet.{FieldTable, IsFieldTable, IsValue, built_in, field_named, with_field}
 use Rattle.nk_policy.specs.Policy.{Policy, marked_from, sum_of, no_part}
 use Rattle.nk_topo.specs.Topology.{Topology, Link, no_topology, with_link}
-use Rattle.nk_lex.specs.declared.word.Word.{Word}
+use Rattle.nk_lex.specs.declared.ident.Ident.{Ident}
 use Rattle.nk_lex.specs.Faults.{and_then}
 use Rattle.nk_grammar.specs.Tree.{Tree}
 use Rattle.nk_grammar.specs.File.{Declaration, field, tag, switch, declared_link, definition, fabric, virtual_link, IsWritten}
 use Rattle.nk_names.specs.declared.fault.NamesError.{NamesError}
 use Rattle.nk_names.specs.Declaring.{HasLets}
 use Rattle.nk_names.specs.Meant.{Lets, policy_for}
-use Rattle.nk_names.specs.ProgramOf.{Said, nothing_said, declared_part, said_with, said_after, program_of, named_fault, virtual_fault}
+use Rattle.nk_names.specs.ProgramOf.{DeclaredProgram, empty_program, declared_part, program_declaring, program_after, program_of, named_fault, virtual_fault}
 use Rattle.nk_names.specs.ProgramValue.{IsLet, VirtualLink, AreVirtual}
 use Rattle.nk_policy.specs.Ranges.{IsOverFields}
 use Rattle.nk_names.specs.Complements.{NegatesPredicates}
@@ -52,7 +52,7 @@ one_wider fields name max f v h =
     (omega (arith, h.0, length-append fields.maxima (max ∷ [])), omega (arith, h.1, kept))
 
 -- the policy of a tree without fault is one of a program
-let_is : (fields : FieldTable) (lets taken : Lets) (w : Word) (t : Tree) (line : ℕ) → IsFieldTable fields
+let_is : (fields : FieldTable) (lets taken : Lets) (w : Ident) (t : Tree) (line : ℕ) → IsFieldTable fields
     → named_fault fields lets taken w t line ≡ None → All (λ l. IsLet fields l.1) lets → IsLet fields (marked_from (policy_for fields lets t) 1)
 let_is fields lets taken w t line table none known =
     let f = faultless fields lets taken w t line none in
@@ -91,7 +91,7 @@ drop_is fields = record {
 }
 
 -- one more declaration keeps that
-lets_kept : (s t : Said) (d : Declaration) → HasLets s → IsWritten d → said_with s d ≡ Ok t → HasLets t
+lets_kept : (s t : DeclaredProgram) (d : Declaration) → HasLets s → IsWritten d → program_declaring s d ≡ Ok t → HasLets t
 lets_kept s t (field w n) good written h =
     let r = beside_is s (declared_with (declared_part s) (declare.field w n)) t h in
     let u = unless_ok _ _ r.0 r.1 in
@@ -160,7 +160,7 @@ lets_kept s t (virtual_link a m b n w) good written h =
     })
 
 -- before the first declaration
-none_has_lets : HasLets nothing_said
+none_has_lets : HasLets empty_program
 none_has_lets = record {
   table = built_in_writable.table;
   maxima = built_in_writable.maxima;
@@ -169,22 +169,22 @@ none_has_lets = record {
 }
 
 -- what declarations say that were read from the tokens of a text
-pub said_has_lets : (ds : List Declaration) (s : Said) → All IsWritten ds → program_of ds ≡ Ok s → HasLets s
-said_has_lets ds s written h =
-    all_said HasLets IsWritten lets_kept ds nothing_said s none_has_lets (recursion_from_All IsWritten ds written) h
+pub program_has_lets : (ds : List Declaration) (s : DeclaredProgram) → All IsWritten ds → program_of ds ≡ Ok s → HasLets s
+program_has_lets ds s written h =
+    all_said HasLets IsWritten lets_kept ds empty_program s none_has_lets (recursion_from_All IsWritten ds written) h
 
--- one more declaration behind others
-pub one_more_said : (ds : List Declaration) (d : Declaration) (s : Said)
-    → said_after (ds ++ d ∷ []) s ≡ and_then (said_after ds s) (λ x. said_with x d)
-one_more_said [] d s = alone (said_with s d)
+-- one more declaration after others
+pub program_one_more : (ds : List Declaration) (d : Declaration) (s : DeclaredProgram)
+    → program_after (ds ++ d ∷ []) s ≡ and_then (program_after ds s) (λ x. program_declaring x d)
+program_one_more [] d s = alone (program_declaring s d)
   where
-    alone : (r : Result Said NamesError) → and_then r (said_after []) ≡ r
+    alone : (r : Result DeclaredProgram NamesError) → and_then r (program_after []) ≡ r
     alone (Ok x) = refl
     alone (Err e) = refl
-one_more_said (c ∷ ds) d s = by (said_with s c) (one_more_said ds d)
+program_one_more (c ∷ ds) d s = by (program_declaring s c) (program_one_more ds d)
   where
-    by : (r : Result Said NamesError)
-        → ((x : Said) → said_after (ds ++ d ∷ []) x ≡ and_then (said_after ds x) (λ y. said_with y d))
-        → and_then r (said_after (ds ++ d ∷ [])) ≡ and_then (and_then r (said_after ds)) (λ y. said_with y d)
+    by : (r : Result DeclaredProgram NamesError)
+        → ((x : DeclaredProgram) → program_after (ds ++ d ∷ []) x ≡ and_then (program_after ds x) (λ y. program_declaring y d))
+        → and_then r (program_after (ds ++ d ∷ [])) ≡ and_then (and_then r (program_after ds)) (λ y. program_declaring y d)
     by (Ok x) h = h x
     by (Err e) h = refl

@@ -7,8 +7,8 @@ use Rattle.std.proofs.lemmas.List.Quantifiers.{position-Some}
 use Rattle.nk_field.specs.Packet.{FieldTable, IsFieldTable, IsValue, field_named}
 use Rattle.nk_policy.specs.Policy.{Policy, is_predicate}
 use Rattle.nk_policy.specs.Policy as policy
-use Rattle.nk_lex.specs.declared.word.Word.{Word}
-use Rattle.nk_lex.specs.declared.word.Number.{Number}
+use Rattle.nk_lex.specs.declared.ident.Ident.{Ident}
+use Rattle.nk_lex.specs.declared.ident.Number.{Number}
 use Rattle.nk_grammar.specs.Tree.{Tree, Trees, name_of, test, range, assign, sum_of, seq_of, not_of, star_of, dup, link, no_part, part}
 use Rattle.nk_names.specs.declared.fault.FaultKind.TheVariants as kind
 use Rattle.nk_names.specs.Meant.{Lets, policy_among, no_value, no_range, place_of_field, most_in, policy_for, policies_for, unknown_in, unknown_among, misplaced_in, misplaced_among}
@@ -54,7 +54,7 @@ both_same (suc (suc k)) lt = absurd (omega (arith, lt))
 
 module _ (fields : FieldTable) (table : IsFieldTable fields) where
   -- a name and a number without fault are a field and a value of it
-  value_is : (w : Word) (n : Number) → no_value fields w n ≡ None → IsValue fields (place_of_field fields w) n.value
+  value_is : (w : Ident) (n : Number) → no_value fields w n ≡ None → IsValue fields (place_of_field fields w) n.value
   value_is w n h =
       let r = none_both _ _ h in
       let found : field_named fields w.text ≡ Some (place_of_field fields w) = some_of (field_named fields w.text) (not_wrong _ kind.UnknownField w.line r.0) in
@@ -62,7 +62,7 @@ module _ (fields : FieldTable) (table : IsFieldTable fields) where
       (omega (arith, at.0, table.named), in_bound (most_in fields w) n r.1)
 
   -- and a name and two numbers are a field and two values of it
-  range_is : (w : Word) (low high : Number) → no_range fields w low high ≡ None
+  range_is : (w : Ident) (low high : Number) → no_range fields w low high ≡ None
       → IsValue fields (place_of_field fields w) low.value × IsValue fields (place_of_field fields w) high.value
   range_is w low high h =
       let r = none_both _ _ h in

@@ -11,11 +11,11 @@ use Rattle.nk_names.specs.Shape.{shape_of}
 use Rattle.nk_names.specs.Meant.{policy_among}
 
 module _ {A : Type 0} (test : A → Bool) where
-  -- one more element behind the others
-  pub place_behind : (xs : List A) (i : ℕ) (y : A)
+  -- one more element after the others
+  pub place_after : (xs : List A) (i : ℕ) (y : A)
       → position_from test i (xs ++ y ∷ []) ≡ option_or (position_from test i xs) (cond (test y) (Some (i + length xs)) None)
-  place_behind [] i y = ap (λ k. cond (test y) (Some k) None) (omega arith)
-  place_behind (x ∷ xs) i y = later (test x) (place_behind xs (i + 1) y)
+  place_after [] i y = ap (λ k. cond (test y) (Some k) None) (omega arith)
+  place_after (x ∷ xs) i y = later (test x) (place_after xs (i + 1) y)
     where
       later : (b : Bool) → position_from test (i + 1) (xs ++ y ∷ []) ≡ option_or (position_from test (i + 1) xs) (cond (test y) (Some ((i + 1) + length xs)) None)
           → cond b (Some i) (position_from test (i + 1) (xs ++ y ∷ [])) ≡ option_or (cond b (Some i) (position_from test (i + 1) xs)) (cond (test y) (Some (i + suc (length xs))) None)
@@ -105,7 +105,7 @@ shape_at name ls shapes k s known h is =
     ∙ ap (λ j. Some (shape_of (get_or ls j first).1)) place
     ∙ ap (option_map shape_of) (sym r.3)
 
--- nothing behind what is found
+-- nothing after what is found
 or_none : {A : Type 0} (o : Option A) → option_or o None ≡ o
 or_none None = refl
 or_none (Some x) = refl
@@ -119,7 +119,7 @@ placed_with name ls y f g here other placed is new q =
     by_test (bytes_eq name q) refl
     ∙ ap (λ n. option_or (position_from (λ e. bytes_eq e.0 q) 0 ls) (cond (bytes_eq n q) (Some (length ls)) None)) (sym is)
     ∙ ap (λ k. option_or (position_from (λ e. bytes_eq e.0 q) 0 ls) (cond (bytes_eq y.0 q) (Some k) None)) (zero-plus (length ls))
-    ∙ sym (place_behind (λ e. bytes_eq e.0 q) ls 0 y)
+    ∙ sym (place_after (λ e. bytes_eq e.0 q) ls 0 y)
   where
     zero-plus : (n : ℕ) → n ≡ 0 + n
     zero-plus n = omega arith

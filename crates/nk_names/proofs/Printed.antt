@@ -4,8 +4,8 @@ use Rattle.nk_field.specs.Packet.{FieldTable}
 use Rattle.nk_lex.specs.Spelling.{Sign, Lexeme, bytes_of, text_of}
 use Rattle.nk_policy.specs.Policy.{Policy, Policies, test, range, assign, sum_of, seq_of, not_of, star_of, dup, link, no_part, part, is_predicate}
 use Rattle.nk_policy.specs.Text.{is_sum, is_seq, is_star, enclosed, name_of, pol_bytes, sum_bytes, seq_bytes}
-use Rattle.nk_lex.specs.declared.word.Word.{Word}
-use Rattle.nk_lex.specs.declared.word.Number.{Number}
+use Rattle.nk_lex.specs.declared.ident.Ident.{Ident}
+use Rattle.nk_lex.specs.declared.ident.Number.{Number}
 use Rattle.nk_grammar.specs.Grammar.{Pol, Term, Factor, Atom, one_term, plus, one_factor, semi, plain, starred, written_not, written_id, written_drop, written_dup, written_test, written_range, written_set, written_link, paren}
 use Rattle.nk_grammar.specs.Text.{lexemes_of_pol, lexemes_of_term, lexemes_of_factor, lexemes_of_atom}
 use Rattle.nk_names.specs.Complements.{NegatesPredicates, AllNegatePredicates}
@@ -46,7 +46,7 @@ atom_from (a_star f) = paren (one_term (one_factor f))
 atom_from (an_atom a) = a
 
 -- the name of a field, and a number, on a line
-abbrev pub word_for : ℕ → FieldTable → ℕ → Word
+abbrev pub word_for : ℕ → FieldTable → ℕ → Ident
 word_for line fields f = record { text = name_of fields f; line = line }
 
 abbrev pub number_for : ℕ → ℕ → Number
@@ -88,7 +88,7 @@ abbrev mutual
 
 -- ---- its text
 
--- texts one behind the other
+-- texts one after the other
 pub text_append : (xs ys : List Lexeme) → text_of (xs ++ ys) ≡ text_of xs ++ text_of ys
 text_append [] ys = refl
 text_append (x ∷ xs) ys =
@@ -227,7 +227,7 @@ module _ (line : ℕ) (fields : FieldTable) where
       either false true = refl
       either false false = refl
 
-  -- three texts one behind the other
+  -- three texts one after the other
   test_text : (name digits : List ℕ) → name ++ (codes "=" ++ (digits ++ [])) ≡ name ++ codes "=" ++ digits
   test_text name digits = ap (λ l. name ++ (codes "=" ++ l)) (append-nil digits) ∙ sym (append_assoc name (codes "=") digits)
 

@@ -11,8 +11,8 @@ use Rattle.nk_policy.specs.Policy.{Policy, Policies, test, range, assign, sum_of
 use Rattle.nk_policy.specs.Ranges.{IsOverFields}
 use Rattle.nk_policy.specs.Text.{name_of, pol_bytes}
 use Rattle.nk_grammar.specs.Tree as tree
-use Rattle.nk_lex.specs.declared.word.Word.{Word}
-use Rattle.nk_lex.specs.declared.word.Number.{Number}
+use Rattle.nk_lex.specs.declared.ident.Ident.{Ident}
+use Rattle.nk_lex.specs.declared.ident.Number.{Number}
 use Rattle.nk_lex.specs.Faults.{first_of, unless}
 use Rattle.nk_grammar.specs.Grammar.{Pol, Term, one_term, plus, one_factor, semi, terms_of, factors_of, factor_tree, atom_tree, pol_tree}
 use Rattle.nk_grammar.specs.Nesting.{nesting_of_pol, nesting_of_term, nesting_of_factor, nesting_of_atom}
@@ -22,7 +22,7 @@ use Rattle.nk_names.specs.declared.fault.FaultKind.{FaultKind}
 use Rattle.nk_names.specs.declared.fault.FaultKind.TheVariants as kind
 use Rattle.nk_names.specs.Complements.{NegatesPredicates, AllNegatePredicates}
 use Rattle.nk_names.specs.Meant.{Lets, MaybeTextFault, text_fault_if, value_above, no_value, no_range, place_of_field, most_in, policy_among, policy_for, policies_for, unknown_in, unknown_among, misplaced_in, misplaced_among}
-use Rattle.nk_names.specs.ProgramOf.{Said, said_with, let_fault}
+use Rattle.nk_names.specs.ProgramOf.{DeclaredProgram, program_declaring, let_fault}
 use Rattle.nk_names.specs.ReadBack.{IsWritable, IsNotOne, HasNoLonePart, HaveNoLonePart, IsReadable, IsReadBack, let_bytes, in_first_line}
 use Rattle.nk_names.proofs.Good.{AreOver, dups_marked, depth_marked, size_marked, predicate_marked}
 use Rattle.nk_declare.proofs.Places.{from_front, name_placed}
@@ -203,7 +203,7 @@ tree_of_atom (a_seq t) = refl
 tree_of_atom (a_star f) = refl
 tree_of_atom (an_atom a) = refl
 
--- trees and further trees behind them
+-- trees and further trees after them
 abbrev trees_on : tree.Trees → tree.Trees → tree.Trees
 trees_on us tree.no_part = us
 trees_on us (tree.part t ts) = trees_on (tree.with_part us t) ts
@@ -213,12 +213,12 @@ first_stays : (t : tree.Tree) (us ts : tree.Trees) → trees_on (tree.part t us)
 first_stays t us tree.no_part = refl
 first_stays t us (tree.part u ts) = first_stays t (tree.with_part us u) ts
 
--- behind none they are themselves
+-- after none they are themselves
 none_before : (ts : tree.Trees) → trees_on tree.no_part ts ≡ ts
 none_before tree.no_part = refl
 none_before (tree.part t ts) = first_stays t tree.no_part ts ∙ ap (tree.part t) (none_before ts)
 
--- behind one
+-- after one
 one_before : (t : tree.Tree) (ts : tree.Trees) → trees_on (tree.part t tree.no_part) ts ≡ tree.part t ts
 one_before t ts = first_stays t tree.no_part ts ∙ ap (tree.part t) (none_before ts)
 
@@ -422,7 +422,7 @@ pub not_over : (m k : ℕ) → k ≤ m → nat_lt m k ≡ false
 not_over m k le = grind (arith, nat_tests)
 
 -- a `let` without fault
-let_fits : (fields : FieldTable) (lets : Lets) (w : Word) (t : tree.Tree) (line : ℕ) → policy_among lets w.text ≡ None
+let_fits : (fields : FieldTable) (lets : Lets) (w : Ident) (t : tree.Tree) (line : ℕ) → policy_among lets w.text ≡ None
     → unknown_in fields lets t ≡ None → misplaced_in fields lets t ≡ None
     → depth_of (policy_for fields lets t) ≤ 256 → size_of (policy_for fields lets t) ≤ 1048576
     → let_fault fields lets w t line ≡ None
@@ -462,8 +462,8 @@ reads_printed reads fields writable name is p h =
       said = λ s e new. is_said s e new;
     }
   where
-    is_said : (s : Said) → s.fields ≡ fields → policy_among s.lets name ≡ None
-        → said_with s (definition (in_first_line name) (tree_for 1 fields p) 1) ≡ Ok (record s { lets = s.lets ++ (name, marked_from p 1) ∷ [] })
+    is_said : (s : DeclaredProgram) → s.fields ≡ fields → policy_among s.lets name ≡ None
+        → program_declaring s (definition (in_first_line name) (tree_for 1 fields p) 1) ≡ Ok (record s { lets = s.lets ++ (name, marked_from p 1) ∷ [] })
     is_said s e new =
         let t = tree_for 1 fields p in
         let none : let_fault fields s.lets (in_first_line name) t 1 ≡ None = let_fits fields s.lets (in_first_line name) t 1 new

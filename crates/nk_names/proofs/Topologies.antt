@@ -6,9 +6,9 @@ use Rattle.nk_declare.specs.Declarations.{declared_with}
 use Rattle.nk_declare.specs.Declarations as declare
 use Rattle.nk_declare.proofs.Kept.{unless_ok, AreFit, fit_declarable, numbers_kept}
 use Rattle.nk_grammar.specs.File.{Declaration, field, tag, switch, declared_link, definition, fabric, virtual_link, Written, written_field, written_tag, written_switch, written_declared_link, written_let, written_fabric, written_virtual, declared}
-use Rattle.nk_grammar.specs.Answer.{IsAnswer}
+use Rattle.nk_grammar.specs.Answer.{IsParse}
 use Rattle.nk_grammar.proofs.Answering.{answers}
-use Rattle.nk_names.specs.ProgramOf.{Said, nothing_said, declared_part, said_with}
+use Rattle.nk_names.specs.ProgramOf.{DeclaredProgram, empty_program, declared_part, program_declaring}
 use Rattle.nk_names.specs.Topologies.{DeclaresDeclarable}
 use Rattle.nk_names.proofs.Beside.{beside_is, all_said}
 
@@ -29,7 +29,7 @@ ports_written (written_fabric line w p ∷ ws) = (tt, ports_written ws)
 ports_written (written_virtual a m b n w ∷ ws) = (tt, ports_written ws)
 
 -- one more declaration
-one_said : (s t : Said) (d : Declaration) → AreFit s.topo → HasPort d → said_with s d ≡ Ok t → AreFit t.topo
+one_said : (s t : DeclaredProgram) (d : Declaration) → AreFit s.topo → HasPort d → program_declaring s d ≡ Ok t → AreFit t.topo
 one_said s t (field w n) h has e =
     let r = beside_is s (declared_with (declared_part s) (declare.field w n)) t e in
     subst (λ x. AreFit x.topo) r.2 (numbers_kept (declared_part s) r.0 (declare.field w n) h tt r.1)
@@ -48,8 +48,8 @@ one_said s t (virtual_link a m b n w) h has e = let r = unless_ok _ _ t e in sub
 
 pub declares_declarable : DeclaresDeclarable
 declares_declarable ts ds s read said =
-    let answer : IsAnswer ts (Ok ds) = subst (IsAnswer ts) read (answers ts) in
-    let none : AreFit nothing_said.topo = λ r i. absurd i in
+    let answer : IsParse ts (Ok ds) = subst (IsParse ts) read (answers ts) in
+    let none : AreFit empty_program.topo = λ r i. absurd i in
     fit_declarable s.topo
-    (all_said (λ x. AreFit x.topo) HasPort one_said ds nothing_said s none
+    (all_said (λ x. AreFit x.topo) HasPort one_said ds empty_program s none
     (subst (AllByRecursion HasPort) (sym answer.0.2) (ports_written answer.0.0)) said)

@@ -9,12 +9,12 @@ use Rattle.nk_declare.proofs.Kept.{unless_ok, built_in_writable, fields_kept}
 use Rattle.nk_grammar.specs.Fields.{IsFieldOfText, DeclaresFields}
 use Rattle.nk_grammar.specs.File.{Declaration, field, tag, switch, declared_link, definition, fabric, virtual_link}
 use Rattle.nk_grammar.specs.FileMachine.{file_of}
-use Rattle.nk_names.specs.ProgramOf.{Said, nothing_said, declared_part, said_with, program_of}
+use Rattle.nk_names.specs.ProgramOf.{DeclaredProgram, empty_program, declared_part, program_declaring, program_of}
 use Rattle.nk_names.specs.ReadBack.{IsWritable}
 use Rattle.nk_names.proofs.Beside.{beside_is, all_said}
 
 -- one more declaration
-one_said : (s t : Said) (d : Declaration) → IsWritable s.fields → IsFieldOfText d → said_with s d ≡ Ok t → IsWritable t.fields
+one_said : (s t : DeclaredProgram) (d : Declaration) → IsWritable s.fields → IsFieldOfText d → program_declaring s d ≡ Ok t → IsWritable t.fields
 one_said s t (field w n) h is e =
     let r = beside_is s (declared_with (declared_part s) (declare.field w n)) t e in
     subst (λ x. IsWritable x.fields) r.2 (fields_kept (declared_part s) r.0 (declare.field w n) h is r.1)
@@ -31,8 +31,8 @@ one_said s t (definition w p line) h is e = let r = unless_ok _ _ t e in subst (
 one_said s t (fabric w p line) h is e = let r = unless_ok _ _ t e in subst (λ x. IsWritable x.fields) r.1 h
 one_said s t (virtual_link a m b n w) h is e = let r = unless_ok _ _ t e in subst (λ x. IsWritable x.fields) r.1 h
 
-pub declares_writable : DeclaresFields → (text : List ℕ) (ts : List Token) (ds : List Declaration) (s : Said)
+pub declares_writable : DeclaresFields → (text : List ℕ) (ts : List Token) (ds : List Declaration) (s : DeclaredProgram)
     → tokens_of text ≡ Ok ts → file_of ts ≡ Ok ds → program_of ds ≡ Ok s → IsWritable s.fields
 declares_writable fields text ts ds s cut read said =
-    all_said (λ x. IsWritable x.fields) IsFieldOfText one_said ds nothing_said s built_in_writable
+    all_said (λ x. IsWritable x.fields) IsFieldOfText one_said ds empty_program s built_in_writable
     (recursion_from_All IsFieldOfText ds (fields text ts ds cut read)) said

@@ -3,7 +3,7 @@ use Rattle.std.specs.Prelude.{◌≡◌, List, map}
 use Rattle.nk_declare.specs.Declarations.{declared_by}
 use Rattle.nk_declare.specs.Declarations as declare
 use Rattle.nk_grammar.specs.File.{Declaration, field, tag, switch, declared_link}
-use Rattle.nk_names.specs.ProgramOf.{program_of, nothing_said, said_beside}
+use Rattle.nk_names.specs.ProgramOf.{program_of, empty_program, program_beside}
 
 -- such a declaration as a program's
 abbrev pub in_program : declare.NetworkDeclaration → Declaration
@@ -14,4 +14,4 @@ in_program (declare.link a m b n) = declared_link a m b n
 
 -- a program of such declarations says what they declare, or has their first fault at its line
 abbrev pub SaysDeclared : Type 0
-SaysDeclared = (ds : List declare.NetworkDeclaration) → program_of (map in_program ds) ≡ said_beside nothing_said (declared_by ds)
+SaysDeclared = (ds : List declare.NetworkDeclaration) → program_of (map in_program ds) ≡ program_beside empty_program (declared_by ds)

@@ -66,11 +66,11 @@ mutual
   all_make no_part k made = refl
   all_make (part p ps) k made = makes p (all_steps_of ps (inr 1 ∷ k)) made ∙ all_make ps (inr 1 ∷ k) (part p made)
 
-pub back : (p : Policy) → last_made (made_by (steps_of p []) no_part) ≡ p
-back p = by (makes p [] no_part)
+pub policy_decodes : (p : Policy) → last_made (made_by (steps_of p []) no_part) ≡ p
+policy_decodes p = by (makes p [] no_part)
   where
     by : made_by (steps_of p []) no_part ≡ part p no_part → last_made (made_by (steps_of p []) no_part) ≡ p
     by e = cc e
 
 abbrev pub coded_policy : Coded Policy
-coded_policy = code_by (List Step) (coded_list (coded⊎ (coded_list coded_ℕ) coded_ℕ)) (λ p. steps_of p []) (λ ss. last_made (made_by ss no_part)) back
+coded_policy = code_by (List Step) (coded_list (coded⊎ (coded_list coded_ℕ) coded_ℕ)) (λ p. steps_of p []) (λ ss. last_made (made_by ss no_part)) policy_decodes

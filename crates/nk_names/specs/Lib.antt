@@ -14,4 +14,4 @@ pub mod Topologies
 pub mod Virtual
 pub mod ReadBack
 pub mod WellFormed
-pub mod Words
+pub mod Messages

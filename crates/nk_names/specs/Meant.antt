@@ -5,8 +5,8 @@ use Rattle.std.specs.Str.{bytes_eq}
 use Rattle.nk_field.specs.Packet.{FieldTable, field_named}
 use Rattle.nk_policy.specs.Policy.{Policy, Policies, is_predicate}
 use Rattle.nk_policy.specs.Policy as policy
-use Rattle.nk_lex.specs.declared.word.Word.{Word}
-use Rattle.nk_lex.specs.declared.word.Number.{Number}
+use Rattle.nk_lex.specs.declared.ident.Ident.{Ident}
+use Rattle.nk_lex.specs.declared.ident.Number.{Number}
 use Rattle.nk_lex.specs.Faults.{first_of}
 pub use Rattle.nk_declare.specs.Declarations.{place_of_field, most_in}
 use Rattle.nk_grammar.specs.Tree.{Tree, Trees, name_of, test, range, assign, sum_of, seq_of, not_of, star_of, dup, link, no_part, part}
@@ -60,12 +60,12 @@ abbrev mutual
   policies_for fields lets (part t ts) = policy.part (policy_for fields lets t) (policies_for fields lets ts)
 
 -- a field and its value
-abbrev pub no_value : FieldTable → Word → Number → MaybeTextFault
+abbrev pub no_value : FieldTable → Ident → Number → MaybeTextFault
 no_value fields w n =
     first_of (text_fault_if (is_none (field_named fields w.text)) kind.UnknownField w.line) (value_above (most_in fields w) n)
 
 -- a field and the two ends of a range of its values; the first may be above the second
-abbrev pub no_range : FieldTable → Word → (low high : Number) → MaybeTextFault
+abbrev pub no_range : FieldTable → Ident → (low high : Number) → MaybeTextFault
 no_range fields w low high = first_of (no_value fields w low) (value_above (most_in fields w) high)
 
 -- the first name of no policy, name of no field or number out of range, from left to right

@@ -4,7 +4,7 @@ use Rattle.nk_field.specs.Packet.{FieldTable, built_in}
 use Rattle.nk_lex.specs.declared.token.Token.{Token}
 use Rattle.nk_lex.specs.Lex.{tokens_of}
 use Rattle.nk_lex.specs.Spelling.{IsName, text_of}
-use Rattle.nk_lex.specs.declared.word.Word.{Word}
+use Rattle.nk_lex.specs.declared.ident.Ident.{Ident}
 pub use Rattle.nk_declare.specs.Kept.{IsWritable}
 use Rattle.nk_grammar.specs.Tree.{Tree}
 use Rattle.nk_grammar.specs.Grammar.{Pol, pol_tree}
@@ -18,11 +18,11 @@ use Rattle.nk_policy.specs.Ranges.{IsOverFields}
 use Rattle.nk_policy.specs.Text.{pol_bytes}
 use Rattle.nk_names.specs.Complements.{NegatesPredicates}
 use Rattle.nk_names.specs.Meant.{Lets, policy_among, policy_for, unknown_in, misplaced_in}
-use Rattle.nk_names.specs.ProgramOf.{Said, said_with, program_of, row_policy}
+use Rattle.nk_names.specs.ProgramOf.{DeclaredProgram, program_declaring, program_of, row_policy}
 
 -- the fields of each text's program are writable
 abbrev pub DeclaresWritable : Type 0
-DeclaresWritable = (text : List ℕ) (ts : List Token) (ds : List Declaration) (s : Said)
+DeclaresWritable = (text : List ℕ) (ts : List Token) (ds : List Declaration) (s : DeclaredProgram)
     → tokens_of text ≡ Ok ts → file_of ts ≡ Ok ds → program_of ds ≡ Ok s → IsWritable s.fields
 
 -- there are parts, and more than one, or there is none
@@ -63,7 +63,7 @@ abbrev pub let_bytes : FieldTable → List ℕ → Policy → List ℕ
 let_bytes fields name p = codes "let " ++ name ++ codes " = " ++ pol_bytes fields p
 
 -- a name in the first line
-abbrev pub in_first_line : List ℕ → Word
+abbrev pub in_first_line : List ℕ → Ident
 in_first_line name = record { text = name; line = 1 }
 
 -- The text of a `let` with this policy is one `let`, whose policy has no fault among any declarations that make the fields
@@ -78,8 +78,8 @@ pub record IsReadBack (fields : FieldTable) (name : List ℕ) (p : Policy) : Typ
   pub shallow : (lets : Lets) → depth_of (policy_for fields lets tree) ≤ 256
   pub small : (lets : Lets) → size_of (policy_for fields lets tree) ≤ 1048576
   pub meant : (lets : Lets) → marked_from (policy_for fields lets tree) 1 ≡ marked_from p 1
-  pub said : (s : Said) → s.fields ≡ fields → policy_among s.lets name ≡ None
-      → said_with s (definition (in_first_line name) tree 1) ≡ Ok (record s { lets = s.lets ++ (name, marked_from p 1) ∷ [] })
+  pub said : (s : DeclaredProgram) → s.fields ≡ fields → policy_among s.lets name ≡ None
+      → program_declaring s (definition (in_first_line name) tree 1) ≡ Ok (record s { lets = s.lets ++ (name, marked_from p 1) ∷ [] })
 
 -- what is printed of a policy is read back as that policy
 abbrev pub ReadsPrintedPolicies : Type 0

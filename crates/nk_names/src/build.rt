@@ -12,12 +12,12 @@ use crate::lets::Lets;
 use nk_declare::field_with;
 use nk_field::{Fid, Fields};
 use nk_grammar::Ast;
-use nk_lex::{Number, Word};
+use nk_lex::{Ident, Number};
 use nk_policy::Pol;
 use std::alloc::{AllocError, Global};
 
 /// The field with the name; the switch, where there is none.
-fn field_of(fields: &Fields, w: &Word) -> Fid
+fn field_of(fields: &Fields, w: &Ident) -> Fid
     ensures { result ≡ place_of_field fields.now w.now }
 {
     match field_with(fields, w.text.as_slice()) {

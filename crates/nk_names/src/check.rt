@@ -9,7 +9,7 @@ use crate::lets::Lets;
 use nk_declare::field_with;
 use nk_field::Fields;
 use nk_grammar::Ast;
-use nk_lex::{Number, Word};
+use nk_lex::{Ident, Number};
 
 /// The last u64, at which depths and sizes stop.
 const LAST: u64 = u64::MAX;
@@ -46,7 +46,7 @@ pub(crate) fn first_above(a: Number, m: Number, b: Number, n: Number) -> Option<
 }
 
 /// The fault of a field and its value.
-fn no_value(fields: &Fields, w: &Word, n: Number) -> Option<NamesError>
+fn no_value(fields: &Fields, w: &Ident, n: Number) -> Option<NamesError>
     ensures { result ≡ no_value fields.now w.now n }
 {
     match field_with(fields, w.text.as_slice()) {
@@ -56,7 +56,7 @@ fn no_value(fields: &Fields, w: &Word, n: Number) -> Option<NamesError>
 }
 
 /// The first fault of a field and the two ends of a range of its values; the first may be above the second.
-fn no_range(fields: &Fields, w: &Word, low: Number, high: Number) -> Option<NamesError>
+fn no_range(fields: &Fields, w: &Ident, low: Number, high: Number) -> Option<NamesError>
     ensures { result ≡ no_range fields.now w.now low high }
 {
     match field_with(fields, w.text.as_slice()) {

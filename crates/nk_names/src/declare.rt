@@ -3,7 +3,7 @@ ghost use Rattle.std.specs.Prelude.{◌≡◌, None, Some, MatchResult, IfOk, On
 ghost use Rattle.nk_declare.specs.Declarations.{link_fault};
 ghost use Rattle.nk_grammar.specs.File.{declaration_of, field, tag, switch, declared_link, definition, fabric, virtual_link};
 ghost use Rattle.nk_grammar.specs.Tree.{tree_of};
-ghost use Rattle.nk_names.specs.ProgramOf.{Returns, kind_of, text_fault_of, said_in, said_with, nothing_said, named_fault, virtual_topology};
+ghost use Rattle.nk_names.specs.ProgramOf.{NamesReturns, kind_of, text_fault_of, program_of_names, program_declaring, empty_program, named_fault, virtual_topology};
 
 use crate::build::{place_of, shared_of};
 use crate::check::{depth, fault_if, first_above, first_misplaced, first_unknown, size};
@@ -16,7 +16,7 @@ use crate::virtual_link::VirtualLink;
 use crate::virtuals::Virtuals;
 use nk_declare::{DeclareError, DeclareFault, Declared};
 use nk_grammar::{Ast, Decl};
-use nk_lex::{Number, Word};
+use nk_lex::{Ident, Number};
 use std::alloc::{AllocError, Global};
 
 /// The most elements that a policy has, its names written out.
@@ -39,7 +39,7 @@ pub(crate) fn refuse(fault: Option<NamesError>) -> Result<(), NamesError>
 fn check_named(
     names: &Names,
     taken: &Lets,
-    w: &Word,
+    w: &Ident,
     ast: &Ast,
     line: u64,
 ) -> Result<(), NamesError>
@@ -113,7 +113,7 @@ fn fault_of(error: DeclareError) -> NamesError
 impl Names {
     /// Nothing is declared yet.
     pub(crate) fn new(alloc: Global) -> Result<Names, AllocError>
-        ensures { IfOk result (λ n. said_in n ≡ nothing_said) }
+        ensures { IfOk result (λ n. program_of_names n ≡ empty_program) }
     {
         let declared = Declared::new(alloc)?;
         let lets = Lets::new(alloc);
@@ -131,9 +131,9 @@ impl Names {
     ///
     /// An `Err` leaves what is said as it was, here and below.
     #[tactic(auto, using(crate::proofs::Beside::is_said, crate::proofs::Beside::is_refused))]
-    fn add_field(&mut self, w: &Word, n: Number) -> Result<(), NamesError>
-        ensures answer { Returns (λ _. said_in self.new) result (said_with (said_in self.old) (field w.now n)) }
-        ensures kept { OnErr result (said_in self.new ≡ said_in self.old) }
+    fn add_field(&mut self, w: &Ident, n: Number) -> Result<(), NamesError>
+        ensures answer { NamesReturns (λ _. program_of_names self.new) result (program_declaring (program_of_names self.old) (field w.now n)) }
+        ensures kept { OnErr result (program_of_names self.new ≡ program_of_names self.old) }
     {
         match self.declared.add_field(w, n) {
             Ok(()) => Ok(()),
@@ -143,9 +143,9 @@ impl Names {
 
     /// The tag.
     #[tactic(auto, using(crate::proofs::Beside::is_said, crate::proofs::Beside::is_refused))]
-    fn add_tag(&mut self, w: &Word) -> Result<(), NamesError>
-        ensures answer { Returns (λ _. said_in self.new) result (said_with (said_in self.old) (tag w.now)) }
-        ensures kept { OnErr result (said_in self.new ≡ said_in self.old) }
+    fn add_tag(&mut self, w: &Ident) -> Result<(), NamesError>
+        ensures answer { NamesReturns (λ _. program_of_names self.new) result (program_declaring (program_of_names self.old) (tag w.now)) }
+        ensures kept { OnErr result (program_of_names self.new ≡ program_of_names self.old) }
     {
         match self.declared.add_tag(w.text.as_slice(), w.line) {
             Ok(()) => Ok(()),
@@ -156,8 +156,8 @@ impl Names {
     /// One more switch.
     #[tactic(auto, using(crate::proofs::Beside::is_said, crate::proofs::Beside::is_refused))]
     fn add_switch(&mut self, alloc: Global, n: Number, ports: &[Number]) -> Result<(), NamesError>
-        ensures answer { Returns (λ _. said_in self.new) result (said_with (said_in self.old) (switch n ports.now)) }
-        ensures kept { OnErr result (said_in self.new ≡ said_in self.old) }
+        ensures answer { NamesReturns (λ _. program_of_names self.new) result (program_declaring (program_of_names self.old) (switch n ports.now)) }
+        ensures kept { OnErr result (program_of_names self.new ≡ program_of_names self.old) }
     {
         match self.declared.declare_switch(alloc, n, ports) {
             Ok(()) => Ok(()),
@@ -168,8 +168,8 @@ impl Names {
     /// One more link, from port `m` of switch `a` to port `n` of switch `b`.
     #[tactic(auto, using(crate::proofs::Beside::is_said, crate::proofs::Beside::is_refused))]
     fn add_link(&mut self, a: Number, m: Number, b: Number, n: Number) -> Result<(), NamesError>
-        ensures answer { Returns (λ _. said_in self.new) result (said_with (said_in self.old) (declared_link a m b n)) }
-        ensures kept { OnErr result (said_in self.new ≡ said_in self.old) }
+        ensures answer { NamesReturns (λ _. program_of_names self.new) result (program_declaring (program_of_names self.old) (declared_link a m b n)) }
+        ensures kept { OnErr result (program_of_names self.new ≡ program_of_names self.old) }
     {
         match self.declared.add_link(a, m, b, n) {
             Ok(()) => Ok(()),
@@ -178,9 +178,9 @@ impl Names {
     }
 
     /// One more policy.
-    fn add_let(&mut self, alloc: Global, w: &Word, ast: &Ast, line: u64) -> Result<(), NamesError>
-        ensures answer { Returns (λ _. said_in self.new) result (said_with (said_in self.old) (definition w.now (tree_of ast.now) line)) }
-        ensures kept { OnErr result (said_in self.new ≡ said_in self.old) }
+    fn add_let(&mut self, alloc: Global, w: &Ident, ast: &Ast, line: u64) -> Result<(), NamesError>
+        ensures answer { NamesReturns (λ _. program_of_names self.new) result (program_declaring (program_of_names self.old) (definition w.now (tree_of ast.now) line)) }
+        ensures kept { OnErr result (program_of_names self.new ≡ program_of_names self.old) }
     {
         check_named(self, &self.lets, w, ast, line)?;
         let shape = Shape::of(&self.declared.fields, &self.lets, ast);
@@ -193,12 +193,12 @@ impl Names {
     fn add_fabric(
         &mut self,
         alloc: Global,
-        w: &Word,
+        w: &Ident,
         ast: &Ast,
         line: u64,
     ) -> Result<(), NamesError>
-        ensures answer { Returns (λ _. said_in self.new) result (said_with (said_in self.old) (fabric w.now (tree_of ast.now) line)) }
-        ensures kept { OnErr result (said_in self.new ≡ said_in self.old) }
+        ensures answer { NamesReturns (λ _. program_of_names self.new) result (program_declaring (program_of_names self.old) (fabric w.now (tree_of ast.now) line)) }
+        ensures kept { OnErr result (program_of_names self.new ≡ program_of_names self.old) }
     {
         check_named(self, &self.fabrics, w, ast, line)?;
         let shape = Shape::of(&self.declared.fields, &self.lets, ast);
@@ -214,10 +214,10 @@ impl Names {
         m: Number,
         b: Number,
         n: Number,
-        w: &Word,
+        w: &Ident,
     ) -> Result<(), NamesError>
-        ensures answer { Returns (λ _. said_in self.new) result (said_with (said_in self.old) (virtual_link a m b n w.now)) }
-        ensures kept { OnErr result (said_in self.new ≡ said_in self.old) }
+        ensures answer { NamesReturns (λ _. program_of_names self.new) result (program_declaring (program_of_names self.old) (virtual_link a m b n w.now)) }
+        ensures kept { OnErr result (program_of_names self.new ≡ program_of_names self.old) }
     {
         check_ends(self, a, m, b, n)?;
         let fabric = match self.fabrics.policy(w.text.as_slice()) {
@@ -241,8 +241,8 @@ impl Names {
 
     /// One more declaration.
     pub(crate) fn add(&mut self, alloc: Global, decl: &Decl) -> Result<(), NamesError>
-        ensures answer { Returns (λ _. said_in self.new) result (said_with (said_in self.old) (declaration_of decl.now)) }
-        ensures kept { OnErr result (said_in self.new ≡ said_in self.old) }
+        ensures answer { NamesReturns (λ _. program_of_names self.new) result (program_declaring (program_of_names self.old) (declaration_of decl.now)) }
+        ensures kept { OnErr result (program_of_names self.new ≡ program_of_names self.old) }
     {
         match decl {
             Decl::Field(w, n) => self.add_field(w, *n),

@@ -87,7 +87,7 @@ impl Lets {
         List::from_vec(entries)
     }
 
-    /// One more policy, with a new name, behind the others. Where memory ran out, nothing changed.
+    /// One more policy, with a new name, after the others. Where memory ran out, nothing changed.
     pub(crate) fn add(
         &mut self,
         alloc: Global,

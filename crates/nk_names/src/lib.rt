@@ -12,6 +12,7 @@ mod declare;
 mod fault;
 pub mod laws;
 mod lets;
+mod messages;
 mod named_policy;
 mod names;
 mod reader;
@@ -20,7 +21,6 @@ mod rows;
 mod shape;
 mod virtual_link;
 mod virtuals;
-mod words;
 
 pub use fault::{FaultKind, NamesError};
 pub use named_policy::NamedPolicy;

@@ -4,9 +4,9 @@ ghost use Rattle.nk_lex.specs.Faults.{and_then};
 ghost use Rattle.nk_policy.specs.Tree.{tree_of};
 ghost use Rattle.nk_grammar.specs.File.{Declaration, declaration_of, IsWritten};
 ghost use Rattle.nk_grammar.specs.Tree.{tree_of as written_of};
-ghost use Rattle.nk_names.specs.Declaring.{HasLets, IsDeclared, IsFaulty, first_fault, is_faulty, said_on, with_first};
+ghost use Rattle.nk_names.specs.Declaring.{HasLets, IsDeclared, IsFaulty, first_fault, is_faulty, program_on, with_first};
 ghost use Rattle.nk_names.specs.InMemory.{known_in};
-ghost use Rattle.nk_names.specs.ProgramOf.{Returns, program_of, row_policy, said_by, said_in};
+ghost use Rattle.nk_names.specs.ProgramOf.{NamesReturns, program_of, row_policy, program_by, program_of_names};
 
 use crate::Program;
 use crate::fault::{FaultKind, NamesError};
@@ -40,7 +40,7 @@ fn first_fault(error: NamesError) -> Option<(FaultKind, u64)>
 impl Known {
     /// One more declaration: the fault that is the first one, or none. Where memory ran out, nothing changed.
     fn tell(&mut self, alloc: Global, decl: &Decl) -> Result<Option<(FaultKind, u64)>, AllocError>
-        ensures told { IfOk result (λ fault. said_on (known_in self.old) (declaration_of decl.now) ≡ with_first fault (known_in self.new)) }
+        ensures told { IfOk result (λ fault. program_on (known_in self.old) (declaration_of decl.now) ≡ with_first fault (known_in self.new)) }
         ensures err { OnErr result (known_in self.new ≡ known_in self.old) }
     {
         let told = match self {
@@ -67,7 +67,7 @@ impl Known {
 
     /// One more declaration. Where memory ran out, nothing changed.
     fn go_on(&mut self, alloc: Global, decl: &Decl) -> Result<(), AllocError>
-        ensures ok { OnOk result (known_in self.new ≡ said_on (known_in self.old) (declaration_of decl.now)) }
+        ensures ok { OnOk result (known_in self.new ≡ program_on (known_in self.old) (declaration_of decl.now)) }
         ensures kept { OnErr result (known_in self.new ≡ known_in self.old) }
     {
         let fault = self.tell(alloc, decl)?;
@@ -78,8 +78,8 @@ impl Known {
 
 /// The program of what was declared.
 fn program_in(names: Names) -> Result<Program, AllocError>
-    requires { HasLets (said_in names) }
-    ensures { IfOk result (λ p. said_by p ≡ said_in names) }
+    requires { HasLets (program_of_names names) }
+    ensures { IfOk result (λ p. program_by p ≡ program_of_names names) }
 {
     let Names {
         declared,
@@ -118,9 +118,9 @@ impl Model for ProgramReader {
     ghost use Rattle.nk_names.specs.declared.fault.NamesError.{NamesError};
     ghost use Rattle.nk_names.specs.CodedPolicy.{coded_policy};
     ghost use Rattle.nk_names.specs.InMemory.{known_in};
-    ghost use Rattle.nk_names.specs.ProgramOf.{Said};
+    ghost use Rattle.nk_names.specs.ProgramOf.{DeclaredProgram};
 
-    ghost Value = { Result Said NamesError };
+    ghost Value = { Result DeclaredProgram NamesError };
 
     ghost coded = { Prim.hlevel (codes, coded_policy) };
 
@@ -149,7 +149,7 @@ impl ProgramReader {
 
     /// One more declaration, by what is said so far.
     fn put(&mut self, alloc: Global, decl: &Decl) -> Result<(), AllocError>
-        ensures ok { OnOk result (self.new ≡ said_on self.old (declaration_of decl.now)) }
+        ensures ok { OnOk result (self.new ≡ program_on self.old (declaration_of decl.now)) }
         ensures faulty { IsFaulty self.old → IsOk result × (self.new ≡ self.old) }
         ensures err { OnErr result (self.new ≡ self.old) }
     {
@@ -166,7 +166,7 @@ impl ProgramReader {
     pub fn declare(&mut self, alloc: Global, decl: &Decl) -> Result<(), AllocError>
         ensures declared { (ds : List Declaration) → IsDeclared ds self.old
             → OnOk result (IsDeclared (ds ++ declaration_of decl.now ∷ []) self.new) }
-        ensures step { OnOk result (self.new ≡ said_on self.old (declaration_of decl.now)) }
+        ensures step { OnOk result (self.new ≡ program_on self.old (declaration_of decl.now)) }
         ensures faulty { IsFaulty self.old → IsOk result × (self.new ≡ self.old) }
         ensures err { OnErr result (self.new ≡ self.old) }
     {
@@ -176,7 +176,7 @@ impl ProgramReader {
     /// The predicate that a row of a certificate has over the fields declared so far, or the first fault: that of the
     /// declarations, where there is one, else that of the tree, as `resolve` says.
     pub fn predicate(&self, alloc: Global, ast: &Ast, line: u64) -> Result<Pol, NamesError>
-        ensures { Returns tree_of result (and_then self.now (λ s. row_policy s.fields (written_of ast.now) line)) }
+        ensures { NamesReturns tree_of result (and_then self.now (λ s. row_policy s.fields (written_of ast.now) line)) }
     {
         match &self.known {
             Known::Sound(names) => resolve_over(alloc, &names.declared.fields, ast, line),
@@ -191,7 +191,7 @@ impl ProgramReader {
     /// declared fields are at most 281,474,976,710,655.
     pub fn finish(self) -> Result<Program, NamesError>
         requires written { (ds : List Declaration) × IsDeclared ds self × All IsWritten ds }
-        ensures { (ds : List Declaration) → IsDeclared ds self → Returns said_by result (program_of ds) }
+        ensures { (ds : List Declaration) → IsDeclared ds self → NamesReturns program_by result (program_of ds) }
     {
         let ProgramReader { known } = self;
         match known {

@@ -1,7 +1,7 @@
 //! The program of a text.
 ghost use Rattle.std.specs.Prelude.{All, map};
 ghost use Rattle.nk_grammar.specs.File.{declaration_of, IsWritten};
-ghost use Rattle.nk_names.specs.ProgramOf.{Returns, said_by, program_of};
+ghost use Rattle.nk_names.specs.ProgramOf.{NamesReturns, program_by, program_of};
 
 use crate::fault::NamesError;
 use crate::{Program, ProgramReader};
@@ -15,7 +15,7 @@ use std::alloc::Global;
 /// of a text.
 pub fn program(alloc: Global, f: &File) -> Result<Program, NamesError>
     requires { All IsWritten (map declaration_of f.now.decls) }
-    ensures { Returns said_by result (program_of (map declaration_of f.now.decls)) }
+    ensures { NamesReturns program_by result (program_of (map declaration_of f.now.decls)) }
 {
     let mut reader = ProgramReader::new(alloc)?;
     for decl in f.decls.as_slice() {

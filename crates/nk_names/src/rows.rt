@@ -2,7 +2,7 @@
 ghost use Rattle.std.specs.Prelude.{◌≡◌, MatchResult, IfOk};
 ghost use Rattle.nk_policy.specs.Tree.{tree_of};
 ghost use Rattle.nk_grammar.specs.Tree.{tree_of as written_of};
-ghost use Rattle.nk_names.specs.ProgramOf.{Returns, predicate_fault, row_policy};
+ghost use Rattle.nk_names.specs.ProgramOf.{NamesReturns, predicate_fault, row_policy};
 ghost use Rattle.nk_names.specs.ProgramValue.{IsRowPolicy};
 
 use crate::Program;
@@ -36,7 +36,7 @@ pub(crate) fn resolve_over(
     ast: &Ast,
     line: u64,
 ) -> Result<Pol, NamesError>
-    ensures policy { Returns tree_of result (row_policy fields.now (written_of ast.now) line) }
+    ensures policy { NamesReturns tree_of result (row_policy fields.now (written_of ast.now) line) }
     ensures is { IfOk result (λ q. IsRowPolicy fields.now (tree_of q)) }
 {
     let lets = Lets::new(alloc);
@@ -52,7 +52,7 @@ pub(crate) fn resolve_over(
 /// tree that is no predicate, at `line`, also where a `~` in it stands over no predicate; one that is more than 256 deep,
 /// at `line`.
 pub fn resolve(alloc: Global, p: &Program, ast: &Ast, line: u64) -> Result<Pol, NamesError>
-    ensures policy { Returns tree_of result (row_policy p.now.fields (written_of ast.now) line) }
+    ensures policy { NamesReturns tree_of result (row_policy p.now.fields (written_of ast.now) line) }
     ensures is { IfOk result (λ q. IsRowPolicy p.now.fields (tree_of q)) }
 {
     resolve_over(alloc, &p.fields, ast, line)

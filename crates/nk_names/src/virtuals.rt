@@ -59,7 +59,7 @@ impl Virtuals {
         self.targets.contains(&(sw, pt))
     }
 
-    /// One more virtual link, behind the others. Where memory ran out, nothing changed.
+    /// One more virtual link, after the others. Where memory ran out, nothing changed.
     pub(crate) fn add(&mut self, link: VirtualLink) -> Result<(), AllocError>
         ensures ok { OnOk result (self.new ≡ self.old ++ link ∷ []) }
         ensures kept { OnErr result (self.new ≡ self.old) }

@@ -1,7 +1,7 @@
 -- The reader's count follows that of a text with a certificate.
 use Rattle.std.proofs.Common.{◌≡◌, ◌≤◌, ℕ, List, [], ◌∷◌, ◌++◌, length, refl, sym, subst, append_assoc, arith, Option}
 use Rattle.std.specs.Prelude.{Some, None, IsSomeAnd, map, if◌then◌else◌, option_and_then}
-use Rattle.nk_lex.specs.declared.word.Number.{Number}
+use Rattle.nk_lex.specs.declared.ident.Number.{Number}
 use Rattle.nk_grammar.specs.Terminal.{Terminal, number, colon, outside, certificate_word, row_word}
 use Rattle.nk_grammar.specs.Tree.{Tree}
 use Rattle.nk_grammar.specs.Grammar.{Pol, spell_pol, pol_tree}
@@ -103,7 +103,7 @@ numbers_along : (ms : List Number) (line : ℕ) (ns : List ℕ) (ds : List Decla
 numbers_along [] line ns ds rs js r more = more ns
 numbers_along (m ∷ ms) line ns ds rs js r more = nothing_open (numbers_along ms line (ns ++ m.value ∷ []) ds rs js r more)
 
--- a policy, and the rows behind it
+-- a policy, and the rows after it
 row_along : (p : Pol) (ws : List WrittenRow) (line : ℕ) (ns : List ℕ) (ds : List Declaration) (rs : List Row)
     → ((s : State) → policy_ended s ≡ Some (pol_tree p) → CertifiesAlong (open_in_rows ws) (spell_rows ws) (certifying (in_row line ns s) ds rs))
     → CertifiesAlong (open_in_pol 0 p ++ open_in_rows ws) (spell_pol p ++ spell_rows ws) (certifying (in_row line ns first_state) ds rs)
@@ -111,18 +111,18 @@ row_along p ws line ns ds rs more =
     let l = left_by p in
     row_policy_along line ns ds rs (open_in_pol 0 p) (open_in_rows ws) (spell_pol p) (spell_rows ws) first_state l.0 (policy_follows p) l.1 (more l.0 l.2)
 
--- the rows behind a row's policy
+-- the rows after a row's policy
 rows_along : (ws : List WrittenRow) (line : ℕ) (ns : List ℕ) (s : State) (p : Tree) (ds : List Declaration) (rs : List Row)
     → policy_ended s ≡ Some p → CertifiesAlong (open_in_rows ws) (spell_rows ws) (certifying (in_row line ns s) ds rs)
 rows_along [] line ns s p ds rs e = tt
 rows_along (written_row l n ms q ∷ ws) line ns s p ds rs e =
     let word : Terminal = outside (row_word l) in
-    let behind : List Terminal = number n ∷ ((spell_numbers ms ++ colon ∷ spell_pol q) ++ spell_rows ws) in
+    let following : List Terminal = number n ∷ ((spell_numbers ms ++ colon ∷ spell_pol q) ++ spell_rows ws) in
     let counts : List ℕ = 0 ∷ ((open_in_numbers ms ++ 0 ∷ open_in_pol 0 q) ++ open_in_rows ws) in
     let done : List Row = rs ++ row ns p line ∷ [] in
-    subst (λ o. IsSomeAnd (row_on ds rs ns line o (policy_ended s) word) (λ d. (0 ≤ open_certified d) × (0 ≤ 256 → (open_certified d ≤ 256) × CertifiesAlong counts behind d)))
+    subst (λ o. IsSomeAnd (row_on ds rs ns line o (policy_ended s) word) (λ d. (0 ≤ open_certified d) × (0 ≤ 256 → (open_certified d ≤ 256) × CertifiesAlong counts following d)))
     (sym (outside_refused s.place s.frames s.terms s.factors (row_word l)))
-    (subst (λ o. IsSomeAnd (row_done ds rs ns line o word) (λ d. (0 ≤ open_certified d) × (0 ≤ 256 → (open_certified d ≤ 256) × CertifiesAlong counts behind d))) (sym e)
+    (subst (λ o. IsSomeAnd (row_done ds rs ns line o word) (λ d. (0 ≤ open_certified d) × (0 ≤ 256 → (open_certified d ≤ 256) × CertifiesAlong counts following d))) (sym e)
     (nothing_open (nothing_open
     (subst (λ x. CertifiesAlong x ((spell_numbers ms ++ colon ∷ spell_pol q) ++ spell_rows ws) (certifying (numbers_read l (n.value ∷ [])) ds done)) (sym (append_assoc (open_in_numbers ms) (0 ∷ open_in_pol 0 q) (open_in_rows ws)))
     (subst (λ x. CertifiesAlong (open_in_numbers ms ++ 0 ∷ (open_in_pol 0 q ++ open_in_rows ws)) x (certifying (numbers_read l (n.value ∷ [])) ds done)) (sym (append_assoc (spell_numbers ms) (colon ∷ spell_pol q) (spell_rows ws)))
@@ -145,8 +145,8 @@ declarations_left ws = by_reading (read_all (spell_file ws) first_reading) refl 
 pub certified_along : (c : WrittenCertified) → CertifiesAlong (open_in_certified c) (spell_certified c) first_certifying
 certified_along c =
     let counts : List ℕ = 0 ∷ 0 ∷ 0 ∷ (open_in_pol 0 c.pred ++ open_in_rows c.others) in
-    let behind : List Terminal = spell_certificate c.line c.pred c.others in
+    let following : List Terminal = spell_certificate c.line c.pred c.others in
     let l = declarations_left c.decls in
-    declaring_along (open_in_file c.decls) (0 ∷ counts) (spell_file c.decls) (outside certificate_word ∷ behind) first_reading l.0 (file_along c.decls []) l.1
-    (subst (λ o. IsSomeAnd (certificate_begins [] o) (λ d. (0 ≤ open_certified d) × (0 ≤ 256 → (open_certified d ≤ 256) × CertifiesAlong counts behind d))) (sym l.2)
+    declaring_along (open_in_file c.decls) (0 ∷ counts) (spell_file c.decls) (outside certificate_word ∷ following) first_reading l.0 (file_along c.decls []) l.1
+    (subst (λ o. IsSomeAnd (certificate_begins [] o) (λ d. (0 ≤ open_certified d) × (0 ≤ 256 → (open_certified d ≤ 256) × CertifiesAlong counts following d))) (sym l.2)
     (nothing_open (nothing_open (nothing_open (nothing_open (row_along c.pred c.others c.line [] (map declared c.decls) [] (λ z f. rows_along c.others c.line [] z (pol_tree c.pred) (map declared c.decls) [] f)))))))

@@ -117,11 +117,11 @@ reads_within ts w e few =
 
 -- ---- only the 257th is refused as too deep
 
--- behind no front of the tokens more than 256 are open
+-- after no front of the tokens more than 256 are open
 abbrev IsShallowFrom : Certifying → List Terminal → Type 0
 IsShallowFrom r ts = (xs ys : List Terminal) (s : Certifying) → ts ≡ xs ++ ys → certify_all xs r ≡ Some s → 256 < open_certified s → ⊥
 
--- behind all of them more are
+-- after all of them more are
 abbrev IsDeepFrom : Certifying → List Terminal → Type 0
 IsDeepFrom r ts = (s : Certifying) × (certify_all ts r ≡ Some s) × (256 < open_certified s)
 

@@ -1,6 +1,6 @@
 -- The counts of a text go with its tokens.
 use Rattle.std.proofs.Common.{◌≤◌, ℕ, suc, subst, List, [], ◌∷◌, ◌++◌, refl, sym, append_assoc, append-nil, arith}
-use Rattle.nk_lex.specs.declared.word.Number.{Number}
+use Rattle.nk_lex.specs.declared.ident.Number.{Number}
 use Rattle.nk_grammar.specs.Terminal.{Terminal, plus_sign, semicolon, star_sign, closing}
 use Rattle.nk_grammar.specs.Grammar.{Pol, Term, Factor, Atom, one_term, plus, one_factor, semi, plain, starred, written_not, written_id, written_drop, written_dup, written_name, written_test, written_range, written_set, written_link, paren, spell_pol, spell_term, spell_factor, spell_atom}
 use Rattle.nk_grammar.specs.File.{Written, written_field, written_tag, written_switch, written_declared_link, written_let, written_fabric, written_virtual, spell_ports, spell_declaration, spell_file}
@@ -35,7 +35,7 @@ mutual
       three_parts (GoWith n) (open_in_factor n f) (n ∷ []) js (spell_factor f) (star_sign ∷ []) r
       (factor_goes f n (n ∷ js) (star_sign ∷ r) (refl, go))
 
-  -- m are open behind the atom
+  -- m are open after the atom
   atom_goes : (a : Atom) (n m : ℕ) (js : List ℕ) (r : List Terminal) → m ≤ n → GoWith m js r
       → GoWith n (open_in_atom n a ++ m ∷ js) (spell_atom a ++ r)
   atom_goes (written_not l a) n m js r le go = (refl, atom_goes a (suc n) m js r (omega arith) go)
@@ -77,7 +77,7 @@ declaration_goes (written_fabric line w p) js r go =
 declaration_goes (written_virtual a m b n w) js r go =
     (omega arith, (omega arith, (omega arith, (omega arith, (omega arith, (omega arith, (omega arith, (omega arith, (omega arith, (omega arith, go))))))))))
 
--- a text, and what stands behind it
+-- a text, and what stands after it
 pub file_goes : (ws : List Written) (js : List ℕ) (r : List Terminal) → GoWith 0 js r
     → GoWith 0 (open_in_file ws ++ js) (spell_file ws ++ r)
 file_goes [] js r go = go

@@ -1,12 +1,12 @@
--- The reader's count follows the text's: it is at least that, and within the limit as long as the text's is. Behind a name
+-- The reader's count follows the text's: it is at least that, and within the limit as long as the text's is. After a name
 -- alone it may be more, since an `=`, `in` or `:=` may come.
 use Rattle.std.proofs.Common.{◌≡◌, ◌≤◌, ℕ, List, [], ◌∷◌, ◌++◌, true, false, length, refl, sym, subst, ◌∙◌, ap, append_assoc, append-nil, arith, Option}
 use Rattle.std.specs.Prelude.{Some, None, IsSomeAnd, option_and_then}
-use Rattle.nk_lex.specs.declared.word.Word.{Word}
-use Rattle.nk_lex.specs.declared.word.Number.{Number}
+use Rattle.nk_lex.specs.declared.ident.Ident.{Ident}
+use Rattle.nk_lex.specs.declared.ident.Number.{Number}
 use Rattle.nk_grammar.specs.declared.place.Place.TheVariants as place
-use Rattle.nk_grammar.specs.declared.decl.PolicyWord.{PolicyWord}
-use Rattle.nk_grammar.specs.declared.decl.PolicyWord.TheVariants as policies
+use Rattle.nk_grammar.specs.declared.decl.PolicyKeyword.{PolicyKeyword}
+use Rattle.nk_grammar.specs.declared.decl.PolicyKeyword.TheVariants as policies
 use Rattle.nk_grammar.specs.Terminal.{Terminal, Outside, name, number, equal, colon, outside, ports_word, arrow, plus_sign, semicolon, star_sign, closing, field_word, tag_word, switch_word, link_word, let_word, fabric_word, virtual_word, by_word}
 use Rattle.nk_grammar.specs.Tree.{Tree, Trees, name_of, not_of, no_part, with_part, sum_from}
 use Rattle.nk_grammar.specs.Grammar.{Pol, Term, Factor, Atom, one_term, plus, one_factor, semi, plain, starred, written_not, written_id, written_drop, written_dup, written_name, written_test, written_range, written_set, written_link, paren, spell_pol, spell_term, spell_factor, spell_atom, terms_of, factors_of, factor_tree, atom_tree, pol_tree}
@@ -26,14 +26,14 @@ Follows (k ∷ ks) [] s = ⊥
 Follows (k ∷ ks) (t ∷ ts) s =
     IsSomeAnd (step s t) (λ s'. (k ≤ length s'.frames) × (k ≤ 256 → (length s'.frames ≤ 256) × Follows ks ts s'))
 
--- what was open before an atom and is no more behind it
+-- what was open before an atom and is no more after it
 fewer : (t : Tree) (fs : List Open) (ts us : Trees) → length (atom_ended t fs ts us).frames ≤ length fs
 fewer t [] ts us = omega arith
 fewer t (group ts' us' ∷ fs) ts us = omega arith
 fewer t (negation l ∷ fs) ts us = let le = fewer (not_of t l) fs ts us in omega (arith, le)
 
--- a name with no sign of its own behind it is an atom
-named_follows : (w : Word) (fs : List Open) (ts us : Trees) (ks : List ℕ) (r : List Terminal) → IsFree r
+-- a name with no sign of its own after it is an atom
+named_follows : (w : Ident) (fs : List Open) (ts us : Trees) (ks : List ℕ) (r : List Terminal) → IsFree r
     → Follows ks r (atom_ended (name_of w) fs ts us) → Follows ks r (state (place.Named w) fs ts us)
 named_follows w fs ts us [] [] free h = tt
 named_follows w fs ts us [] (x ∷ r) free h = absurd h
@@ -87,7 +87,7 @@ mutual
       (factor_follows f fs ts us (length fs ∷ ks) (star_sign ∷ r) top (refl, refl, refl) le
       (omega arith, λ few. (le, subst (λ x. Follows ks r (state (place.After true) fs ts x)) (sym (one_star f us)) h)))
 
-  -- m are open behind the atom
+  -- m are open after the atom
   atom_follows : (a : Atom) (fs : List Open) (ts us : Trees) (m : ℕ) (ks : List ℕ) (r : List Terminal) → IsFree r
       → length fs ≤ 256 → m ≤ length (atom_ended (atom_tree a) fs ts us).frames
       → Follows ks r (atom_ended (atom_tree a) fs ts us)
@@ -138,7 +138,7 @@ ReadsAlong (k ∷ ks) (t ∷ ts) r =
     IsSomeAnd (read_one r t) (λ s. (k ≤ open_count s) × (k ≤ 256 → (open_count s ≤ 256) × ReadsAlong ks ts s))
 
 -- a policy inside a declaration
-policy_along : (k : PolicyWord) (w : Word) (line : ℕ) (ds : List Declaration) (ks js : List ℕ) (xs r : List Terminal) (s s' : State)
+policy_along : (k : PolicyKeyword) (w : Ident) (line : ℕ) (ds : List Declaration) (ks js : List ℕ) (xs r : List Terminal) (s s' : State)
     → Follows ks xs s → run xs s ≡ Some s' → ReadsAlong js r (reading (in_policy k w line s') ds)
     → ReadsAlong (ks ++ js) (xs ++ r) (reading (in_policy k w line s) ds)
 policy_along k w line ds [] js [] r s s' f e h = subst (λ x. ReadsAlong js r (reading (in_policy k w line x) ds)) (sym (same s s' e)) h
@@ -167,10 +167,10 @@ same_step r r' k ks t ts e h =
 abbrev Goes : List Written → Reading → Type 0
 Goes ws r = ReadsAlong (open_in_file ws) (spell_file ws) r
 
--- behind a policy that may end
-behind_policy : (k : PolicyWord) (w : Word) (line : ℕ) (ds : List Declaration) (s : State) (p : Tree) (ws : List Written) → policy_ended s ≡ Some p
+-- after a policy that may end
+after_policy : (k : PolicyKeyword) (w : Ident) (line : ℕ) (ds : List Declaration) (s : State) (p : Tree) (ws : List Written) → policy_ended s ≡ Some p
     → Goes ws (reading between (one_more ds (defined k w p line))) → Goes ws (reading (in_policy k w line s) ds)
-behind_policy k w line ds s p ws e h = by_first ws h
+after_policy k w line ds s p ws e h = by_first ws h
   where
     begins : (z : Outside) → read_one (reading (in_policy k w line s) ds) (outside z) ≡ read_one (reading between (one_more ds (defined k w p line))) (outside z)
     begins z =
@@ -187,17 +187,17 @@ behind_policy k w line ds s p ws e h = by_first ws h
     by_first (written_fabric l v q ∷ ws) h = same_step (reading (in_policy k w line s) ds) (reading between (one_more ds (defined k w p line))) 0 (0 ∷ 0 ∷ (open_in_pol 0 q ++ open_in_file ws)) (outside (fabric_word l)) (name v ∷ equal ∷ (spell_pol q ++ spell_file ws)) (begins (fabric_word l)) h
     by_first (written_virtual a m b n v ∷ ws) h = same_step (reading (in_policy k w line s) ds) (reading between (one_more ds (defined k w p line))) 0 (0 ∷ 0 ∷ 0 ∷ 0 ∷ 0 ∷ 0 ∷ 0 ∷ 0 ∷ 0 ∷ open_in_file ws) (outside virtual_word) (number a ∷ colon ∷ number m ∷ outside arrow ∷ number b ∷ colon ∷ number n ∷ outside by_word ∷ name v ∷ spell_file ws) (begins virtual_word) h
 
--- behind ports
-behind_ports : (n : Number) (qs : List Number) (ds : List Declaration) (ws : List Written)
+-- after ports
+after_ports : (n : Number) (qs : List Number) (ds : List Declaration) (ws : List Written)
     → Goes ws (reading between (one_more ds (switch n qs))) → Goes ws (reading (port_read n qs) ds)
-behind_ports n qs ds [] h = tt
-behind_ports n qs ds (written_field v m ∷ ws) h = h
-behind_ports n qs ds (written_tag v ∷ ws) h = h
-behind_ports n qs ds (written_switch m p ps ∷ ws) h = h
-behind_ports n qs ds (written_declared_link a m b k ∷ ws) h = h
-behind_ports n qs ds (written_let l v p ∷ ws) h = h
-behind_ports n qs ds (written_fabric l v p ∷ ws) h = h
-behind_ports n qs ds (written_virtual a m b k v ∷ ws) h = h
+after_ports n qs ds [] h = tt
+after_ports n qs ds (written_field v m ∷ ws) h = h
+after_ports n qs ds (written_tag v ∷ ws) h = h
+after_ports n qs ds (written_switch m p ps ∷ ws) h = h
+after_ports n qs ds (written_declared_link a m b k ∷ ws) h = h
+after_ports n qs ds (written_let l v p ∷ ws) h = h
+after_ports n qs ds (written_fabric l v p ∷ ws) h = h
+after_ports n qs ds (written_virtual a m b k v ∷ ws) h = h
 
 -- a token at which nothing is open
 pub nothing_open : {A : Type 0} → A → (0 ≤ 0) × (0 ≤ 256 → (0 ≤ 256) × A)
@@ -208,17 +208,17 @@ ports_along : (n : Number) (qs ps : List Number) (ds : List Declaration) (ws : L
     → Goes ws (reading between (one_more ds (switch n (qs ++ ps))))
     → ReadsAlong (open_in_ports ps ++ open_in_file ws) (spell_ports ps ++ spell_file ws) (reading (port_read n qs) ds)
 ports_along n qs [] ds ws h =
-    behind_ports n qs ds ws (subst (λ x. Goes ws (reading between (one_more ds (switch n x)))) (append-nil qs) h)
+    after_ports n qs ds ws (subst (λ x. Goes ws (reading between (one_more ds (switch n x)))) (append-nil qs) h)
 ports_along n qs (p ∷ ps) ds ws h =
     nothing_open (nothing_open (ports_along n (qs ++ p ∷ []) ps ds ws (subst (λ x. Goes ws (reading between (one_more ds (switch n x)))) (sym (append_assoc qs (p ∷ []) ps)) h)))
 
--- a policy, and the declarations behind it
-defined_along : (k : PolicyWord) (line : ℕ) (w : Word) (p : Pol) (ds : List Declaration) (ws : List Written)
+-- a policy, and the declarations after it
+defined_along : (k : PolicyKeyword) (line : ℕ) (w : Ident) (p : Pol) (ds : List Declaration) (ws : List Written)
     → Goes ws (reading between (one_more ds (defined k w (pol_tree p) line)))
     → ReadsAlong (open_in_pol 0 p ++ open_in_file ws) (spell_pol p ++ spell_file ws) (reading (in_policy k w line first_state) ds)
 defined_along k line w p ds ws h =
     let l = left_by p in
-    policy_along k w line ds (open_in_pol 0 p) (open_in_file ws) (spell_pol p) (spell_file ws) first_state l.0 (policy_follows p) l.1 (behind_policy k w line ds l.0 (pol_tree p) ws l.2 h)
+    policy_along k w line ds (open_in_pol 0 p) (open_in_file ws) (spell_pol p) (spell_file ws) first_state l.0 (policy_follows p) l.1 (after_policy k w line ds l.0 (pol_tree p) ws l.2 h)
 
 -- a declaration
 declaration_along : (w : Written) (ds : List Declaration) (ws : List Written)

@@ -11,7 +11,7 @@ use Rattle.nk_grammar.specs.declared.decl.GrammarError.TheVariants as error
 use Rattle.nk_grammar.specs.Terminal.{Terminal, name, number, tilde, opening, closing, plus_sign, semicolon, star_sign, equal, becomes, colon, fat_arrow, id_word, drop_word, dup_word, in_word, dots, outside, terminal_of}
 use Rattle.nk_grammar.specs.File.{Declaration, Written, declared, spell_file}
 use Rattle.nk_grammar.specs.FileMachine.{Reading, read_one, read_all, first_reading, declarations_at_end, open_count, judged, ended_at, rest_of_file, file_of}
-use Rattle.nk_grammar.specs.Answer.{terminals, IsDeepToken, IsAnswer}
+use Rattle.nk_grammar.specs.Answer.{terminals, IsDeepToken, IsParse}
 use Rattle.nk_grammar.proofs.Files.{within}
 use Rattle.nk_nesting.proofs.Beyond.{beyond}
 use Rattle.nk_grammar.proofs.Texts.{reads_file}
@@ -128,11 +128,11 @@ raises in_word n k c le lt = absurd (omega (arith, c, le, lt))
 raises dots n k c le lt = absurd (omega (arith, c, le, lt))
 raises (outside z) n k c le lt = absurd (omega (arith, c, le, lt))
 
--- behind no front of the tokens more than 256 are open
+-- after no front of the tokens more than 256 are open
 abbrev IsShallowFrom : Reading → List Terminal → Type 0
 IsShallowFrom r ts = (xs ys : List Terminal) (s : Reading) → ts ≡ xs ++ ys → read_all xs r ≡ Some s → 256 < open_count s → ⊥
 
--- behind all of them more are
+-- after all of them more are
 abbrev IsDeepFrom : Reading → List Terminal → Type 0
 IsDeepFrom r ts = (s : Reading) × (read_all ts r ≡ Some s) × (256 < open_count s)
 
@@ -245,7 +245,7 @@ above_of ts line d ws more e =
 
 -- only the 257th is refused as too deep
 pub refuses_only : (ts : List Token) (line : ℕ) → file_of ts ≡ Err (error.TooDeep line) → OpensThe257th ts line
-refuses_only ts line e = by_token (subst (IsAnswer ts) e (answers ts))
+refuses_only ts line e = by_token (subst (IsParse ts) e (answers ts))
   where
     by_token : IsDeepToken ts line → OpensThe257th ts line
     by_token d = record {

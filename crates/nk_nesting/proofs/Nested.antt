@@ -4,7 +4,7 @@ use Rattle.std.specs.Prelude.{Ok, Err, All, codes}
 use Rattle.std.proofs.lemmas.List.Elements.{All-nil, All-cons, All-head, All-tail}
 use Rattle.nk_lex.specs.declared.kind.Kind.TheVariants as kind
 use Rattle.nk_lex.specs.declared.token.Token.{Token}
-use Rattle.nk_lex.specs.declared.word.Word.{Word}
+use Rattle.nk_lex.specs.declared.ident.Ident.{Ident}
 use Rattle.nk_grammar.specs.declared.decl.GrammarError.TheVariants as error
 use Rattle.nk_grammar.specs.Terminal.{Terminal, closing}
 use Rattle.nk_grammar.specs.Tree.{no_part, seq_of}
@@ -23,14 +23,14 @@ nested zero = one_term (one_factor (plain written_id))
 nested (suc n) = one_term (one_factor (plain (paren (nested n))))
 
 -- `p`, on line 1
-abbrev the_name : Word
+abbrev the_name : Ident
 the_name = record { text = codes "p"; line = 1 }
 
 -- the text of one `let`
 abbrev the_text : ℕ → List Written
 the_text n = written_let 1 the_name (nested n) ∷ []
 
--- one parenthesis more in front of others, or behind them
+-- one parenthesis more in front of others, or after them
 one_closing : (line n : ℕ) (r : List Token)
     → (token_on line kind.CloseParen [] ∷ closings line n) ++ r ≡ closings line n ++ token_on line kind.CloseParen [] ∷ r
 one_closing line zero r = refl
@@ -54,7 +54,7 @@ three_zeros : (ks : List ℕ) → All (λ k. k ≤ 256) ks → All (λ k. k ≤ 
 three_zeros ks few =
     All-cons (λ k. k ≤ 256) 0 (0 ∷ 0 ∷ ks) (omega arith) (All-cons (λ k. k ≤ 256) 0 (0 ∷ ks) (omega arith) (All-cons (λ k. k ≤ 256) 0 ks (omega arith) few))
 
--- one more behind a list
+-- one more after a list
 all_with : (ks : List ℕ) (k : ℕ) → All (λ k. k ≤ 256) ks → k ≤ 256 → All (λ k. k ≤ 256) (ks ++ k ∷ [])
 all_with [] k few le = All-cons (λ k. k ≤ 256) k [] le (All-nil (λ k. k ≤ 256))
 all_with (j ∷ ks) k few le =

@@ -1,7 +1,7 @@
 -- The same of texts with a certificate.
 use Rattle.std.specs.Prelude.{◌≡◌, ◌≤◌, ℕ, List, [], ◌∷◌, ◌++◌, map, length, Ok, Err, All, ◌⊎◌}
 use Rattle.nk_lex.specs.declared.token.Token.{Token}
-use Rattle.nk_lex.specs.declared.word.Number.{Number}
+use Rattle.nk_lex.specs.declared.ident.Number.{Number}
 use Rattle.nk_grammar.specs.declared.decl.GrammarError.TheVariants as error
 use Rattle.nk_grammar.specs.Terminal.{Terminal, outside, certificate_word, terminal_of}
 use Rattle.nk_grammar.specs.Grammar.{Pol}
@@ -23,21 +23,21 @@ pub record WrittenCertified : Type 0 where
 abbrev pub spell_certified : WrittenCertified → List Terminal
 spell_certified c = spell_file c.decls ++ outside certificate_word ∷ spell_certificate c.line c.pred c.others
 
--- behind each of a row's numbers
+-- after each of a row's numbers
 abbrev pub open_in_numbers : List Number → List ℕ
 open_in_numbers [] = []
 open_in_numbers (n ∷ ns) = 0 ∷ open_in_numbers ns
 
--- behind each token of a row: nothing is open but in its policy
+-- after each token of a row: nothing is open but in its policy
 abbrev pub open_in_row : WrittenRow → List ℕ
 open_in_row (written_row line n ns p) = 0 ∷ 0 ∷ (open_in_numbers ns ++ 0 ∷ open_in_pol 0 p)
 
--- behind each token of rows
+-- after each token of rows
 abbrev pub open_in_rows : List WrittenRow → List ℕ
 open_in_rows [] = []
 open_in_rows (r ∷ rs) = open_in_row r ++ open_in_rows rs
 
--- behind each token of the text
+-- after each token of the text
 abbrev pub open_in_certified : WrittenCertified → List ℕ
 open_in_certified c = open_in_file c.decls ++ 0 ∷ 0 ∷ 0 ∷ 0 ∷ (open_in_pol 0 c.pred ++ open_in_rows c.others)
 
@@ -51,7 +51,7 @@ IsCertifiedWithinOrAbove = (c : WrittenCertified)
     → All (λ k. k ≤ 256) (open_in_certified c) ⊎ ((place : ℕ) × IsFirstAbove (open_in_certified c) place)
 
 -- The tokens that such a text begins with, up to the first that opens the 257th, are refused at that token, whatever stands
--- behind it.
+-- after it.
 abbrev pub RefusesTheCertified257th : Type 0
 RefusesTheCertified257th = (c : WrittenCertified) (before : List Token) (t : Token) (more : List Terminal) (rest : List Token)
     → terminals (before ++ t ∷ []) ++ more ≡ spell_certified c → IsFirstAbove (open_in_certified c) (length before)

@@ -26,7 +26,7 @@ abbrev pub closings : ℕ → ℕ → List Token
 closings line zero = []
 closings line (suc n) = token_on line kind.CloseParen [] ∷ closings line n
 
--- 256 parentheses around `id` are read; 257 are refused at the 257th, on line 258, whatever stands behind it
+-- 256 parentheses around `id` are read; 257 are refused at the 257th, on line 258, whatever stands after it
 pub record ShowsLimit : Type 0 where
   pub read : file_of (before_policy ++ openings 2 256 ++ token_on 258 kind.Id (codes "id") ∷ closings 258 256)
       ≡ Ok (definition (record { text = codes "p"; line = 1 }) (seq_of no_part) 1 ∷ [])

@@ -14,7 +14,7 @@ IsOpening (tilde line) = ⊤
 IsOpening opening = ⊤
 IsOpening t = ⊥
 
--- behind the token that has so many before it 257 are open, and behind none before it more than 256
+-- after the token that has so many before it 257 are open, and after none before it more than 256
 pub record IsFirstAbove (counts : List ℕ) (place : ℕ) : Type 0 where
   pub earlier : List ℕ
   pub later : List ℕ
@@ -28,7 +28,7 @@ IsWithinOrAbove = (ws : List Written)
     → All (λ k. k ≤ 256) (open_in_file ws) ⊎ ((place : ℕ) × IsFirstAbove (open_in_file ws) place)
 
 -- The tokens that a text begins with, up to the first that opens the 257th, are refused at that token, whatever stands
--- behind it.
+-- after it.
 abbrev pub RefusesThe257th : Type 0
 RefusesThe257th = (ws : List Written) (before : List Token) (t : Token) (more : List Terminal) (rest : List Token)
     → terminals (before ++ t ∷ []) ++ more ≡ spell_file ws → IsFirstAbove (open_in_file ws) (length before)

@@ -28,7 +28,7 @@ pub fn each_text_is_within_the_limit_or_above_it()
     ensures certificates { IsCertifiedWithinOrAbove }
 {}
 
-/// The first token of a text that opens the 257th is refused as too deep, whatever stands behind it.
+/// The first token of a text that opens the 257th is refused as too deep, whatever stands after it.
 pub fn the_257th_is_refused()
     ensures texts { RefusesThe257th }
     ensures certificates { RefusesTheCertified257th }

@@ -15,9 +15,9 @@ use Rattle.nk_uniqueness.proofs.Comparing.{OnePrinted, OneFinding}
 use Rattle.nk_reply.specs.Answer.{Answer, answer_of, limit, too_long}
 use Rattle.nk.specs.Answer.{IsAnswerTo, IsOutcome, IsOutcomeOf, reads}
 use Rattle.nk.specs.Ends.{IsFixedBy}
-use Rattle.nk_following.specs.Flying.{ToFlown}
+use Rattle.nk_trace_commands.specs.Flying.{ToFlown}
 use Rattle.nk_reply.specs.Outcome.{Outcome}
-use Rattle.nk_following.specs.Tracing.{ToLocated}
+use Rattle.nk_trace_commands.specs.Tracing.{ToLocated}
 use Rattle.nk_reply.specs.Use.{Use}
 use Rattle.nk_one_answer.proofs.Following.{OneTrace, by_tables, one_located, one_flown}
 use Rattle.nk_one_answer.proofs.OneJob.{one_job}

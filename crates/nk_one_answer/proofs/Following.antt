@@ -12,10 +12,10 @@ use Rattle.nk_tabgrammar.specs.declared.written.ReadError.{ReadError}
 use Rattle.nk_tabgrammar.specs.declared.written.ReadError.TheVariants as text
 use Rattle.nk_sim.specs.Traces.{IsTrace}
 use Rattle.nk_sim.specs.declared.tracing.Traced.{Traced}
-use Rattle.nk_following.specs.Following.{TableOutcome, ToPacket, ToTables}
-use Rattle.nk_following.specs.Flying.{ToFlown}
+use Rattle.nk_trace_commands.specs.Following.{TableOutcome, ToPacket, ToTables}
+use Rattle.nk_trace_commands.specs.Flying.{ToFlown}
 use Rattle.nk_reply.specs.Outcome.{Outcome, done, differs, text_refused, policy_refused}
-use Rattle.nk_following.specs.Tracing.{ToLocated, traced_text}
+use Rattle.nk_trace_commands.specs.Tracing.{ToLocated, traced_text}
 
 module _ (tells : TableOutcome) (one : (t : Tables) (pk : Packet) (o p : Outcome) → tells t pk o → tells t pk p → o ≡ p) where
   by_port : (t : Tables) (pk : Packet) (o p q : Outcome) (b : Bool) → MatchBool b (tells t pk o) (o ≡ q) → MatchBool b (tells t pk p) (p ≡ q) → o ≡ p

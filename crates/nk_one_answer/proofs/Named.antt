@@ -3,7 +3,7 @@ use Rattle.std.proofs.Common.{◌≡◌, ℕ, ⊎_elim, List, sym, ap, subst, �
 use Rattle.std.specs.Prelude.{codes}
 use Rattle.nk_field.specs.Packet.{FieldTable, IsFieldTable}
 use Rattle.nk_names.specs.declared.Program.{Program}
-use Rattle.nk_names.specs.ProgramOf.{Said, said_by}
+use Rattle.nk_names.specs.ProgramOf.{DeclaredProgram, program_by}
 use Rattle.nk_names.specs.ReadBack.{DeclaresWritable}
 use Rattle.nk_tabtext.specs.Text.{table_bytes}
 use Rattle.nk_cert.specs.Certificates.{CertificateValue}
@@ -21,15 +21,15 @@ use Rattle.nk_uniqueness.proofs.Asking.{one_cause, one_told_of_named, one_found_
 use Rattle.nk_compile.proofs.ReasonByName.{never_refused, one_refusal}
 use Rattle.nk_uniqueness.proofs.ByName.{one_compiled}
 use Rattle.nk_uniqueness.proofs.Comparing.{OnePrinted, OneFinding, one_told_for, none_told, one_found_for, none_found}
-use Rattle.nk_comparing.specs.Asking.{IsHeldQuery, IsBroken, LacksQuestion, IsAskAnswer, broken_lines}
-use Rattle.nk_comparing.specs.CertifiedText.{HoldsCertificate, HasCertifiedFault}
-use Rattle.nk_comparing.specs.Checking.{IsValid, IsInvalid, IsFound, IsCheckAnswer, invalid_line}
-use Rattle.nk_comparing.specs.Comparing.{IsSame, IsDifference, LacksPolicy, IsEqualAnswer, difference_lines}
-use Rattle.nk_compiling.specs.Compiling.{IsCompiledText, IsRefusal, IsCompileAnswer}
-use Rattle.nk_comparing.specs.Judging.{IsValidFor, IsInvalidFor, IsJudgeAnswer}
-use Rattle.nk_comparing.specs.Judging.{IsFoundForAsked}
-use Rattle.nk_comparing.specs.Messages.{TellsQuery}
-use Rattle.nk_compiling.specs.Messages.{refusal_line}
+use Rattle.nk_verify_commands.specs.Asking.{IsHeldQuery, IsBroken, LacksQuestion, IsAskAnswer, broken_lines}
+use Rattle.nk_verify_commands.specs.CertifiedText.{HoldsCertificate, HasCertifiedFault}
+use Rattle.nk_verify_commands.specs.Checking.{IsValid, IsInvalid, IsFound, IsCheckAnswer, invalid_line}
+use Rattle.nk_verify_commands.specs.Comparing.{IsSame, IsDifference, LacksPolicy, IsEqualAnswer, difference_lines}
+use Rattle.nk_compile_commands.specs.Compiling.{IsCompiledText, IsRefusal, IsCompileAnswer}
+use Rattle.nk_verify_commands.specs.Judging.{IsValidFor, IsInvalidFor, IsJudgeAnswer}
+use Rattle.nk_verify_commands.specs.Judging.{IsFoundForAsked}
+use Rattle.nk_verify_commands.specs.Messages.{TellsQuery}
+use Rattle.nk_compile_commands.specs.Messages.{refusal_line}
 use Rattle.nk_reply.specs.Outcome.{Outcome, done, differs, text_refused, policy_refused}
 use Rattle.nk_input.specs.ProgramText.{Declares, HasFault}
 use Rattle.nk.proofs.Alike.{never_caused}
@@ -37,31 +37,31 @@ use Rattle.nk.proofs.OneText.{declares_once, holds_once, certificate_once, no_fa
 use Rattle.nk_one_answer.proofs.Outcomes.{AreApart, IsKind, one_kind}
 
 -- a text declares this, of which that is so
-abbrev pub Declared : List ℕ → (Said → List ℕ → Type 0) → List ℕ → Type 0
-Declared bytes P text = (said : Said) × Declares bytes said × P said text
+abbrev pub Declared : List ℕ → (DeclaredProgram → List ℕ → Type 0) → List ℕ → Type 0
+Declared bytes P text = (said : DeclaredProgram) × Declares bytes said × P said text
 
 -- a text with a certificate declares this, and of both that is so
-abbrev Certified : List ℕ → (Said → CertificateValue → List ℕ → Type 0) → List ℕ → Type 0
-Certified bytes P text = (said : Said) × (c : CertificateValue) × HoldsCertificate bytes said c × P said c text
+abbrev Certified : List ℕ → (DeclaredProgram → CertificateValue → List ℕ → Type 0) → List ℕ → Type 0
+Certified bytes P text = (said : DeclaredProgram) × (c : CertificateValue) × HoldsCertificate bytes said c × P said c text
 
 -- programs that say what the text declares say the same
-pub alike : (bytes : List ℕ) (s t : Said) → Declares bytes s → Declares bytes t → (program other : Program)
-    → said_by program ≡ s → said_by other ≡ t → said_by program ≡ said_by other
+pub alike : (bytes : List ℕ) (s t : DeclaredProgram) → Declares bytes s → Declares bytes t → (program other : Program)
+    → program_by program ≡ s → program_by other ≡ t → program_by program ≡ program_by other
 alike bytes s t d k program other h e = h ∙ declares_once bytes s t d k ∙ sym e
 
-certified_alike : (bytes : List ℕ) (s t : Said) (c e : CertificateValue) → HoldsCertificate bytes s c → HoldsCertificate bytes t e → (program other : Program)
-    → said_by program ≡ s → said_by other ≡ t → said_by program ≡ said_by other
+certified_alike : (bytes : List ℕ) (s t : DeclaredProgram) (c e : CertificateValue) → HoldsCertificate bytes s c → HoldsCertificate bytes t e → (program other : Program)
+    → program_by program ≡ s → program_by other ≡ t → program_by program ≡ program_by other
 certified_alike bytes s t c e d k program other h f = h ∙ holds_once bytes s t c e d k ∙ sym f
 
 -- their fields are a field table
-pub table_of : DeclaresWritable → (bytes : List ℕ) (s : Said) → Declares bytes s → (program : Program) → said_by program ≡ s → IsFieldTable program.fields
+pub table_of : DeclaresWritable → (bytes : List ℕ) (s : DeclaredProgram) → Declares bytes s → (program : Program) → program_by program ≡ s → IsFieldTable program.fields
 table_of law bytes s d program says =
-    subst (λ (t : Said). IsFieldTable t.fields) (sym says) (law bytes d.tokens d.declarations s d.cut d.read d.means).table
+    subst (λ (t : DeclaredProgram). IsFieldTable t.fields) (sym says) (law bytes d.tokens d.declarations s d.cut d.read d.means).table
 
 -- and packets can be at their switches
-pub packets_of : TextsHavePackets → (bytes : List ℕ) (s : Said) → Declares bytes s → (program : Program) → said_by program ≡ s → HavePackets program.fields program.topo
+pub packets_of : TextsHavePackets → (bytes : List ℕ) (s : DeclaredProgram) → Declares bytes s → (program : Program) → program_by program ≡ s → HavePackets program.fields program.topo
 packets_of law bytes s d program says =
-    subst (λ (t : Said). HavePackets t.fields t.topo) (sym says) (law bytes d.tokens d.declarations s d.cut d.read d.means)
+    subst (λ (t : DeclaredProgram). HavePackets t.fields t.topo) (sym says) (law bytes d.tokens d.declarations s d.cut d.read d.means)
 
 -- ---- compile
 
@@ -137,10 +137,10 @@ IsShown (alone side f) = ⊥
 module _ (printed : OnePrinted) (writable : DeclaresWritable) (left right bytes : List ℕ) where
   -- what is told by a program that says what the text declares
   record TellsIn (told : Told) (text : List ℕ) : Type 0 where
-    said : Said
+    said : DeclaredProgram
     declared : Declares bytes said
     program : Program
-    says : said_by program ≡ said
+    says : program_by program ≡ said
     is : IsToldFor program left right told
     written : text ≡ told_text program.fields told
 
@@ -225,11 +225,11 @@ IsValidFinding (invalid row part) = ⊥
 
 module _ (finding : OneFinding) (left right bytes : List ℕ) where
   record FindsIn (v : Finding) (text : List ℕ) : Type 0 where
-    said : Said
+    said : DeclaredProgram
     certificate : CertificateValue
     held : HoldsCertificate bytes said certificate
     program : Program
-    says : said_by program ≡ said
+    says : program_by program ≡ said
     is : IsFoundFor program left right certificate v
     written : text ≡ finding_text v
 
@@ -251,7 +251,7 @@ module _ (finding : OneFinding) (left right bytes : List ℕ) where
   abbrev LackingBoth : List ℕ → Type 0
   LackingBoth = Certified bytes (λ said c text. LacksPolicy said left right text)
 
-  found_in : (said : Said) (c : CertificateValue) (v : Finding) (x : List ℕ) → HoldsCertificate bytes said c → IsFound said left right c v → x ≡ finding_text v → FindsIn v x
+  found_in : (said : DeclaredProgram) (c : CertificateValue) (v : Finding) (x : List ℕ) → HoldsCertificate bytes said c → IsFound said left right c v → x ≡ finding_text v → FindsIn v x
   found_in said c v x held f written = record {
     said = said;
     certificate = c;
@@ -308,7 +308,7 @@ told_once query.NoMemory x y h k = absurd h
 untold : (cause : QueryError) (x : List ℕ) → cause ≡ query.NoMemory → TellsQuery cause x → ⊥
 untold cause x e h = subst (λ c. TellsQuery c x) e h
 
-one_lack : (asked : Asked) (s t : Said) (x y : List ℕ) → s ≡ t → LacksQuestion s asked x → LacksQuestion t asked y → x ≡ y
+one_lack : (asked : Asked) (s t : DeclaredProgram) (x y : List ℕ) → s ≡ t → LacksQuestion s asked x → LacksQuestion t asked y → x ≡ y
 one_lack asked s t x y e h k =
     ⊎_elim
     (λ n. absurd (untold h.cause x n h.told))
@@ -416,7 +416,7 @@ module _ (printed : OnePrinted) (writable : DeclaresWritable) (asked : Asked) (b
 
 module _ (finding : OneFinding) (asked : Asked) (bytes : List ℕ) where
   record FindsOf (v : Finding) (text : List ℕ) : Type 0 where
-    said : Said
+    said : DeclaredProgram
     certificate : CertificateValue
     held : HoldsCertificate bytes said certificate
     found : IsFoundForAsked said asked certificate v

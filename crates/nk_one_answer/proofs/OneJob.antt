@@ -4,7 +4,7 @@ use Rattle.std.specs.Prelude.{codes}
 use Rattle.nk_field.specs.Packet.{IsFieldTable}
 use Rattle.nk_names.specs.Accepted.{IsStartPacket}
 use Rattle.nk_names.specs.declared.Program.{Program}
-use Rattle.nk_names.specs.ProgramOf.{said_by}
+use Rattle.nk_names.specs.ProgramOf.{program_by}
 use Rattle.nk_names.specs.ReadBack.{DeclaresWritable}
 use Rattle.nk_table.specs.declared.Tables.{Tables}
 use Rattle.nk_compile.specs.Counted.{HasTagSets, HasTagCount}
@@ -15,8 +15,8 @@ use Rattle.nk_names.proofs.Alike.{fields_alike, topo_alike, one_policy}
 use Rattle.nk_uniqueness.proofs.ByName.{one_compiled}
 use Rattle.nk_uniqueness.proofs.Comparing.{OnePrinted, one_told_for}
 use Rattle.nk_compile.proofs.OneTagList.{one_tag_list}
-use Rattle.nk_comparing.specs.Comparing.{IsEqualAnswer}
-use Rattle.nk_compiling.specs.Compiling.{IsCompileAnswer}
+use Rattle.nk_verify_commands.specs.Comparing.{IsEqualAnswer}
+use Rattle.nk_compile_commands.specs.Compiling.{IsCompileAnswer}
 use Rattle.nk.specs.Generating.{CountsTables, CountsRows, IsCounted, IsJobOver, IsNotDone, OrThen, tables_line, rows_line}
 use Rattle.nk_reply.specs.Outcome.{Outcome, done}
 use Rattle.nk.proofs.OneText.{declares_once}
@@ -35,7 +35,7 @@ one_or_then First Rest one rest o p (inr h) (inr k) =
     let e = done_is h.0 k.0 (one (done h.0) (done k.0) h.1 k.1) in
     rest k.0 o p (subst (λ t. Rest t o) e h.2) k.2
 
-module _ (program other : Program) (same : said_by program ≡ said_by other) where
+module _ (program other : Program) (same : program_by program ≡ program_by other) where
   -- the number of tag sets is one
   one_count : (name : List ℕ) (m n : ℕ) → HasTagCount program name m → HasTagCount other name n → m ≡ n
   one_count name m n h k =
@@ -74,9 +74,9 @@ module _ (program other : Program) (same : said_by program ≡ said_by other) wh
 module _ (printed : OnePrinted) (writable : DeclaresWritable) (packets : TextsHavePackets) (bytes : List ℕ) where
   one_counted : (g c t : List ℕ) (o p : Outcome) → IsCounted bytes g c t o → IsCounted bytes g c t p → o ≡ p
   one_counted g c t o p h k =
-      let same = declares_once bytes (said_by h.program) (said_by k.program) h.declares k.declares in
-      let there = packets_of packets bytes (said_by h.program) h.declares h.program refl in
-      let table = table_of writable bytes (said_by h.program) h.declares h.program refl in
+      let same = declares_once bytes (program_by h.program) (program_by k.program) h.declares k.declares in
+      let there = packets_of packets bytes (program_by h.program) h.declares h.program refl in
+      let table = table_of writable bytes (program_by h.program) h.declares h.program refl in
       let go = one_tables_line h.program k.program same there (codes "go") g g h.go_line k.go_line h.go k.go in
       let cast = one_tables_line h.program k.program same there (codes "cast") c c h.cast_line k.cast_line h.cast k.cast in
       let rows = one_rows_line h.program k.program same printed table (codes "go") (codes "same") t t h.equal_line k.equal_line h.equal k.equal in

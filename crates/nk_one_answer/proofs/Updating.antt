@@ -4,18 +4,18 @@ use Rattle.nk_field.specs.Packet.{FieldTable}
 use Rattle.nk_field.specs.Texts.{packet_of}
 use Rattle.nk_field.specs.declared.packet.Packet.{Packet}
 use Rattle.nk_names.specs.declared.Program.{Program}
-use Rattle.nk_names.specs.ProgramOf.{Said, said_by}
+use Rattle.nk_names.specs.ProgramOf.{DeclaredProgram, program_by}
 use Rattle.nk_names.proofs.Alike.{fields_alike}
 use Rattle.nk_table.specs.declared.Tables.{Tables}
 use Rattle.nk_compile.specs.declared.pair.TablePair.{TablePair}
 use Rattle.nk_compile.proofs.PairReasonByName.{one_pair_refusal}
 use Rattle.nk_uniqueness.specs.Texts.{TextsHavePackets}
 use Rattle.nk_uniqueness.proofs.Pairs.{never_both, one_pair}
-use Rattle.nk_following.specs.Following.{ToPacket}
-use Rattle.nk_compiling.specs.Messages.{refusal_line}
+use Rattle.nk_trace_commands.specs.Following.{ToPacket}
+use Rattle.nk_compile_commands.specs.Messages.{refusal_line}
 use Rattle.nk_reply.specs.Outcome.{Outcome, done, differs, text_refused, policy_refused}
 use Rattle.nk_input.specs.ProgramText.{Declares, HasFault}
-use Rattle.nk_compiling.specs.Updating.{ToTurned, ToPair, IsPlannedAnswer, IsPairRefusal, IsUpdateAnswer, plan_for}
+use Rattle.nk_compile_commands.specs.Updating.{ToTurned, ToPair, IsPlannedAnswer, IsPairRefusal, IsUpdateAnswer, plan_for}
 use Rattle.nk.proofs.OneText.{declares_once, no_fault, one_fault}
 use Rattle.nk_one_answer.proofs.Following.{by_packet}
 use Rattle.nk_one_answer.proofs.Named.{packets_of}
@@ -33,7 +33,7 @@ module _ (packets : TextsHavePackets) (old new : List ℕ) (seed steps : ℕ) (w
     fault : HasFault bytes text
 
   record IsOfText (o : Outcome) : Type 0 where
-    said : Said
+    said : DeclaredProgram
     declared : Declares bytes said
     told : ToPair said old new seed steps word o
 
@@ -51,9 +51,9 @@ module _ (packets : TextsHavePackets) (old new : List ℕ) (seed steps : ℕ) (w
   one_told fields pair o p h k =
       by_packet (ToTurned (plan_for pair) seed steps) (one_turned pair seed steps) pair.old (packet_of fields word) o p h k
 
-  module _ (s t : Said) (d : Declares bytes s) (e : Declares bytes t) where
+  module _ (s t : DeclaredProgram) (d : Declares bytes s) (e : Declares bytes t) where
     -- programs that say what the text declares say the same
-    alike : (program other : Program) → said_by program ≡ s → said_by other ≡ t → said_by program ≡ said_by other
+    alike : (program other : Program) → program_by program ≡ s → program_by other ≡ t → program_by program ≡ program_by other
     alike program other h k = h ∙ declares_once bytes s t d e ∙ sym k
 
     both_planned : (o p : Outcome) → IsPlannedAnswer s old new seed steps word o → IsPlannedAnswer t old new seed steps word p → o ≡ p

@@ -7,10 +7,10 @@ use Rattle.nk_grammar.specs.File.{Declaration, IsWritten, field, tag, switch, de
 use Rattle.nk_policy.specs.Policy.{Policy}
 use Rattle.nk_names.specs.declared.Program.{Program}
 use Rattle.nk_names.specs.Accepted.{IsStartPacket}
-use Rattle.nk_names.specs.ProgramOf.{Said, said_by}
+use Rattle.nk_names.specs.ProgramOf.{DeclaredProgram, program_by}
 use Rattle.nk_names.specs.ProgramValue.{VirtualLink, HaveOneSource}
 use Rattle.nk_names.proofs.Alike.{fields_alike, topo_alike}
-use Rattle.nk_names.proofs.Going.{said_has_lets}
+use Rattle.nk_names.proofs.Going.{program_has_lets}
 use Rattle.nk_tabtext.specs.Text.{table_bytes}
 use Rattle.nk_compile.specs.declared.refusal.Refusal.{Refusal}
 use Rattle.nk_compile.specs.Refusals.{IsReason}
@@ -21,10 +21,10 @@ use Rattle.nk_virtual.proofs.OneAnswer.{one_physical}
 use Rattle.nk_virtual.proofs.OneAnswer as unphysical
 use Rattle.nk_uniqueness.specs.Texts.{TextsHavePackets}
 use Rattle.nk_uniqueness.proofs.OneTable.{one_table}
-use Rattle.nk_compiling.specs.Messages.{refusal_line, unphysical_line}
+use Rattle.nk_compile_commands.specs.Messages.{refusal_line, unphysical_line}
 use Rattle.nk_reply.specs.Outcome.{Outcome, done, differs, text_refused, policy_refused}
 use Rattle.nk_input.specs.ProgramText.{Declares, HasFault}
-use Rattle.nk_compiling.specs.Virtualizing.{IsVirtualPrinted, LacksPhysical, IsPhysicalRefusal, IsVirtualizeAnswer}
+use Rattle.nk_compile_commands.specs.Virtualizing.{IsVirtualPrinted, LacksPhysical, IsPhysicalRefusal, IsVirtualizeAnswer}
 use Rattle.nk.proofs.OneText.{no_fault, one_fault}
 use Rattle.nk_one_answer.proofs.Named.{Declared, alike, packets_of}
 use Rattle.nk_one_answer.proofs.Outcomes.{AreApart, IsKind, one_kind}
@@ -43,10 +43,10 @@ written (virtual_link a m b n w) h = tt
 abbrev BeginApart : List VirtualLink → Type 0
 BeginApart links = AllPairs (λ k l. ¬ (HaveOneSource k l)) links
 
-begin_apart : DeclaresFields → (bytes : List ℕ) (s : Said) → Declares bytes s → (program : Program) → said_by program ≡ s → BeginApart program.virtuals
+begin_apart : DeclaresFields → (bytes : List ℕ) (s : DeclaredProgram) → Declares bytes s → (program : Program) → program_by program ≡ s → BeginApart program.virtuals
 begin_apart fields bytes s d program says =
-    subst (λ (t : Said). BeginApart t.virtuals) (sym says)
-    (said_has_lets d.declarations s (All-weaker IsFieldOfText IsWritten written d.declarations (fields bytes d.tokens d.declarations d.cut d.read)) d.means).virtuals.one_from
+    subst (λ (t : DeclaredProgram). BeginApart t.virtuals) (sym says)
+    (program_has_lets d.declarations s (All-weaker IsFieldOfText IsWritten written d.declarations (fields bytes d.tokens d.declarations d.cut d.read)) d.means).virtuals.one_from
 
 module _ (fields_of : DeclaresFields) (packets : TextsHavePackets) (name bytes : List ℕ) where
   abbrev Made : List ℕ → Type 0
@@ -58,7 +58,7 @@ module _ (fields_of : DeclaresFields) (packets : TextsHavePackets) (name bytes :
   abbrev Nothing : List ℕ → Type 0
   Nothing = Declared bytes (λ said text. ⊥)
 
-  module _ (s t : Said) (d : Declares bytes s) (e : Declares bytes t) (x y : List ℕ) where
+  module _ (s t : DeclaredProgram) (d : Declares bytes s) (e : Declares bytes t) (x y : List ℕ) where
     both_made : IsVirtualPrinted s name x → IsVirtualPrinted t name y → x ≡ y
     both_made m n =
         let same = alike bytes s t d e m.program n.program m.says n.says in
@@ -81,7 +81,7 @@ module _ (fields_of : DeclaresFields) (packets : TextsHavePackets) (name bytes :
         ∙ sym n.told
 
     -- the reason to refuse another program's physical policy is one against this one's
-    moved : (program other : Program) (same : said_by program ≡ said_by other) (p q : Policy) (r : Refusal) → p ≡ q
+    moved : (program other : Program) (same : program_by program ≡ program_by other) (p q : Policy) (r : Refusal) → p ≡ q
         → IsReason other.fields other.topo q r → IsReason program.fields program.topo p r
     moved program other same p q r is h =
         over_the_same (λ f u z. IsReason f u z r) other.fields program.fields other.topo program.topo q p

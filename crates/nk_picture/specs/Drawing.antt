@@ -39,7 +39,7 @@ step_line before n p =
     codes "  " ++ source_name before ++ codes " -> " ++ port_name p.switch p.port ++ codes " [label=\"" ++ decimal n
     ++ codes "\", color=red, fontcolor=red];\n"
 
--- the lines of the steps of a way behind a place, numbered from the number on
+-- the lines of the steps of a way after a place, numbered from the number on
 abbrev pub steps_from : Option Place → ℕ → List Place → List ℕ
 steps_from before n [] = []
 steps_from before n (p ∷ ps) = step_line before n p ++ steps_from (Some p) (n + 1) ps

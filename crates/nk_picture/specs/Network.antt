@@ -11,9 +11,9 @@ use Rattle.nk_grammar.specs.File.{Declaration}
 use Rattle.nk_grammar.specs.FileMachine.{file_of}
 use Rattle.nk_names.specs.declared.fault.NamesError.{NamesError}
 use Rattle.nk_names.specs.declared.fault.NamesError.TheVariants as naming
-use Rattle.nk_names.specs.ProgramOf.{Said, program_of}
-pub use Rattle.nk_names.specs.Words.{fault_line}
-use Rattle.nk_names.specs.Words.{fault_words}
+use Rattle.nk_names.specs.ProgramOf.{DeclaredProgram, program_of}
+pub use Rattle.nk_names.specs.Messages.{fault_line}
+use Rattle.nk_names.specs.Messages.{fault_message_of}
 use Rattle.nk_topo.specs.Topology.{Topology}
 use Rattle.nk_picture.specs.declared.network.Network.{Network}
 use Rattle.nk_picture.specs.declared.network.Network.TheVariants as network
@@ -32,11 +32,11 @@ grammar_line grammar.NoMemory = []
 
 -- of its declarations
 abbrev pub names_line : NamesError → List ℕ
-names_line (naming.Fault kind line) = fault_line line (fault_words kind)
+names_line (naming.Fault kind line) = fault_line line (fault_message_of kind)
 names_line naming.NoMemory = []
 
 -- the network of a program, or the line of the fault that it has instead
-abbrev pub of_program : Result Said NamesError → Result Topology (List ℕ)
+abbrev pub of_program : Result DeclaredProgram NamesError → Result Topology (List ℕ)
 of_program (Ok said) = Ok said.topo
 of_program (Err e) = Err (names_line e)
 

@@ -2,14 +2,14 @@
 use Rattle.std.specs.Prelude.{ℕ, ◌+◌, ◌==◌, ◌||◌, Bool, true, false, Option, None, Some, Result, Ok, Err, List, [], ◌∷◌, ◌++◌, codes, option_map, if◌then◌else◌, ⊤, ◌≡◌}
 use Rattle.std.specs.Str.{bytes_eq}
 use Rattle.std.specs.List.{slice_split}
-use Rattle.nk_field.specs.Texts.{behind, number_if_any}
+use Rattle.nk_field.specs.Texts.{rest_after_prefix, number_if_any}
 use Rattle.nk_picture.specs.declared.way.Place.{Place}
 use Rattle.nk_picture.specs.declared.way.Way.{Way}
 use Rattle.nk_picture.specs.declared.way.Way.TheVariants as way
 
--- the number behind a front, at most 65535
-abbrev pub number_behind : List ℕ → List ℕ → Option ℕ
-number_behind front item = number_if_any 65535 (behind front item)
+-- the number after a front, at most 65535
+abbrev pub number_after : List ℕ → List ℕ → Option ℕ
+number_after front item = number_if_any 65535 (rest_after_prefix front item)
 
 abbrev pub place : ℕ → ℕ → Place
 place sw pt = record { switch = sw; port = pt }
@@ -20,17 +20,17 @@ both None m = None
 both (Some n) None = None
 both (Some n) (Some m) = Some (place n m)
 
--- the place of a packet's items: the first is `sw=N`, the second `pt=M`, and what stands behind them says nothing of the place
+-- the place of a packet's items: the first is `sw=N`, the second `pt=M`, and what stands after them says nothing of the place
 abbrev pub place_of_items : List (List ℕ) → Option Place
 place_of_items [] = None
 place_of_items (i ∷ []) = None
-place_of_items (i ∷ j ∷ is) = both (number_behind (codes "sw=") i) (number_behind (codes "pt=") j)
+place_of_items (i ∷ j ∷ is) = both (number_after (codes "sw=") i) (number_after (codes "pt=") j)
 
 -- the place of a packet's text, whose items stand between commas
 abbrev pub place_of_word : List ℕ → Option Place
 place_of_word word = place_of_items (slice_split (λ b. b == 44) word)
 
--- whether a word only says what comes behind it, as `equal` prints it
+-- whether a word only says what comes after it, as `equal` prints it
 abbrev pub is_heading : List ℕ → Bool
 is_heading word = bytes_eq word (codes "start") || bytes_eq word (codes "history")
 
@@ -43,7 +43,7 @@ abbrev pub with_places : Option (List Place) → ℕ → (List Place → Result 
 with_places None n rest = Err n
 with_places (Some ps) n rest = rest ps
 
--- the way of these words behind some places, or the number of the first word that is neither heading nor packet, where n words
+-- the way of these words after some places, or the number of the first word that is neither heading nor packet, where n words
 -- came before
 abbrev pub way_after : List Place → ℕ → List (List ℕ) → Result (List Place) ℕ
 way_after ps n [] = Ok ps

@@ -1,4 +1,4 @@
-//! The Graphviz text of a network, each part of it put behind a text.
+//! The Graphviz text of a network, each part of it put after a text.
 ghost use Rattle.std.specs.Prelude.{◌≡◌, ◌++◌, codes, decimal, IfOk, OnOk};
 ghost use Rattle.std.specs.List.{flat_map};
 ghost use Rattle.nk_topo.specs.Inside.{link_of};

@@ -52,15 +52,15 @@ fn read_file(alloc: Global, file: &File) -> Result<Network, AllocError>
 {
     match program(alloc, file) {
         Ok(program) => Ok(Network::Program(program)),
-        Err(NamesError::Fault { kind, line }) => fault(alloc, line, kind.words()),
+        Err(NamesError::Fault { kind, line }) => fault(alloc, line, kind.message()),
         Err(NamesError::NoMemory) => Err(AllocError),
     }
 }
 
 /// The line of a text's fault.
-fn fault(alloc: Global, line: u64, words: &str) -> Result<Network, AllocError>
-    ensures { IfOk result (λ n. network_in n ≡ Err (fault_line line words.now)) }
+fn fault(alloc: Global, line: u64, message: &str) -> Result<Network, AllocError>
+    ensures { IfOk result (λ n. network_in n ≡ Err (fault_line line message.now)) }
 {
-    let line = numbered(alloc, "line ", line, words)?;
+    let line = numbered(alloc, "line ", line, message)?;
     Ok(Network::Fault(line))
 }

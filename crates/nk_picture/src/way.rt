@@ -53,7 +53,7 @@ fn add_places(alloc: Global, places: &mut Vec<Place>, word: &str) -> Result<bool
     }
 }
 
-/// Whether a word only says what comes behind it.
+/// Whether a word only says what comes after it.
 fn is_heading(word: &str) -> bool
     ensures { result ≡ specs.is_heading word.now }
 {
@@ -81,7 +81,7 @@ fn place_in(items: &[&str]) -> Option<Place>
 {
     match items {
         [first, second, ..] => {
-            match (number_behind("sw=", first), number_behind("pt=", second)) {
+            match (number_after("sw=", first), number_after("pt=", second)) {
                 (Some(switch), Some(port)) => Some(Place { switch, port }),
                 _ => None,
             }
@@ -90,9 +90,9 @@ fn place_in(items: &[&str]) -> Option<Place>
     }
 }
 
-/// The number behind a front, at most 65535.
-fn number_behind(front: &str, item: &str) -> Option<u64>
-    ensures { result ≡ specs.number_behind front.now item.now }
+/// The number after a front, at most 65535.
+fn number_after(front: &str, item: &str) -> Option<u64>
+    ensures { result ≡ specs.number_after front.now item.now }
 {
     match item.strip_prefix(front) {
         Some(digits) => number_upto(65_535, digits),

@@ -50,7 +50,7 @@ rest_first : (p : Policy) (ps : Policies) (l : ℕ) (x : Packet) (v : Marked) (y
     → way_of (after_all (part p ps) l) numbered x v y
 rest_first p ps l x v y h r = subst (λ b. Chosen b (seq_of (part (after p l) ps)) (after_all ps l) x v y) (sym h) r
 
--- the same where the parts behind hold it
+-- the same where the parts after hold it
 rest_later : (p : Policy) (ps : Policies) (l : ℕ) (x : Packet) (v : Marked) (y : Packet)
     → has_dup p l ≡ false → way_of (after_all ps l) numbered x v y
     → way_of (after_all (part p ps) l) numbered x v y
@@ -62,7 +62,7 @@ first_rest : (p : Policy) (ps : Policies) (l : ℕ) (x : Packet) (v : Marked) (y
     → way_of (seq_of (part (after p l) ps)) numbered x v y
 first_rest p ps l x v y h r = subst (λ b. Chosen b (seq_of (part (after p l) ps)) (after_all ps l) x v y) h r
 
--- and back, where the parts behind hold it
+-- and back, where the parts after hold it
 later_rest : (p : Policy) (ps : Policies) (l : ℕ) (x : Packet) (v : Marked) (y : Packet)
     → has_dup p l ≡ false → way_of (after_all (part p ps) l) numbered x v y
     → way_of (after_all ps l) numbered x v y

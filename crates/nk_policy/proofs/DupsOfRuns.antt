@@ -45,7 +45,7 @@ rounds_pass is way h zero pk v y r = pass_none is v r.0
 rounds_pass is way h (suc n) pk v y r =
     pass_joined is v r.0 r.1 r.3 (h pk r.0 r.2 r.4) (rounds_pass is way h n r.2 r.1 y r.5)
 
--- a part and then the parts behind it
+-- a part and then the parts after it
 cons_pass : (p : Policy) (ps : Policies) → Ways (has_dup p) (way_of p numbered)
     → Ways (some_has_dup ps) (way_of_all ps numbered)
     → Ways (some_has_dup (part p ps)) (way_of_all (part p ps) numbered)
@@ -125,7 +125,7 @@ mutual
 abbrev Fronts : (ℕ → Bool) → (Packet → Marked → Packet → ℕ → Type 0) → Type 0
 Fronts is front = (pk : Packet) (u : Marked) (x : Packet) (l : ℕ) → front pk u x l → Pass is (u ++ (x, l) ∷ [])
 
--- a dup of the first part, or all of it and then a dup of the parts behind it
+-- a dup of the first part, or all of it and then a dup of the parts after it
 cons_front : (p : Policy) (ps : Policies) → Ways (has_dup p) (way_of p numbered)
     → Fronts (has_dup p) (RecordsAt p)
     → Fronts (some_has_dup ps) (AllRecordAt ps)

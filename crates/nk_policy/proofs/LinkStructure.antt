@@ -132,7 +132,7 @@ on_parts a m b n k = record {
       inr ([], [], y, refl, (refl, refl), inr ([], [], slice_set y 0 b, refl, (refl, refl), inr ([], [], slice_set (slice_set y 0 b) 1 n, refl, (refl, refl), inl (refl, refl, refl))));
 }
 
--- and the parts behind it don't matter
+-- and the parts after it don't matter
 on_link_first : (k : Literal) (p : Policy) (ps : Policies) → IsOnLink k p
     → IsOnLink k (seq_of (part p ps))
 on_link_first k p ps b = record {

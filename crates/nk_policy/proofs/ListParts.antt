@@ -70,7 +70,7 @@ pub map_empty : {A B : Type 0} (f : A → B) (xs : List A) → map f xs ≡ [] �
 map_empty f [] e = refl
 map_empty f (x ∷ xs) e = cc
 
--- a run in pieces: the pieces before an element, the element, and the pieces behind it
+-- a run in pieces: the pieces before an element, the element, and the pieces after it
 pub in_pieces : {A : Type 0} (u v a b c d e : List A) (x : A)
     → u ≡ a ++ b → v ≡ c ++ (d ++ e) → u ++ x ∷ v ≡ (a ++ ((b ++ x ∷ c) ++ d)) ++ e
 in_pieces u v a b c d e x f g =

@@ -49,7 +49,7 @@ module _ (p : Policy) (ps : Policies) (apart : AreApart p ps) (split : Splits p)
   held : (pk : Packet) (u : Marked) (x : Packet) (k : ℕ) → RecordsAt p pk u x k → has_dup p k ≡ true
   held pk u x k r = holds_dup p pk u x k r
 
-  -- and none of those of the parts behind it
+  -- and none of those of the parts after it
   not_held : (pk : Packet) (u : Marked) (x : Packet) (k : ℕ) → AllRecordAt ps pk u x k
       → has_dup p k ≡ false
   not_held pk u x k r = apart k (all_hold_dup ps pk u x k r)

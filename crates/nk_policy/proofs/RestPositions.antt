@@ -56,7 +56,7 @@ from_later p ps m x v y l h r =
 module _ (p : Policy) (ps : Policies) (k : ℕ) (apart : AreApart p ps) (one : Again p k)
     (many : AllAgain ps k) (passes : AllPass ps) (goes : AllGoOn ps)
     (a : GoesBy (after p k) (after p)) (b : GoesBy (after_all ps k) (after_all ps)) where
-  -- the parts behind the first one hold the dups at which they record
+  -- the parts after the first one hold the dups at which they record
   holding : AllHoldDup ps
   holding = all_hold_dup ps
 

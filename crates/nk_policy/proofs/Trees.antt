@@ -25,7 +25,7 @@ abbrev pub joined : Policies → Policies → Policies
 joined no_part qs = qs
 joined (part p ps) qs = part p (joined ps qs)
 
--- no parts behind change nothing
+-- no parts after change nothing
 pub joined_none : (ps : Policies) → joined ps no_part ≡ ps
 joined_none no_part = refl
 joined_none (part p ps) = ap (part p) (joined_none ps)

@@ -58,7 +58,7 @@ abbrev mutual
   after_some no_part l = drop_policy
   after_some (part p ps) l = if has_dup p l then after p l else after_some ps l
 
-  -- of a sequence, that of the part that holds the dup, then the parts behind it
+  -- of a sequence, that of the part that holds the dup, then the parts after it
   pub after_all : Policies → ℕ → Policy
   after_all no_part l = drop_policy
   after_all (part p ps) l = if has_dup p l then seq_of (part (after p l) ps) else after_all ps l

@@ -3,7 +3,7 @@ use Rattle.std.specs.Prelude.{◌≡◌, ℕ, true, false}
 use Rattle.nk_policy.specs.Policy.{Policy, Policies, test, range, assign, sum_of, seq_of, not_of, star_of, dup, link, no_part, part}
 use Rattle.nk_policy.specs.After.{has_dup, some_has_dup}
 
--- the dups of a policy and of the parts behind it are different ones
+-- the dups of a policy and of the parts after it are different ones
 abbrev pub AreApart : Policy → Policies → Type 0
 AreApart p ps = (l : ℕ) → some_has_dup ps l ≡ true → has_dup p l ≡ false
 

@@ -18,7 +18,7 @@ abbrev pub unless_any : List History → History → List History
 unless_any [] h = h ∷ []
 unless_any (g ∷ gs) h = []
 
--- The histories that go on from one: the policy works on its last packet, and what is recorded comes behind its records.
+-- The histories that go on from one: the policy works on its last packet, and what is recorded comes after its records.
 abbrev mutual
   pub histories_from : Policy → History → List History
   histories_from (test f n) h = if slice_index h.last f == n then h ∷ [] else []

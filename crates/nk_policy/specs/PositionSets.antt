@@ -1,5 +1,5 @@
 -- Where runs can be after what was recorded, as sets of positions, set by set: the subset construction on the automaton
--- whose states are the dups (Foster et al., POPL 2015). Position 0 is the start; position l is behind the dup with number l.
+-- whose states are the dups (Foster et al., POPL 2015). Position 0 is the start; position l is after the dup with number l.
 use Rattle.std.specs.Prelude.{◌≡◌, ℕ, zero, suc, ◌⊎◌, true, false, List, [], ◌∷◌, Contains}
 use Rattle.nk_field.specs.declared.packet.Packet.{Packet}
 use Rattle.nk_policy.specs.Policy.{Policy}

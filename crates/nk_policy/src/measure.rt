@@ -86,7 +86,7 @@ fn dups_all(ps: &[Pol]) -> u64
     total
 }
 
-/// Whether it has a dup. Parts are asked from the last on, as links stand behind what is done at a switch.
+/// Whether it has a dup. Parts are asked from the last on, as links stand after what is done at a switch.
 #[cycle(may_record)]
 #[tactic(auto, using(crate::proofs::Trees::tree_of_sum, crate::proofs::Trees::tree_of_seq))]
 pub fn may_record(p: &Pol) -> bool

@@ -76,7 +76,7 @@ pub near_first : (d e v x : ℕ) → v ≤ e → v ≤ x → x < v + step d e v 
 near_first d e v x h low high =
     near_agree v (d - largest_fit v e d) d x (first_aligned d e v h) low (subst (λ s. x < v + s) (sym (first_free d e v)) high)
 
--- each block begins behind the one before
+-- each block begins after the one before
 pub ascends : (e max n v : ℕ) → BlocksAscend max v (blocks_from (digits_of max) e max n v)
 ascends e max zero v = tt
 ascends e max (suc n) v =
@@ -87,7 +87,7 @@ ascends e max (suc n) v =
       | inr stop ↦ subst (BlocksAscend max v) (sym (cut_stop (digits_of max) e max (suc n) v stop)) tt
     ]
 
--- an element at the head, or behind it
+-- an element at the head, or after it
 pub there_first : (b : ℕ × ℕ) (bs : List (ℕ × ℕ)) → Contains (b ∷ bs) b
 there_first b bs = (0, omega arith, refl)
 
@@ -305,15 +305,15 @@ counted_once lo hi max x h m =
     counted_in (digits_of max) (end_of lo hi max) max (end_of lo hi max + 1) lo x m (omega arith)
     ∙ ap (λ t. one_if (nat_le lo x && t)) (same_end lo hi max x h m)
 
--- blocks of two intervals, one behind the other, have no value in range in common
+-- blocks of two intervals, one after the other, have no value in range in common
 pub apart :
     (lo hi lo' hi' max x : ℕ) (b c : ℕ × ℕ) → hi < lo' → hi' ≤ max → x ≤ max → hi ≤ max
     → Contains (blocks_of lo hi max) b → Contains (blocks_of lo' hi' max) c
     → is_in_block max x b ≡ true → is_in_block max x c ≡ true → ⊥
-apart lo hi lo' hi' max x b c behind h' m h inb inc p q =
+apart lo hi lo' hi' max x b c following h' m h inb inc p q =
     let one = in_interval lo hi max x b h m inb p in
     let two = in_interval lo' hi' max x c h' m inc q in
-    absurd (omega (arith, one.1, two.0, behind))
+    absurd (omega (arith, one.1, two.0, following))
 
 -- a single value is one block, of all digits
 pub single : (v max : ℕ) → v ≤ max → blocks_of v v max ≡ (v, digits_of max) ∷ []

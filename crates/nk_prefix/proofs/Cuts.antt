@@ -45,7 +45,7 @@ not_both_number true true x y h = elim h [ inl a ↦ absurd cc | inr b ↦ absur
 not_both_number true false x y h = refl
 not_both_number false q x y h = refl
 
--- a block, and what comes behind it
+-- a block, and what comes after it
 pub cut_on :
     (d e m n v : ℕ) → v ≤ e → v ≤ m → blocks_from d e m (suc n) v ≡ first d e v ∷ blocks_from d e m n (v + step d e v)
 cut_on d e m n v a b = both (nat_le v e) (nat_le v m) (first d e v ∷ blocks_from d e m n (v + step d e v)) [] (le_true v e a) (le_true v m b)
@@ -143,7 +143,7 @@ ends lo hi max h =
       | inr few ↦ inl (not_both_number (nat_lt lo hi) (hi == max) (2 ^ digits_of max - 1) hi (inl (lt_false lo hi (omega (arith, few.1)))))
     ]
 
--- the blocks from v on are the first and those behind it
+-- the blocks from v on are the first and those after it
 pub cut_next :
     (d e m v : ℕ) → v ≤ e → v ≤ m → blocks_from d e m (e + 1) v ≡ first d e v ∷ blocks_from d e m (e + 1) (v + step d e v)
 cut_next d e m v a b =

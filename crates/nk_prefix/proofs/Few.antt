@@ -22,7 +22,7 @@ halves v k h =
           inr (parts ∙ ap (λ q. q * 2 ^ k + v % 2 ^ k) one ∙ omega (arith, h))
     ]
 
--- what is aligned stays aligned behind a block of that size
+-- what is aligned stays aligned after a block of that size
 aligned_on : (v k : ℕ) → v % 2 ^ k ≡ 0 → (v + 2 ^ k) % 2 ^ k ≡ 0
 aligned_on v k h =
     let split : v / 2 ^ k * 2 ^ k + v % 2 ^ k ≡ v = div-add-mod' v (2 ^ k) in
@@ -42,7 +42,7 @@ up_by s t v p twice h =
     let whole : v + s ≡ (v / t + 1) * t + 0 = omega (arith, split, h, twice) in
     ap (λ w. w % t) whole ∙ mod-mul-add (v / t + 1) t 0 (omega (arith, p, twice))
 
--- half a size behind the middle is the next multiple
+-- half a size after the middle is the next multiple
 aligned_up : (v k : ℕ) → v % 2 ^ (k + 1) ≡ 2 ^ k → (v + 2 ^ k) % 2 ^ (k + 1) ≡ 0
 aligned_up v k h =
     let twice : 2 ^ (k + 1) ≡ 2 ^ k * 2 = pow_more 2 k in
@@ -87,7 +87,7 @@ one_left d e m (suc n) v a end fit =
           omega (arith, on_is, none)
     ]
 
--- a block, and at most so many behind it
+-- a block, and at most so many after it
 few_step :
     (d e m n i k v : ℕ) → suc i + k ≡ d → v ≤ e → fits v e k ≡ true → fits v e (k + 1) ≡ false
     → ((l : ℕ) → length (blocks_from d e m l (v + 2 ^ k)) ≤ i + d) → length (blocks_from d e m n v) ≤ suc i + d

@@ -4,36 +4,36 @@ use Rattle.std.proofs.lemmas.Nat.{pow_pos, div-add-mod', le-div, div_below}
 use Rattle.std.proofs.lemmas.Grind.{pow_more}
 use Rattle.std.proofs.Math.Pow.{pow_mono}
 use Rattle.std.proofs.lemmas.Bool.Decides.{nat_tests, leb_tells}
-use Rattle.nk_prefix.specs.Prefix.{digits_behind, digits_of}
+use Rattle.nk_prefix.specs.Prefix.{digits_after, digits_of}
 
 -- half a number that is not below two
-pub digits_step : (k n : ℕ) → 2 ≤ n → digits_behind (suc k) n ≡ digits_behind k (n / 2) + 1
+pub digits_step : (k n : ℕ) → 2 ≤ n → digits_after (suc k) n ≡ digits_after k (n / 2) + 1
 digits_step k n h = grind (arith, nat_tests, h)
 
-pub digits_end : (k n : ℕ) → n < 2 → digits_behind (suc k) n ≡ 0
+pub digits_end : (k n : ℕ) → n < 2 → digits_after (suc k) n ≡ 0
 digits_end k n h = grind (arith, nat_tests, h)
 
 -- a number is below the power of two of its digits
-pub below_digits : (k n : ℕ) → n ≤ k → n < 2 ^ (digits_behind k n + 1)
+pub below_digits : (k n : ℕ) → n ≤ k → n < 2 ^ (digits_after k n + 1)
 below_digits zero n h = omega arith
 below_digits (suc k) n h =
     elim (leb_tells 2 n) [
       | inl large ↦
           let half : n / 2 ≤ k = omega (arith, h, large.1) in
-          let rest : n / 2 < 2 ^ (digits_behind k (n / 2) + 1) = below_digits k (n / 2) half in
-          rw (digits_step k n large.1) (omega (arith, rest, pow_more 2 (digits_behind k (n / 2) + 1)))
+          let rest : n / 2 < 2 ^ (digits_after k (n / 2) + 1) = below_digits k (n / 2) half in
+          rw (digits_step k n large.1) (omega (arith, rest, pow_more 2 (digits_after k (n / 2) + 1)))
       | inr little ↦ rw (digits_end k n little.1) (omega (arith, little.1))
     ]
 
 -- and not below that of one less
-pub digits_below : (k n : ℕ) → n ≤ k → 1 ≤ n → 2 ^ digits_behind k n ≤ n
+pub digits_below : (k n : ℕ) → n ≤ k → 1 ≤ n → 2 ^ digits_after k n ≤ n
 digits_below zero n h p = absurd (omega arith)
 digits_below (suc k) n h p =
     elim (leb_tells 2 n) [
       | inl large ↦
           let half : n / 2 ≤ k = omega (arith, h, large.1) in
-          let rest : 2 ^ digits_behind k (n / 2) ≤ n / 2 = digits_below k (n / 2) half (omega (arith, large.1)) in
-          rw (digits_step k n large.1) (omega (arith, rest, pow_more 2 (digits_behind k (n / 2))))
+          let rest : 2 ^ digits_after k (n / 2) ≤ n / 2 = digits_below k (n / 2) half (omega (arith, large.1)) in
+          rw (digits_step k n large.1) (omega (arith, rest, pow_more 2 (digits_after k (n / 2))))
       | inr little ↦ rw (digits_end k n little.1) (omega (arith, little.1, p))
     ]
 
@@ -51,8 +51,8 @@ digits_are j n low high =
     let some : 1 ≤ n = omega (arith, low, pow_pos j) in
     omega (
       arith,
-      same_power (digits_behind n n) j n (digits_below n n (omega arith) some) high,
-      same_power j (digits_behind n n) n low (below_digits n n (omega arith)),
+      same_power (digits_after n n) j n (digits_below n n (omega arith) some) high,
+      same_power j (digits_after n n) n low (below_digits n n (omega arith)),
     )
 
 -- a field's largest value is below the power of two of its digits
@@ -81,6 +81,6 @@ pub fewest : (n d : ℕ) → 1 ≤ d → n < 2 ^ d → digits_of n ≤ d
 fewest n zero p h = absurd (omega arith)
 fewest n (suc d) p h =
     elim (leb_tells 1 n) [
-      | inl some ↦ omega (arith, same_power (digits_behind n n) d n (digits_below n n (omega arith) some.1) (subst (λ k. n < 2 ^ k) (omega arith) h))
+      | inl some ↦ omega (arith, same_power (digits_after n n) d n (digits_below n n (omega arith) some.1) (subst (λ k. n < 2 ^ k) (omega arith) h))
       | inr none ↦ let zero_is : n ≡ 0 = omega (arith, none.1) in let one : digits_of n ≡ 1 = ap digits_of zero_is in omega (arith, one)
     ]

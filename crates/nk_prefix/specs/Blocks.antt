@@ -36,7 +36,7 @@ is_in_block max n b = agrees_to b.0 b.1 (digits_of max) n
 abbrev pub block_size : ℕ → ℕ × ℕ → ℕ
 block_size max b = 2 ^ (digits_of max - b.1)
 
--- blocks ascend and are disjoint: each begins right behind the one before, and the first at v
+-- blocks ascend and are disjoint: each begins right after the one before, and the first at v
 abbrev pub BlocksAscend : (max v : ℕ) → List (ℕ × ℕ) → Type 0
 BlocksAscend max v [] = Unit {0}
 BlocksAscend max v (b ∷ bs) = (b.0 ≡ v) × BlocksAscend max (b.0 + block_size max b) bs

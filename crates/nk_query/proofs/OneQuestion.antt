@@ -4,7 +4,7 @@ use Rattle.std.specs.Prelude.{Some, None}
 use Rattle.nk_policy.specs.Policy.{Policy, size_of}
 use Rattle.nk_names.specs.declared.Program.{Program}
 use Rattle.nk_names.specs.Named.{policy_named}
-use Rattle.nk_names.specs.ProgramOf.{said_by}
+use Rattle.nk_names.specs.ProgramOf.{program_by}
 use Rattle.nk_names.proofs.Alike.{named_alike, one_policy}
 use Rattle.nk_query.specs.Asked.{Asked, apart, waypoint, Question, apart_of, waypoint_of, NamesQuestion, LacksName, rest_are_predicates, question_policy}
 use Rattle.nk_query.specs.Answers.{IsNamedQuestion, IsHindranceByName}
@@ -17,7 +17,7 @@ none_some a e = cc
 pub true_false : ◌≡◌ {A = Bool} true false → ⊥
 true_false e = cc
 
-module _ (program other : Program) (same : said_by program ≡ said_by other) where
+module _ (program other : Program) (same : program_by program ≡ program_by other) where
   -- a name has a policy, or none
   named_not : (name : List ℕ) (p : Policy) → policy_named program name ≡ Some p → policy_named other name ≡ None → ⊥
   named_not name p e n = none_some p (sym n ∙ sym (named_alike program other same name) ∙ e)

@@ -77,14 +77,14 @@ pub record IsFitFor (fields : FieldTable) (q : Policy) : Type 0 where
 
 -- no history breaks, and this is the printed certificate of the question and `drop`; or this is the least history that breaks, told
 -- as the left one's, which is the question's
-abbrev pub IsAnswer : FieldTable → Question → Answer → Type 0
-IsAnswer fields x (Holds c) =
+abbrev pub IsQueryResult : FieldTable → Question → Answer → Type 0
+IsQueryResult fields x (Holds c) =
     NoneBreaks fields x × IsRelated fields (asked_policy x) drop_policy (certificate_value c)
-IsAnswer fields x (Breaks f) = IsLeastBreak fields x (found_of f) × (whose f.side ≡ on_left)
+IsQueryResult fields x (Breaks f) = IsLeastBreak fields x (found_of f) × (whose f.side ≡ on_left)
 
 -- what asking a query answers
 abbrev pub IsAsked : Program → Asked → Result Answer QueryError → Type 0
-IsAsked program asked (Ok a) = (x : Question) × IsNamedQuestion program asked x × IsAnswer program.fields x a
+IsAsked program asked (Ok a) = (x : Question) × IsNamedQuestion program asked x × IsQueryResult program.fields x a
 IsAsked program asked (Err e) = IsHindranceByName program asked e
 
 -- of a certificate that no history breaks: it is one for the question and `drop`, so none does; or a row fails first

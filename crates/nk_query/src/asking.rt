@@ -3,7 +3,7 @@ ghost use Rattle.std.specs.Prelude.{◌≡◌, true, IfOk};
 ghost use Rattle.nk_policy.specs.After.{drop_policy};
 ghost use Rattle.nk_policy.specs.Tree.{tree_of};
 ghost use Rattle.nk_query.specs.Asked.{Question, rest_are_predicates};
-ghost use Rattle.nk_query.specs.Answers.{asked_in, asked_policy, IsFitFor, IsAnswer, IsAsked};
+ghost use Rattle.nk_query.specs.Answers.{asked_in, asked_policy, IsFitFor, IsQueryResult, IsAsked};
 
 use crate::error::QueryError;
 use crate::naming::question;
@@ -31,7 +31,7 @@ pub fn ask(alloc: Global, program: &Program, query: &Query) -> Result<Answer, Qu
 /// Whether a question has a history.
 fn answer_of(alloc: Global, fields: &Fields, q: &Pol) -> Result<Answer, AllocError>
     requires { IsFitFor fields.now (tree_of q.now) }
-    ensures { IfOk result (λ a. (x : Question) → rest_are_predicates x ≡ true → tree_of q.now ≡ asked_policy x → IsAnswer fields.now x a) }
+    ensures { IfOk result (λ a. (x : Question) → rest_are_predicates x ≡ true → tree_of q.now ≡ asked_policy x → IsQueryResult fields.now x a) }
 {
     let nothing = dropping(alloc);
     match compare_policies(alloc, fields, q, &nothing)? {

@@ -4,10 +4,10 @@ use Rattle.std.specs.Prelude.{◌||◌, ◌&&◌, not}
 use Rattle.std.specs.Map.{lookup}
 use Rattle.indexmap.specs.IndexMap.{insert_entry}
 use Rattle.std.proofs.lemmas.Bool.Decides.{eqb_tells}
-use Rattle.nk_store.specs.Held.{Held, IsWhole, look, Grows, HasLeaves}
+use Rattle.nk_store.specs.StoreState.{StoreState, IsWhole, look, Grows, HasLeaves}
 use Rattle.nk_apply.specs.Leaves.{merged}
 use Rattle.nk_apply.specs.Predicates.{IsPredicate}
-use Rattle.nk_sets.specs.PacketSets.{has_out, is_in, IsSet, IsPacketSetOf}
+use Rattle.nk_sets.specs.PacketSets.{has_some_out, is_in, IsSet, IsPacketSetOf}
 use Rattle.nk_sets.proofs.SetLemmas.{set_grows, merged_out}
 use Rattle.nk_reach.specs.Pairs.{Under, Named, Once, EachPair}
 use Rattle.nk_reach.specs.Levels.{IsFilled}
@@ -27,7 +27,7 @@ not_found (p ∷ ps) t e n = elim (eqb_tells t p.0) [
 ]
 
 -- what is found is an entry's set of packets
-pub found_set : (st : Held) (ps : List (ℕ × ℕ)) (t v : ℕ) → lookup (eqb t) ps ≡ Some v → HaveSets st ps → IsSet st v
+pub found_set : (st : StoreState) (ps : List (ℕ × ℕ)) (t v : ℕ) → lookup (eqb t) ps ≡ Some v → HaveSets st ps → IsSet st v
 found_set st [] t v e h = absurd cc
 found_set st (p ∷ ps) t v e h = elim (eqb_tells t p.0) [
   | inl same ↦
@@ -37,7 +37,7 @@ found_set st (p ∷ ps) t v e h = elim (eqb_tells t p.0) [
 ]
 
 -- what is found stands under the set
-pub found_under : (st : Held) (ps : List (ℕ × ℕ)) (t v : ℕ) (x : List ℕ) → lookup (eqb t) ps ≡ Some v → Has st v x → Under st ps t x
+pub found_under : (st : StoreState) (ps : List (ℕ × ℕ)) (t v : ℕ) (x : List ℕ) → lookup (eqb t) ps ≡ Some v → Has st v x → Under st ps t x
 found_under st [] t v x e h = absurd cc
 found_under st (p ∷ ps) t v x e h = elim (eqb_tells t p.0) [
   | inl same ↦
@@ -47,7 +47,7 @@ found_under st (p ∷ ps) t v x e h = elim (eqb_tells t p.0) [
 ]
 
 -- what stands under a set with one entry is in what is found
-pub under_found : (st : Held) (ps : List (ℕ × ℕ)) (t v : ℕ) (x : List ℕ) → Once ps → lookup (eqb t) ps ≡ Some v → Under st ps t x → Has st v x
+pub under_found : (st : StoreState) (ps : List (ℕ × ℕ)) (t v : ℕ) (x : List ℕ) → Once ps → lookup (eqb t) ps ≡ Some v → Under st ps t x → Has st v x
 under_found st [] t v x o e u = absurd u
 under_found st (p ∷ ps) t v x o e u = elim (eqb_tells t p.0) [
   | inl same ↦
@@ -79,11 +79,11 @@ right_true true b e = refl
 right_true false b e = e
 
 -- the packets of a set that is found, and others
-pub joined_some : (st new : Held) (ps : List (ℕ × ℕ)) (t y v r : ℕ) → Once ps → HaveSets st ps → lookup (eqb t) ps ≡ Some v → IsSet st y →
+pub joined_some : (st new : StoreState) (ps : List (ℕ × ℕ)) (t y v r : ℕ) → Once ps → HaveSets st ps → lookup (eqb t) ps ≡ Some v → IsSet st y →
     HasLeaves new r (λ pk. merged (look st v pk) (look st y pk)) → (IsPredicate st v → IsPredicate st y → IsPredicate new r) → IsJoined st ps t y new r
 joined_some st new ps t y v r o h e s g p =
     let sv : IsSet st v = found_set st ps t v e h in
-    let at : (x : List ℕ) → IsWhole x → is_in new r x ≡ (is_in st v x || is_in st y x) = λ x w. ap has_out (g.leaf x w) ∙ merged_out (look st v x) (look st y x) in
+    let at : (x : List ℕ) → IsWhole x → is_in new r x ≡ (is_in st v x || is_in st y x) = λ x w. ap has_some_out (g.leaf x w) ∙ merged_out (look st v x) (look st y x) in
     record {
       packets = record { id = g.id; predicate = p sv.predicate s.predicate };
       either = λ x w u. elim (either_true (is_in st v x) (is_in st y x) (sym (at x w.0) ∙ u)) [
@@ -95,7 +95,7 @@ joined_some st new ps t y v r o h e s g p =
     }
 
 -- the others alone, where the set is not found
-pub joined_none : (st : Held) (ps : List (ℕ × ℕ)) (t y : ℕ) → lookup (eqb t) ps ≡ None → IsSet st y → IsJoined st ps t y st y
+pub joined_none : (st : StoreState) (ps : List (ℕ × ℕ)) (t y : ℕ) → lookup (eqb t) ps ≡ None → IsSet st y → IsJoined st ps t y st y
 joined_none st ps t y e s = record {
   packets = s;
   either = λ x w u. inr u;
@@ -104,7 +104,7 @@ joined_none st ps t y e s = record {
 }
 
 -- where the set has no entry, all is left
-pub rest_none : (st : Held) (ps : List (ℕ × ℕ)) (t y : ℕ) → IsSet st y → lookup (eqb t) ps ≡ None → IsRest st ps t y st y
+pub rest_none : (st : StoreState) (ps : List (ℕ × ℕ)) (t y : ℕ) → IsSet st y → lookup (eqb t) ps ≡ None → IsRest st ps t y st y
 rest_none st ps t y p e = record {
   packets = p;
   first = λ x g h. h;
@@ -130,7 +130,7 @@ first_alone true false e n = refl
 first_alone false b e n = cc
 
 -- where the set has an entry, what is left is the difference
-pub rest_some : (st new : Held) (ps : List (ℕ × ℕ)) (t y v r : ℕ) → Once ps → lookup (eqb t) ps ≡ Some v → IsPacketSetOf new r (λ pk. is_in st y pk && not (is_in st v pk)) → IsRest st ps t y new r
+pub rest_some : (st new : StoreState) (ps : List (ℕ × ℕ)) (t y v r : ℕ) → Once ps → lookup (eqb t) ps ≡ Some v → IsPacketSetOf new r (λ pk. is_in st y pk && not (is_in st v pk)) → IsRest st ps t y new r
 rest_some st new ps t y v r o e m = record {
   packets = m.set;
   first = λ x g h. first_true (is_in st y x) (is_in st v x) (sym (m.at x g.0) ∙ h);
@@ -139,7 +139,7 @@ rest_some st new ps t y v r o e m = record {
 }
 
 -- a packet under two lists together is under one of them
-pub under_append : (st : Held) (ps qs : List (ℕ × ℕ)) (i : ℕ) (x : List ℕ) → Under st (ps ++ qs) i x → Under st ps i x ⊎ Under st qs i x
+pub under_append : (st : StoreState) (ps qs : List (ℕ × ℕ)) (i : ℕ) (x : List ℕ) → Under st (ps ++ qs) i x → Under st ps i x ⊎ Under st qs i x
 under_append st [] qs i x u = inr u
 under_append st (p ∷ ps) qs i x u = elim u [
   | inl here ↦ inl (inl here)
@@ -147,12 +147,12 @@ under_append st (p ∷ ps) qs i x u = elim u [
 ]
 
 -- a packet under the first list is under both together
-pub under_left : (st : Held) (ps qs : List (ℕ × ℕ)) (i : ℕ) (x : List ℕ) → Under st ps i x → Under st (ps ++ qs) i x
+pub under_left : (st : StoreState) (ps qs : List (ℕ × ℕ)) (i : ℕ) (x : List ℕ) → Under st ps i x → Under st (ps ++ qs) i x
 under_left st [] qs i x u = absurd u
 under_left st (p ∷ ps) qs i x u = elim u [ inl here ↦ inl here | inr later ↦ inr (under_left st ps qs i x later) ]
 
 -- a packet under the second list is under both together
-pub under_right : (st : Held) (ps qs : List (ℕ × ℕ)) (i : ℕ) (x : List ℕ) → Under st qs i x → Under st (ps ++ qs) i x
+pub under_right : (st : StoreState) (ps qs : List (ℕ × ℕ)) (i : ℕ) (x : List ℕ) → Under st qs i x → Under st (ps ++ qs) i x
 under_right st [] qs i x u = u
 under_right st (p ∷ ps) qs i x u = inr (under_right st ps qs i x u)
 
@@ -199,7 +199,7 @@ once_apart (q ∷ ps) qs p o n = elim n [
 ]
 
 -- what stands under entries of which one was written stood there, or is new
-pub put_either : (st new : Held) (ps : List (ℕ × ℕ)) (t v i : ℕ) (x : List ℕ) → Grows st new → HaveSets st ps → Under new (insert_entry eqb ps t v) i x → Under st ps i x ⊎ ((i ≡ t) × Has new v x)
+pub put_either : (st new : StoreState) (ps : List (ℕ × ℕ)) (t v i : ℕ) (x : List ℕ) → Grows st new → HaveSets st ps → Under new (insert_entry eqb ps t v) i x → Under st ps i x ⊎ ((i ≡ t) × Has new v x)
 put_either st new [] t v i x g h u = elim u [ inl here ↦ inr (sym here.0, here.1) | inr z ↦ absurd z ]
 put_either st new (p ∷ ps) t v i x g h u = elim (eqb_tells t p.0) [
   | inl same ↦
@@ -217,7 +217,7 @@ put_either st new (p ∷ ps) t v i x g h u = elim (eqb_tells t p.0) [
 ]
 
 -- what stood under another set stands there
-pub put_other : (st new : Held) (ps : List (ℕ × ℕ)) (t v i : ℕ) (x : List ℕ) → Grows st new → HaveSets st ps → (i ≡ t → ⊥) → Under st ps i x → Under new (insert_entry eqb ps t v) i x
+pub put_other : (st new : StoreState) (ps : List (ℕ × ℕ)) (t v i : ℕ) (x : List ℕ) → Grows st new → HaveSets st ps → (i ≡ t → ⊥) → Under st ps i x → Under new (insert_entry eqb ps t v) i x
 put_other st new [] t v i x g h n u = absurd u
 put_other st new (p ∷ ps) t v i x g h n u = elim (eqb_tells t p.0) [
   | inl same ↦ subst (λ b. Under new (cond b ((p.0, v) ∷ ps) (p ∷ insert_entry eqb ps t v)) i x) (sym same.0) (elim u [
@@ -231,7 +231,7 @@ put_other st new (p ∷ ps) t v i x g h n u = elim (eqb_tells t p.0) [
 ]
 
 -- the written packets stand under their set
-pub put_here : (new : Held) (ps : List (ℕ × ℕ)) (t v : ℕ) (x : List ℕ) → Has new v x → Under new (insert_entry eqb ps t v) t x
+pub put_here : (new : StoreState) (ps : List (ℕ × ℕ)) (t v : ℕ) (x : List ℕ) → Has new v x → Under new (insert_entry eqb ps t v) t x
 put_here new [] t v x h = inl (refl, h)
 put_here new (p ∷ ps) t v x h = elim (eqb_tells t p.0) [
   | inl same ↦ subst (λ b. Under new (cond b ((p.0, v) ∷ ps) (p ∷ insert_entry eqb ps t v)) t x) (sym same.0) (inl (sym same.1, h))
@@ -254,7 +254,7 @@ put_named (p ∷ ps) t v i n = elim (eqb_tells t p.0) [
 ]
 
 -- written entries have sets of packets
-pub put_sets : (st new : Held) (ps : List (ℕ × ℕ)) (t v : ℕ) → Grows st new → HaveSets st ps → IsSet new v → HaveSets new (insert_entry eqb ps t v)
+pub put_sets : (st new : StoreState) (ps : List (ℕ × ℕ)) (t v : ℕ) → Grows st new → HaveSets st ps → IsSet new v → HaveSets new (insert_entry eqb ps t v)
 put_sets st new [] t v g h s = (s, tt)
 put_sets st new (p ∷ ps) t v g h s = elim (eqb_tells t p.0) [
   | inl same ↦ subst (λ b. HaveSets new (cond b ((p.0, v) ∷ ps) (p ∷ insert_entry eqb ps t v))) (sym same.0)
@@ -273,7 +273,7 @@ put_once (p ∷ ps) t v o = elim (eqb_tells t p.0) [
 ]
 
 -- the joined packets written under their set
-pub added_put : (st new : Held) (ps : List (ℕ × ℕ)) (t y v : ℕ) → Grows st new → HaveSets st ps → Once ps → IsJoined st ps t y new v → IsAdded st ps t y new (insert_entry eqb ps t v)
+pub added_put : (st new : StoreState) (ps : List (ℕ × ℕ)) (t y v : ℕ) → Grows st new → HaveSets st ps → Once ps → IsJoined st ps t y new v → IsAdded st ps t y new (insert_entry eqb ps t v)
 added_put st new ps t y v g h o j = record {
   either = λ i x w u. elim (put_either st new ps t v i x g h u) [
     | inl was ↦ inl was
@@ -293,7 +293,7 @@ added_put st new ps t y v g h o j = record {
 }
 
 -- one entry more
-pub merged_push : (a st new : Held) (met level all more : List (ℕ × ℕ)) (p : ℕ × ℕ) → IsMerged a met level st all → Grows a st → IsSet a p.1 → IsAdded st all p.0 p.1 new more → IsMerged a met (level ++ p ∷ []) new more
+pub merged_push : (a st new : StoreState) (met level all more : List (ℕ × ℕ)) (p : ℕ × ℕ) → IsMerged a met level st all → Grows a st → IsSet a p.1 → IsAdded st all p.0 p.1 new more → IsMerged a met (level ++ p ∷ []) new more
 merged_push a st new met level all more p m g k d = record {
   either = λ i x w u. elim (d.either i x (packet_on a st x g w) u) [
     | inl was ↦ elim (m.either i x w was) [ inl q ↦ inl q | inr q ↦ inr (under_left a level (p ∷ []) i x q) ]
@@ -316,7 +316,7 @@ merged_push a st new met level all more p m g k d = record {
 }
 
 -- merged entries stay so while the store grows
-pub merged_on : (a st new : Held) (met level all : List (ℕ × ℕ)) → IsMerged a met level st all → Grows st new → IsMerged a met level new all
+pub merged_on : (a st new : StoreState) (met level all : List (ℕ × ℕ)) → IsMerged a met level st all → Grows st new → IsMerged a met level new all
 merged_on a st new met level all m g = record {
   either = λ i x w u. m.either i x w (under_back st new all i x g m.packets u);
   old = λ i x w u. under_on st new all i x g m.packets (m.old i x w u);
@@ -352,7 +352,7 @@ pub once_before : (ps : List (ℕ × ℕ)) (k : ℕ) (p : ℕ × ℕ) → Once p
 once_before ps k p o l is = let w = split_at ps k p l is in once_apart (take k ps) w.0 p (subst (λ (q : List (ℕ × ℕ)). Once q) w.1 o)
 
 -- an entry with packets left
-pub fresh_push : (a st new : Held) (met done level : List (ℕ × ℕ)) (p : ℕ × ℕ) (r : ℕ) → HaveSets a met → IsFresh a met done st level → Grows a st → IsSet a p.1 → Grows st new → IsRest st met p.0 p.1 new r → IsFilled new r → (Named done p.0 → ⊥) → IsFresh a met (done ++ p ∷ []) new (level ++ (p.0, r) ∷ [])
+pub fresh_push : (a st new : StoreState) (met done level : List (ℕ × ℕ)) (p : ℕ × ℕ) (r : ℕ) → HaveSets a met → IsFresh a met done st level → Grows a st → IsSet a p.1 → Grows st new → IsRest st met p.0 p.1 new r → IsFilled new r → (Named done p.0 → ⊥) → IsFresh a met (done ++ p ∷ []) new (level ++ (p.0, r) ∷ [])
 fresh_push a st new met done level p r e m g k h rest fill apart = record {
   from = λ i x w u. elim (under_append new level ((p.0, r) ∷ []) i x u) [
     | inl was ↦ under_left a done (p ∷ []) i x (m.from i x w (under_back st new level i x h m.packets was))
@@ -389,7 +389,7 @@ fresh_push a st new met done level p r e m g k h rest fill apart = record {
 }
 
 -- an entry with no packets left
-pub fresh_skip : (a st new : Held) (met done level : List (ℕ × ℕ)) (p : ℕ × ℕ) (r : ℕ) → HaveSets a met → IsFresh a met done st level → Grows a st → IsSet a p.1 → Grows st new → IsRest st met p.0 p.1 new r → ((pk : List ℕ) → IsWhole pk → is_in new r pk ≡ false) → IsFresh a met (done ++ p ∷ []) new level
+pub fresh_skip : (a st new : StoreState) (met done level : List (ℕ × ℕ)) (p : ℕ × ℕ) (r : ℕ) → HaveSets a met → IsFresh a met done st level → Grows a st → IsSet a p.1 → Grows st new → IsRest st met p.0 p.1 new r → ((pk : List ℕ) → IsWhole pk → is_in new r pk ≡ false) → IsFresh a met (done ++ p ∷ []) new level
 fresh_skip a st new met done level p r e m g k h rest none = record {
   from = λ i x w u. under_left a done (p ∷ []) i x (m.from i x w (under_back st new level i x h m.packets u));
   unmet = λ i x w u. m.unmet i x w (under_back st new level i x h m.packets u);

@@ -1,12 +1,12 @@
 -- How the levels end.
 use Rattle.std.proofs.Common.{◌≡◌, ℕ, ◌<◌, ◌≤◌, ◌+◌, ◌-◌, sym, ◌∙◌, ap, subst, arith, List, [], ◌∷◌, ◌++◌, length, get_or, Bool, true, false}
 use Rattle.nk_store.specs.declared.node.Out.{Out}
-use Rattle.nk_store.specs.Held.{Held, Grows}
+use Rattle.nk_store.specs.StoreState.{StoreState, Grows}
 use Rattle.nk_determ.specs.Sets.{SetsGrow}
 use Rattle.nk_reach.specs.Reach.{Exact}
-use Rattle.nk_reach.specs.Pairs.{Node, Within, AreStates, HavePlaces, IsPair, ArePairs, IsStart, IsStep, IsGood}
-use Rattle.nk_reach.specs.Levels.{At, InLevel, Bad, AreLevels}
-use Rattle.nk_reach.specs.Goals.{MeetsBad, MeetsNone}
+use Rattle.nk_reach.specs.Pairs.{Node, Within, AreStates, AreLabelsBelow, IsPair, ArePairs, IsStart, IsStep, IsGood}
+use Rattle.nk_reach.specs.Levels.{At, InLevel, IsViolation, AreLevels}
+use Rattle.nk_reach.specs.Goals.{MeetsViolation, MeetsNoViolation}
 use Rattle.nk_reach.specs.Rounds.{IsNextLevel, IsMerged}
 use Rattle.nk_reach.proofs.Graphs.{complete}
 use Rattle.nk_reach.proofs.Kept.{packet_on, packet_back, get_or_same}
@@ -15,7 +15,7 @@ use Rattle.nk_reach.proofs.Going.{Going, level_on, level_back, going_on}
 use Rattle.nk_reach.proofs.Round.{going_next}
 
 -- the parts of AreLevels that both ends share, once the two parts on the last level and the completeness are given
-pub levels_of : (old : Held) (oss : List (List ℕ)) (st : Held) (ss : List (List ℕ)) (states : List ℕ) (set start : ℕ) (bad : List ℕ → List ℕ → List Out) (met : List (ℕ × ℕ)) (ls : List (List (ℕ × ℕ))) (h : ℕ) (broken : Bool) → (set < length oss) → Going old oss st ss states set start bad met ls h → (broken ≡ true → (n : Node) × IsGood old n × InLevel st ss ls h n × Bad bad n) → (broken ≡ false → (n : Node) → IsGood old n → InLevel st ss ls h n → Bad bad n → ⊥) → (broken ≡ false → (i : ℕ) (n : Node) → At old states (get_or oss set []) start i n → (j : ℕ) × (j ≤ i) × (j < h + 1) × InLevel st ss ls j n) → AreLevels old st ss states set start bad ls broken
+pub levels_of : (old : StoreState) (oss : List (List ℕ)) (st : StoreState) (ss : List (List ℕ)) (states : List ℕ) (set start : ℕ) (bad : List ℕ → List ℕ → List Out) (met : List (ℕ × ℕ)) (ls : List (List (ℕ × ℕ))) (h : ℕ) (broken : Bool) → (set < length oss) → Going old oss st ss states set start bad met ls h → (broken ≡ true → (n : Node) × IsGood old n × InLevel st ss ls h n × IsViolation bad n) → (broken ≡ false → (n : Node) → IsGood old n → InLevel st ss ls h n → IsViolation bad n → ⊥) → (broken ≡ false → (i : ℕ) (n : Node) → At old states (get_or oss set []) start i n → (j : ℕ) × (j ≤ i) × (j < h + 1) × InLevel st ss ls j n) → AreLevels old st ss states set start bad ls broken
 levels_of old oss st ss states set start bad met ls h broken known go met_one met_none all =
     let m : get_or ss set [] ≡ get_or oss set [] = sets_same oss ss set go.sets known in
     let last : length ls - 1 ≡ h = omega (arith, go.count) in
@@ -27,30 +27,30 @@ levels_of old oss st ss states set start bad met ls h broken known go met_one me
       pairs = λ i l. go.pairs i (omega (arith, l, go.count));
       shape = λ i a l. go.shape i a (omega (arith, l, go.count));
       goal = λ i n l. go.goal i n (omega (arith, l, go.count));
-      broken_at = λ e. subst (λ k. (n : Node) × IsGood old n × InLevel st ss ls k n × Bad bad n) (sym last) (met_one e);
+      broken_at = λ e. subst (λ k. (n : Node) × IsGood old n × InLevel st ss ls k n × IsViolation bad n) (sym last) (met_one e);
       not_broken = λ e n p v. met_none e n p (subst (λ k. InLevel st ss ls k n) last v);
       complete = λ e i n a.
           let w = all e i n (subst (λ s. At old states s start i n) m a) in
           (w.0, w.1, omega (arith, w.2, go.count), w.3);
     }
 
--- the levels end at a bad final
-pub levels_broken : (old : Held) (oss : List (List ℕ)) (st new : Held) (ss : List (List ℕ)) (states : List ℕ) (set start : ℕ) (bad now : List ℕ → List ℕ → List Out) (met : List (ℕ × ℕ)) (ls : List (List (ℕ × ℕ))) (h : ℕ) → (set < length oss) → Going old oss st ss states set start bad met ls h → Grows st new → ((n : Node) → HavePlaces (length states) n.0 → now n.0 n.1 ≡ bad n.0 n.1) → MeetsBad st ss (get_or ls h []) now → AreLevels old new ss states set start bad ls true
+-- the levels end at a violation
+pub levels_broken : (old : StoreState) (oss : List (List ℕ)) (st new : StoreState) (ss : List (List ℕ)) (states : List ℕ) (set start : ℕ) (bad now : List ℕ → List ℕ → List Out) (met : List (ℕ × ℕ)) (ls : List (List (ℕ × ℕ))) (h : ℕ) → (set < length oss) → Going old oss st ss states set start bad met ls h → Grows st new → ((n : Node) → AreLabelsBelow (length states) n.0 → now n.0 n.1 ≡ bad n.0 n.1) → MeetsViolation st ss (get_or ls h []) now → AreLevels old new ss states set start bad ls true
 levels_broken old oss st new ss states set start bad now met ls h known go g same found =
     let n : Node = found.0 in
-    let p : HavePlaces (length states) n.0 = within_places st ss (length states) (get_or ls h []) n (go.pairs h (omega arith)) found.2 in
+    let p : AreLabelsBelow (length states) n.0 = within_places st ss (length states) (get_or ls h []) n (go.pairs h (omega arith)) found.2 in
     levels_of old oss new ss states set start bad met ls h true known (going_on old oss st new ss ss states set start bad met ls h g (sets_refl ss) go)
     (λ e. (n, packet_back old st n.1 go.grows found.1, level_on old oss st new ss ss states set start bad met ls h h n go g (sets_refl ss) (omega arith) found.2, λ z. found.3 (same n p ∙ z)))
     (λ e. cc) (λ e. cc)
 
--- no bad final in the last level, as nodes
-pub none_last : (old : Held) (oss : List (List ℕ)) (st : Held) (ss : List (List ℕ)) (states : List ℕ) (set start : ℕ) (bad now : List ℕ → List ℕ → List Out) (met : List (ℕ × ℕ)) (ls : List (List (ℕ × ℕ))) (h : ℕ) → Going old oss st ss states set start bad met ls h → ((n : Node) → HavePlaces (length states) n.0 → now n.0 n.1 ≡ bad n.0 n.1) → MeetsNone st ss (get_or ls h []) now → (n : Node) → IsGood old n → InLevel st ss ls h n → Bad bad n → ⊥
+-- no violation in the last level, as nodes
+pub none_last : (old : StoreState) (oss : List (List ℕ)) (st : StoreState) (ss : List (List ℕ)) (states : List ℕ) (set start : ℕ) (bad now : List ℕ → List ℕ → List Out) (met : List (ℕ × ℕ)) (ls : List (List (ℕ × ℕ))) (h : ℕ) → Going old oss st ss states set start bad met ls h → ((n : Node) → AreLabelsBelow (length states) n.0 → now n.0 n.1 ≡ bad n.0 n.1) → MeetsNoViolation st ss (get_or ls h []) now → (n : Node) → IsGood old n → InLevel st ss ls h n → IsViolation bad n → ⊥
 none_last old oss st ss states set start bad now met ls h go same none n p v b =
-    let q : HavePlaces (length states) n.0 = within_places st ss (length states) (get_or ls h []) n (go.pairs h (omega arith)) v in
+    let q : AreLabelsBelow (length states) n.0 = within_places st ss (length states) (get_or ls h []) n (go.pairs h (omega arith)) v in
     b (sym (same n q) ∙ none n (packet_on old st n.1 go.grows p) v)
 
 -- the levels end where nothing new follows
-pub levels_ended : (old : Held) (oss : List (List ℕ)) (st new : Held) (ss nss : List (List ℕ)) (states : List ℕ) (set start : ℕ) (bad : List ℕ → List ℕ → List Out) (met : List (ℕ × ℕ)) (ls : List (List (ℕ × ℕ))) (level : List (ℕ × ℕ)) (h : ℕ) → (set < length oss) → AreStates old states → Going old oss st ss states set start bad met ls h → ((n : Node) → IsGood old n → InLevel st ss ls h n → Bad bad n → ⊥) → IsNextLevel st ss states met (get_or ls h []) new nss level → Grows st new → SetsGrow ss nss → length level ≡ 0 → AreLevels old new nss states set start bad ls false
+pub levels_ended : (old : StoreState) (oss : List (List ℕ)) (st new : StoreState) (ss nss : List (List ℕ)) (states : List ℕ) (set start : ℕ) (bad : List ℕ → List ℕ → List Out) (met : List (ℕ × ℕ)) (ls : List (List (ℕ × ℕ))) (level : List (ℕ × ℕ)) (h : ℕ) → (set < length oss) → AreStates old states → Going old oss st ss states set start bad met ls h → ((n : Node) → IsGood old n → InLevel st ss ls h n → IsViolation bad n → ⊥) → IsNextLevel st ss states met (get_or ls h []) new nss level → Grows st new → SetsGrow ss nss → length level ≡ 0 → AreLevels old new nss states set start bad ls false
 levels_ended old oss st new ss nss states set start bad met ls [] h known states_ok go none next g s empty =
     let gn : Going old oss new nss states set start bad met ls h = going_on old oss st new ss nss states set start bad met ls h g s go in
     let r = length states in
@@ -62,7 +62,7 @@ levels_ended old oss st new ss nss states set start bad met ls [] h known states
     (λ j n l p. within_or_not new nss (get_or ls j []) n)
     (λ m n p lev step not.
     let was : Within st ss (get_or ls h []) m = level_back old oss st new ss nss states set start bad met ls h h m go g s h_in lev in
-    let places : HavePlaces r m.0 = within_places st ss r (get_or ls h []) m (go.pairs h h_in) was in
+    let places : AreLabelsBelow r m.0 = within_places st ss r (get_or ls h []) m (go.pairs h h_in) was in
     let made = next.every m n (packet_on old st m.1 go.grows p) was (step_on old st states m n go.grows states_ok places step)
     (λ w. let q = go.met_in n step.packet w in not q.0 q.1 (level_on old oss st new ss nss states set start bad met ls h q.0 n go g s q.1 q.2)) in
     made.2))
@@ -75,31 +75,31 @@ last_is ls h x a count is at =
     get_or_same ls h [] a (omega (arith, count)) ∙ ap (λ j. get_or ls j a) (sym k) ∙ sym at
 
 -- entries over fewer states are entries over more
-pub pairs_more : (st : Held) (ss : List (List ℕ)) (r k : ℕ) (ps : List (ℕ × ℕ)) → r ≤ k → ArePairs st ss r ps → ArePairs st ss k ps
+pub pairs_more : (st : StoreState) (ss : List (List ℕ)) (r k : ℕ) (ps : List (ℕ × ℕ)) → r ≤ k → ArePairs st ss r ps → ArePairs st ss k ps
 pairs_more st ss r k ps l q = record {
   each = each_weaker (IsPair st ss r) (IsPair st ss k) ps (λ p e. record { known = e.known; packets = e.packets; places = λ j d m. omega (arith, l, e.places j d m) }) q.each;
   once = q.once;
 }
 
--- what holds after the last level was found to have no bad final
-pub after_bad : (old : Held) (oss : List (List ℕ)) (st new : Held) (ss : List (List ℕ)) (states : List ℕ) (set start : ℕ) (bad now : List ℕ → List ℕ → List Out) (met last : List (ℕ × ℕ)) (ls : List (List (ℕ × ℕ))) (h : ℕ) → Going old oss st ss states set start bad met ls h → Grows st new → ((n : Node) → HavePlaces (length states) n.0 → now n.0 n.1 ≡ bad n.0 n.1) → get_or ls h [] ≡ last → MeetsNone st ss last now → Going old oss new ss states set start bad met ls h × ((n : Node) → IsGood old n → InLevel new ss ls h n → Bad bad n → ⊥)
-after_bad old oss st new ss states set start bad now met last ls h go g same is none = (
+-- what holds after the last level was found to have no violation
+pub after_violation : (old : StoreState) (oss : List (List ℕ)) (st new : StoreState) (ss : List (List ℕ)) (states : List ℕ) (set start : ℕ) (bad now : List ℕ → List ℕ → List Out) (met last : List (ℕ × ℕ)) (ls : List (List (ℕ × ℕ))) (h : ℕ) → Going old oss st ss states set start bad met ls h → Grows st new → ((n : Node) → AreLabelsBelow (length states) n.0 → now n.0 n.1 ≡ bad n.0 n.1) → get_or ls h [] ≡ last → MeetsNoViolation st ss last now → Going old oss new ss states set start bad met ls h × ((n : Node) → IsGood old n → InLevel new ss ls h n → IsViolation bad n → ⊥)
+after_violation old oss st new ss states set start bad now met last ls h go g same is none = (
   going_on old oss st new ss ss states set start bad met ls h g (sets_refl ss) go,
-  λ n p v b. none_last old oss st ss states set start bad now met ls h go same (subst (λ (q : List (ℕ × ℕ)). MeetsNone st ss q now) (sym is) none) n p
+  λ n p v b. none_last old oss st ss states set start bad now met ls h go same (subst (λ (q : List (ℕ × ℕ)). MeetsNoViolation st ss q now) (sym is) none) n p
       (level_back old oss st new ss ss states set start bad met ls h h n go g (sets_refl ss) (omega arith) v) b,
 )
 
 -- a whole round
-pub round_done : (old : Held) (oss : List (List ℕ)) (st st1 st2 st3 : Held) (ss nss : List (List ℕ)) (states : List ℕ) (set start : ℕ) (bad now : List ℕ → List ℕ → List Out) (met all last again : List (ℕ × ℕ)) (ls : List (List (ℕ × ℕ))) (level : List (ℕ × ℕ)) (h : ℕ) → AreStates old states → Going old oss st ss states set start bad met ls h → Grows st st1 → ((n : Node) → HavePlaces (length states) n.0 → now n.0 n.1 ≡ bad n.0 n.1) → get_or ls h [] ≡ last → MeetsNone st ss last now → get_or ls h [] ≡ again → IsNextLevel st1 ss states met again st2 nss level → Grows st1 st2 → SetsGrow ss nss → IsMerged st2 met level st3 all → Grows st2 st3 → 0 < length level → Going old oss st3 nss states set start bad all (ls ++ level ∷ []) (h + 1)
+pub round_done : (old : StoreState) (oss : List (List ℕ)) (st st1 st2 st3 : StoreState) (ss nss : List (List ℕ)) (states : List ℕ) (set start : ℕ) (bad now : List ℕ → List ℕ → List Out) (met all last again : List (ℕ × ℕ)) (ls : List (List (ℕ × ℕ))) (level : List (ℕ × ℕ)) (h : ℕ) → AreStates old states → Going old oss st ss states set start bad met ls h → Grows st st1 → ((n : Node) → AreLabelsBelow (length states) n.0 → now n.0 n.1 ≡ bad n.0 n.1) → get_or ls h [] ≡ last → MeetsNoViolation st ss last now → get_or ls h [] ≡ again → IsNextLevel st1 ss states met again st2 nss level → Grows st1 st2 → SetsGrow ss nss → IsMerged st2 met level st3 all → Grows st2 st3 → 0 < length level → Going old oss st3 nss states set start bad all (ls ++ level ∷ []) (h + 1)
 round_done old oss st st1 st2 st3 ss nss states set start bad now met all last again ls level h states_ok go g1 same is none is_again next g2 s merged g3 some =
-    let a = after_bad old oss st st1 ss states set start bad now met last ls h go g1 same is none in
+    let a = after_violation old oss st st1 ss states set start bad now met last ls h go g1 same is none in
     going_next old oss st1 st2 st3 ss nss states set start bad met all ls level h states_ok a.0 a.1
     (subst (λ (q : List (ℕ × ℕ)). IsNextLevel st1 ss states met q st2 nss level) (sym is_again) next) g2 s merged g3 some
 
 -- the levels end after a whole round
-pub round_last : (old : Held) (oss : List (List ℕ)) (st st1 st2 : Held) (ss nss : List (List ℕ)) (states : List ℕ) (set start : ℕ) (bad now : List ℕ → List ℕ → List Out) (met last again : List (ℕ × ℕ)) (ls : List (List (ℕ × ℕ))) (level : List (ℕ × ℕ)) (h : ℕ) → (set < length oss) → AreStates old states → Going old oss st ss states set start bad met ls h → Grows st st1 → ((n : Node) → HavePlaces (length states) n.0 → now n.0 n.1 ≡ bad n.0 n.1) → get_or ls h [] ≡ last → MeetsNone st ss last now → get_or ls h [] ≡ again → IsNextLevel st1 ss states met again st2 nss level → Grows st1 st2 → SetsGrow ss nss → length level ≡ 0 → AreLevels old st2 nss states set start bad ls false
+pub round_last : (old : StoreState) (oss : List (List ℕ)) (st st1 st2 : StoreState) (ss nss : List (List ℕ)) (states : List ℕ) (set start : ℕ) (bad now : List ℕ → List ℕ → List Out) (met last again : List (ℕ × ℕ)) (ls : List (List (ℕ × ℕ))) (level : List (ℕ × ℕ)) (h : ℕ) → (set < length oss) → AreStates old states → Going old oss st ss states set start bad met ls h → Grows st st1 → ((n : Node) → AreLabelsBelow (length states) n.0 → now n.0 n.1 ≡ bad n.0 n.1) → get_or ls h [] ≡ last → MeetsNoViolation st ss last now → get_or ls h [] ≡ again → IsNextLevel st1 ss states met again st2 nss level → Grows st1 st2 → SetsGrow ss nss → length level ≡ 0 → AreLevels old st2 nss states set start bad ls false
 round_last old oss st st1 st2 ss nss states set start bad now met last again ls level h known states_ok go g1 same is none is_again next g2 s empty =
-    let a = after_bad old oss st st1 ss states set start bad now met last ls h go g1 same is none in
+    let a = after_violation old oss st st1 ss states set start bad now met last ls h go g1 same is none in
     levels_ended old oss st1 st2 ss nss states set start bad met ls level h known states_ok a.0 a.1
     (subst (λ (q : List (ℕ × ℕ)). IsNextLevel st1 ss states met q st2 nss level) (sym is_again) next) g2 s empty
 
@@ -109,7 +109,7 @@ falls n h a b e f l = omega arith
 
 -- levels that are those made, and broken as was said
 pub levels_said :
-    (old new : Held) (ss : List (List ℕ)) (states : List ℕ) (set start : ℕ) (bad : List ℕ → List ℕ → List Out)
+    (old new : StoreState) (ss : List (List ℕ)) (states : List ℕ) (set start : ℕ) (bad : List ℕ → List ℕ → List Out)
     (ls all : List (List (ℕ × ℕ))) (b said : Bool) → ls ≡ all → b ≡ said
     → AreLevels old new ss states set start bad all said → AreLevels old new ss states set start bad ls b
 levels_said old new ss states set start bad ls all b said e f k =

@@ -4,7 +4,7 @@ use Rattle.std.proofs.lemmas.Bool.Decides.{eqb_tells}
 use Rattle.std.specs.List.Sorted.{IsStrictlyIncreasing}
 use Rattle.nk_apply.proofs.Members.{Has as Among}
 use Rattle.nk_apply.proofs.Members.{has_contains}
-use Rattle.nk_reach.specs.Pairs.{Node, HavePlaces}
+use Rattle.nk_reach.specs.Pairs.{Node, AreLabelsBelow}
 use Rattle.nk_reach.proofs.Growing.{place_of}
 use Rattle.nk_reach.proofs.Rising.{RisesFrom, rises_from}
 
@@ -115,7 +115,7 @@ pub all_nodes : List ℕ → ℕ → List Node
 all_nodes maxes r = crossed (rising 0 r) (packets_from maxes 0 18)
 
 -- a set whose labels rise and have places, at a packet in range, is one of them
-pub among_nodes : (maxes : List ℕ) (r : ℕ) (n : Node) → IsStrictlyIncreasing n.0 → HavePlaces r n.0 → length n.1 ≡ 18 → ((k : ℕ) → get_or n.1 k 0 ≤ get_or maxes k 0) → Among (all_nodes maxes r) n
+pub among_nodes : (maxes : List ℕ) (r : ℕ) (n : Node) → IsStrictlyIncreasing n.0 → AreLabelsBelow r n.0 → length n.1 ≡ 18 → ((k : ℕ) → get_or n.1 k 0 ≤ get_or maxes k 0) → Among (all_nodes maxes r) n
 unfolding all_nodes
 among_nodes maxes r n rise places whole within =
     among_crossed (rising 0 r) (packets_from maxes 0 18) n.0 n.1

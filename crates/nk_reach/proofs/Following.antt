@@ -1,15 +1,15 @@
 -- Entry by entry, what a level leads to.
 use Rattle.std.proofs.Common.{◌≡◌, ℕ, ◌<◌, inl, inr, refl, sym, ◌∙◌, ap, subst, List, [], ◌∷◌, ◌++◌, length, get_or}
-use Rattle.nk_store.specs.Held.{Held, Grows}
+use Rattle.nk_store.specs.StoreState.{StoreState, Grows}
 use Rattle.nk_determ.specs.Sets.{SetsGrow, HasEachSetOnce}
-use Rattle.nk_reach.specs.Pairs.{Node, AreStates, HavePlaces, IsPair, IsStep}
+use Rattle.nk_reach.specs.Pairs.{Node, AreStates, AreLabelsBelow, IsPair, IsStep}
 use Rattle.nk_reach.specs.Rounds.{IsRaw, IsFollowed, IsSoFar}
 use Rattle.nk_reach.proofs.Kept.{packet_on, packet_back, has_on, has_back}
 use Rattle.nk_reach.proofs.Growing.{sets_known, sets_same, under_named, pairs_of, step_on, step_back}
 use Rattle.nk_reach.proofs.Adding.{under_append, under_left, under_right}
 
 -- one entry more
-pub so_far_push : (a st new : Held) (ass ss nss : List (List ℕ)) (states : List ℕ) (done raw more : List (ℕ × ℕ)) (p : ℕ × ℕ) → AreStates a states → IsSoFar a ass states done st ss raw → Grows a st → SetsGrow ass ss → SetsGrow ss nss → IsPair a ass (length states) p → IsFollowed st states (get_or ss p.0 []) p.1 raw new nss more → IsSoFar a ass states (done ++ p ∷ []) new nss more
+pub so_far_push : (a st new : StoreState) (ass ss nss : List (List ℕ)) (states : List ℕ) (done raw more : List (ℕ × ℕ)) (p : ℕ × ℕ) → AreStates a states → IsSoFar a ass states done st ss raw → Grows a st → SetsGrow ass ss → SetsGrow ss nss → IsPair a ass (length states) p → IsFollowed st states (get_or ss p.0 []) p.1 raw new nss more → IsSoFar a ass states (done ++ p ∷ []) new nss more
 so_far_push a st new ass ss nss states done raw more p states_ok m g s t q f =
     let same : get_or ss p.0 [] ≡ get_or ass p.0 [] = sets_same ass ss p.0 s q.known in
     record {
@@ -36,7 +36,7 @@ so_far_push a st new ass ss nss states done raw more p states_ok m g s t q f =
         | inr now ↦ elim now [
           | inl here ↦
               let e : k.0 ≡ get_or ss p.0 [] = sym w.1 ∙ ap (λ i. get_or ass i []) (sym here.0) ∙ sym same in
-              let places : HavePlaces (length states) k.0 = subst (HavePlaces (length states)) (sym same ∙ sym e) q.places in
+              let places : AreLabelsBelow (length states) k.0 = subst (AreLabelsBelow (length states)) (sym same ∙ sym e) q.places in
               let up : IsStep st states k n = step_on a st states k n g states_ok places step in
               f.every k.1 n (packet_on a st k.1 g pk) (has_on a st p.1 k.1 g q.packets.id here.1) (subst (λ (l : List ℕ). IsStep st states (l, k.1) n) e up)
           | inr z ↦ absurd z
@@ -45,7 +45,7 @@ so_far_push a st new ass ss nss states done raw more p states_ok m g s t q f =
       named = λ i n. elim (f.named i n) [
         | inl was ↦
             let k = m.named i was in
-            (sets_known ss nss i t k.0, subst (HavePlaces (length states)) (sym (sets_same ss nss i t k.0)) k.1)
+            (sets_known ss nss i t k.0, subst (AreLabelsBelow (length states)) (sym (sets_same ss nss i t k.0)) k.1)
         | inr now ↦ now
       ];
       packets = f.packets;
@@ -53,7 +53,7 @@ so_far_push a st new ass ss nss states done raw more p states_ok m g s t q f =
     }
 
 -- all entries are the level
-pub raw_of : (st new : Held) (ss nss : List (List ℕ)) (states : List ℕ) (last raw : List (ℕ × ℕ)) → IsSoFar st ss states last new nss raw → HasEachSetOnce nss → IsRaw st ss states last new nss raw
+pub raw_of : (st new : StoreState) (ss nss : List (List ℕ)) (states : List ℕ) (last raw : List (ℕ × ℕ)) → IsSoFar st ss states last new nss raw → HasEachSetOnce nss → IsRaw st ss states last new nss raw
 raw_of st new ss nss states last raw m differ = record {
   from = λ n p w.
       let r = m.from w.0 n.1 p w.2 in

@@ -5,7 +5,7 @@ use Rattle.std.proofs.lemmas.Bool.Decides.{leb_tells}
 use Rattle.std.proofs.lemmas.List.Sorted.{IsPermutation-sym}
 use Rattle.nk_store.specs.declared.node.Out.{Out}
 use Rattle.nk_store.specs.Leaves.{Suits}
-use Rattle.nk_store.specs.Held.{Held, IsPacket, top, Grows}
+use Rattle.nk_store.specs.StoreState.{StoreState, IsStorePacket, root_field, Grows}
 use Rattle.nk_reach.specs.declared.groups.Stretch.{Stretch}
 use Rattle.nk_reach.specs.declared.outs.Given.{Given}
 use Rattle.nk_reach.specs.Outs.{AreLater, IsByOut, piece, AreStretches, AreOfDiagram, AreUnited, IsRunOf, IsNone}
@@ -14,11 +14,11 @@ use Rattle.nk_reach.proofs.Givens.{given_on, later_on, gives_on, gives_back, giv
 use Rattle.nk_reach.proofs.Stretches.{stretches_on, has_at_on, has_at_back, any_moved}
 
 -- the set of no packets stays so as the store grows
-pub none_on : (a b : Held) (d : ℕ) → Grows a b → IsNone a d → IsNone b d
-none_on a b d g n = record { leaves = record { id = g.ids d n.leaves.id; leaf = λ pk w. g.leaves d pk n.leaves.id ∙ n.leaves.leaf pk w }; later = g.tops d n.leaves.id ∙ n.later }
+pub none_on : (a b : StoreState) (d : ℕ) → Grows a b → IsNone a d → IsNone b d
+none_on a b d g n = record { leaves = record { id = g.ids d n.leaves.id; leaf = λ pk w. g.leaves d pk n.leaves.id ∙ n.leaves.leaf pk w }; later = g.root_fields d n.leaves.id ∙ n.later }
 
 -- one run more put together
-pub united_push : (a st new : Held) (f : ℕ) (ss : List Stretch) (from to : ℕ) (made : List Given) (o : Out) (p : ℕ) → AreStretches a f ss → o ≡ (piece ss from).out → Grows a st → Grows st new →
+pub united_push : (a st new : StoreState) (f : ℕ) (ss : List Stretch) (from to : ℕ) (made : List Given) (o : Out) (p : ℕ) → AreStretches a f ss → o ≡ (piece ss from).out → Grows a st → Grows st new →
     IsRunOf st f ss from to new p → AreUnited a f ss from st made → AreUnited a f ss to new (made ++ record { out = o; packets = p } ∷ [])
 united_push a st new f ss from to made o p k is g h run u =
     let e : Given = record { out = o; packets = p } in
@@ -44,15 +44,15 @@ united_push a st new f ss from to made o p k is g h run u =
     }
 
 -- those of a diagram, in another order and put together, are its entries
-pub by_out_united : (a new : Held) (f d : ℕ) (ss ts : List Stretch) (made : List Given) → Grows a new → AreOfDiagram a f d ss → IsPermutation ss ts → AreUnited a f ts (length ts) new made → IsByOut new d made
+pub by_out_united : (a new : StoreState) (f d : ℕ) (ss ts : List Stretch) (made : List Given) → Grows a new → AreOfDiagram a f d ss → IsPermutation ss ts → AreUnited a f ts (length ts) new made → IsByOut new d made
 by_out_united a new f d ss ts made g k p u = record {
   id = g.ids d k.id;
   given = u.given;
-  later = let e : top new d ≡ f = g.tops d k.id ∙ k.first in subst (λ t. AreLater new t made) (sym e) u.later;
+  later = let e : root_field new d ≡ f = g.root_fields d k.id ∙ k.first in subst (λ t. AreLater new t made) (sym e) u.later;
   goes = λ x o w v.
-      let q : IsPacket a x = packet_back a new x g w in
+      let q : IsStorePacket a x = packet_back a new x g w in
       subst (λ (os : List Out). Contains os o) (sym (g.leaves d x k.id)) (k.goes x o q (any_moved a f ts ss x o (IsPermutation-sym ss ts p) (u.from x o q v)));
   comes = λ x o w c.
-      let q : IsPacket a x = packet_back a new x g w in
+      let q : IsStorePacket a x = packet_back a new x g w in
       u.more x o q (any_moved a f ss ts x o p (k.comes x o q (subst (λ (os : List Out). Contains os o) (g.leaves d x k.id) c)));
 }

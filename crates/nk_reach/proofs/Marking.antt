@@ -2,11 +2,11 @@
 use Rattle.std.proofs.Common.{◌≡◌, ℕ, inl, refl, sym, ◌∙◌, ap, subst, List, [], ◌∷◌, Option, None, Some}
 use Rattle.nk_store.specs.declared.node.Out.{Out}
 use Rattle.nk_store.specs.Leaves.{Strict}
-use Rattle.nk_store.specs.Held.{Held, look, HasLeaves}
+use Rattle.nk_store.specs.StoreState.{StoreState, look, HasLeaves}
 use Rattle.nk_apply.proofs.Members.{Has, gathered_has, has_gathered, gathered_strict, strict_same}
 use Rattle.nk_determ.specs.Exact.{exact, exact_out, split_leaf}
 use Rattle.nk_determ.specs.Targets.{option_out, out_by_table, retargeted}
-use Rattle.nk_reach.specs.Sides.{marked}
+use Rattle.nk_reach.specs.Sides.{finals_of_side}
 use Rattle.nk_reach.proofs.Meanings.{to, only, marked_has, has_marked}
 
 -- at most one out ascends strictly
@@ -48,8 +48,8 @@ marked_first maxes pk mark os =
     (marked_then maxes pk mark os) (marked_before maxes pk mark os)
 
 -- the ends of a diagram, marked and split
-pub marked_of : (st s1 s2 : Held) (d e r mark : ℕ) (table : List (Option ℕ)) → table ≡ Some mark ∷ [] → s1.maxes ≡ st.maxes → HasLeaves s1 e (λ pk. retargeted table (look st d pk)) →
-    HasLeaves s2 r (λ pk. split_leaf s1.maxes pk (look s1 e pk)) → HasLeaves s2 r (λ pk. marked st d mark pk)
+pub marked_of : (st s1 s2 : StoreState) (d e r mark : ℕ) (table : List (Option ℕ)) → table ≡ Some mark ∷ [] → s1.maxes ≡ st.maxes → HasLeaves s1 e (λ pk. retargeted table (look st d pk)) →
+    HasLeaves s2 r (λ pk. split_leaf s1.maxes pk (look s1 e pk)) → HasLeaves s2 r (λ pk. finals_of_side st d mark pk)
 marked_of st s1 s2 d e r mark table is same h k = record {
   id = k.id;
   leaf = λ pk w.

@@ -7,7 +7,7 @@ use Rattle.nk_field.specs.Act.{applied}
 use Rattle.nk_store.specs.declared.node.Out.{Out}
 use Rattle.nk_store.specs.contracts.node.OutPartialEq.TheImpl.{ghosts}
 use Rattle.nk_store.specs.Leaves.{Suits, IsActFrom}
-use Rattle.nk_store.specs.Held.{Held, IsPacket, look, AreTidy}
+use Rattle.nk_store.specs.StoreState.{StoreState, IsStorePacket, look, AreTidy}
 use Rattle.nk_store.proofs.NodeEq.{out_decides}
 use Rattle.nk_apply.specs.Leaves.{merged}
 use Rattle.nk_apply.proofs.Members.{Has, has_contains, contains_has, every_has, merged_left, merged_right, merged_has, gathered_has, has_gathered}
@@ -15,8 +15,8 @@ use Rattle.nk_determ.specs.Exact.{exact, exact_out, split_leaf, IsExact, Sends}
 use Rattle.nk_determ.specs.Targets.{out_by_table, retargeted}
 use Rattle.nk_determ.proofs.Exacts.{exact_acts}
 use Rattle.nk_determ.proofs.Laws.{exact_applied, exact_changes, exact_one}
-use Rattle.nk_reach.specs.Pairs.{HavePlaces}
-use Rattle.nk_reach.specs.Sides.{twin, alone_out, alone, ends_of, marked, mark_of, AreMarked, EndsAt, AreOneSided}
+use Rattle.nk_reach.specs.Pairs.{AreLabelsBelow}
+use Rattle.nk_reach.specs.Sides.{twin, alone_out, alone, ends_of, finals_of_side, label_side, AreSideFinals, EndsAt, AreOneSided}
 use Rattle.nk_reach.proofs.Growing.{place_of}
 
 -- the out with this act and target
@@ -49,13 +49,13 @@ pub has_marked : (mark : ℕ) (os : List Out) (g : List (ℕ × ℕ)) → Has os
 has_marked mark os g h = gathered_has (out_by_table (Some mark ∷ [])) os (to g 0) (to g mark) h (inl refl)
 
 -- what is known of a marked end
-record IsExactEnd (st : Held) (d : ℕ) (pk : List ℕ) (g : List (ℕ × ℕ)) : Type 0 where
+record IsExactEnd (st : StoreState) (d : ℕ) (pk : List ℕ) (g : List (ℕ × ℕ)) : Type 0 where
   act : IsActFrom st.maxes 0 g
   exact_act : IsExact pk g
   sends : Sends st d pk (applied g pk) 0
 
 -- a marked end is one
-end_of : (st : Held) (d mark : ℕ) (pk : List ℕ) (o : Out) → AreTidy st → IsPacket st pk → Has (marked st d mark pk) o → (o.target ≡ mark) × IsExactEnd st d pk o.act
+end_of : (st : StoreState) (d mark : ℕ) (pk : List ℕ) (o : Out) → AreTidy st → IsStorePacket st pk → Has (finals_of_side st d mark pk) o → (o.target ≡ mark) × IsExactEnd st d pk o.act
 end_of st d mark pk o tidy p h =
     let m = marked_has mark (split_leaf st.maxes pk (look st d pk)) o h in
     let w = has_gathered (λ x. exact_out st.maxes pk x ∷ []) (look st d pk) (to o.act 0) m.1 in
@@ -77,7 +77,7 @@ end_of st d mark pk o tidy p h =
     )
 
 -- what a diagram ends with is marked
-end_in : (st : Held) (d mark : ℕ) (pk y : List ℕ) → AreTidy st → IsPacket st pk → Sends st d pk y 0 → (g : List (ℕ × ℕ)) × Has (marked st d mark pk) (to g mark) × (y ≡ applied g pk)
+end_in : (st : StoreState) (d mark : ℕ) (pk y : List ℕ) → AreTidy st → IsStorePacket st pk → Sends st d pk y 0 → (g : List (ℕ × ℕ)) × Has (finals_of_side st d mark pk) (to g mark) × (y ≡ applied g pk)
 end_in st d mark pk y tidy p s =
     let o : Out = to s.0 0 in
     let h : Has (look st d pk) o = contains_has (look st d pk) o s.1 in
@@ -88,7 +88,7 @@ end_in st d mark pk y tidy p s =
     )
 
 -- an end of a set is one of a member
-has_ends : (st : Held) (ends set pk : List ℕ) (o : Out) → Has (ends_of st ends set pk) o → (l : ℕ) × Has set l × Has (look st (get_or ends l 0) pk) o
+has_ends : (st : StoreState) (ends set pk : List ℕ) (o : Out) → Has (ends_of st ends set pk) o → (l : ℕ) × Has set l × Has (look st (get_or ends l 0) pk) o
 has_ends st ends [] pk o h = absurd h
 has_ends st ends (l ∷ ls) pk o h = elim (merged_has o (look st (get_or ends l 0) pk) (ends_of st ends ls pk) h) [
   | inl here ↦ (l, inl refl, here)
@@ -96,7 +96,7 @@ has_ends st ends (l ∷ ls) pk o h = elim (merged_has o (look st (get_or ends l 
 ]
 
 -- an end of a member is one of the set
-ends_has : (st : Held) (ends set pk : List ℕ) (o : Out) (l : ℕ) → Has set l → Has (look st (get_or ends l 0) pk) o → Has (ends_of st ends set pk) o
+ends_has : (st : StoreState) (ends set pk : List ℕ) (o : Out) (l : ℕ) → Has set l → Has (look st (get_or ends l 0) pk) o → Has (ends_of st ends set pk) o
 ends_has st ends [] pk o l m h = absurd m
 ends_has st ends (k ∷ ks) pk o l m h = elim m [
   | inl e ↦ merged_left o (look st (get_or ends k 0) pk) (ends_of st ends ks pk) (subst (λ j. Has (look st (get_or ends j 0) pk) o) (sym e) h)
@@ -153,7 +153,7 @@ alone_has os p m n = gathered_has (alone_out os) os p (to p.act (cond (eqb p.tar
     by true e = absurd (n (any_has os (twin p) e))
     by false e = subst (λ b. Has (cond b [] (to p.act (cond (eqb p.target 1) 0 1) ∷ [])) (to p.act (cond (eqb p.target 1) 0 1))) (sym e) (inl refl)
 
-module _ (a new : Held) (states : List ℕ) (left right bound : ℕ) (ends set pk : List ℕ) (tidy : AreTidy a) (marks : AreMarked a states left right bound (length states) new ends) (places : HavePlaces (length states) set) (p : IsPacket a pk) where
+module _ (a new : StoreState) (states : List ℕ) (left right bound : ℕ) (ends set pk : List ℕ) (tidy : AreTidy a) (marks : AreSideFinals a states left right bound (length states) new ends) (places : AreLabelsBelow (length states) set) (p : IsStorePacket a pk) where
   -- what is known of an end of the set
   record IsEnd (o : Out) : Type 0 where
     act : IsActFrom a.maxes 0 o.act
@@ -162,7 +162,7 @@ module _ (a new : Held) (states : List ℕ) (left right bound : ℕ) (ends set p
         ((o.target ≡ 1) × EndsAt a states left bound 1 set pk (applied o.act pk))
         ⊎ ((o.target ≡ 2) × EndsAt a states right bound 2 set pk (applied o.act pk))
 
-  mark_either : (l : ℕ) → (mark_of bound l ≡ 1) ⊎ (mark_of bound l ≡ 2)
+  mark_either : (l : ℕ) → (label_side bound l ≡ 1) ⊎ (label_side bound l ≡ 2)
   mark_either l = by (nat_lt l bound)
     where
       by : (b : Bool) → (mark_by b ≡ 1) ⊎ (mark_by b ≡ 2)
@@ -177,15 +177,15 @@ module _ (a new : Held) (states : List ℕ) (left right bound : ℕ) (ends set p
       let within : l < length states = place_of (length states) set l places c in
       elim (eqb_tells l 0) [
         | inl none ↦
-            let at : Has (merged (marked a left 1 pk) (marked a right 2 pk)) o = subst (λ os. Has os o) ((marks.start (omega (arith, within))).leaf pk p.0) (subst (λ j. Has (look new (get_or ends j 0) pk) o) none.1 w.2) in
+            let at : Has (merged (finals_of_side a left 1 pk) (finals_of_side a right 2 pk)) o = subst (λ os. Has os o) ((marks.start (omega (arith, within))).leaf pk p.0) (subst (λ j. Has (look new (get_or ends j 0) pk) o) none.1 w.2) in
             let zero_in : Contains set 0 = subst (λ j. Contains set j) none.1 c in
-            elim (merged_has o (marked a left 1 pk) (marked a right 2 pk) at) [
+            elim (merged_has o (finals_of_side a left 1 pk) (finals_of_side a right 2 pk) at) [
               | inl x ↦ let e = end_of a left 1 pk o tidy p x in record { act = e.1.act; exact_act = e.1.exact_act; side = inl (e.0, inl (zero_in, e.1.sends)) }
               | inr x ↦ let e = end_of a right 2 pk o tidy p x in record { act = e.1.act; exact_act = e.1.exact_act; side = inr (e.0, inl (zero_in, e.1.sends)) }
             ]
         | inr some ↦
             let pos : 0 < l = omega (arith, some.1) in
-            let e = end_of a (get_or states l 0) (mark_of bound l) pk o tidy p (subst (λ os. Has os o) ((marks.rest l pos within).leaf pk p.0) w.2) in
+            let e = end_of a (get_or states l 0) (label_side bound l) pk o tidy p (subst (λ os. Has os o) ((marks.rest l pos within).leaf pk p.0) w.2) in
             record {
               act = e.1.act;
               exact_act = e.1.exact_act;
@@ -197,12 +197,12 @@ module _ (a new : Held) (states : List ℕ) (left right bound : ℕ) (ends set p
       ]
 
   -- what a state ends with is an end with its mark
-  state_among : (m : ℕ) (y : List ℕ) → ((l : ℕ) × Contains set l × (0 < l) × (mark_of bound l ≡ m) × Sends a (get_or states l 0) pk y 0) → (g : List (ℕ × ℕ)) × Has (ends_of new ends set pk) (to g m) × (y ≡ applied g pk)
+  state_among : (m : ℕ) (y : List ℕ) → ((l : ℕ) × Contains set l × (0 < l) × (label_side bound l ≡ m) × Sends a (get_or states l 0) pk y 0) → (g : List (ℕ × ℕ)) × Has (ends_of new ends set pk) (to g m) × (y ≡ applied g pk)
   state_among m y z =
       let l : ℕ = z.0 in
       let s = end_in a (get_or states l 0) m pk y tidy p z.4 in
       let within : l < length states = place_of (length states) set l places z.1 in
-      let at : Has (marked a (get_or states l 0) (mark_of bound l) pk) (to s.0 m) = subst (λ k. Has (marked a (get_or states l 0) k pk) (to s.0 m)) (sym z.3) s.1 in
+      let at : Has (finals_of_side a (get_or states l 0) (label_side bound l) pk) (to s.0 m) = subst (λ k. Has (finals_of_side a (get_or states l 0) k pk) (to s.0 m)) (sym z.3) s.1 in
       (s.0, ends_has new ends set pk (to s.0 m) l (contains_has set l z.1) (subst (λ os. Has os (to s.0 m)) (sym ((marks.rest l z.2 within).leaf pk p.0)) at), s.2)
 
   -- what the left side ends with is an end with mark 1
@@ -211,7 +211,7 @@ module _ (a new : Held) (states : List ℕ) (left right bound : ℕ) (ends set p
     | inl z ↦
         let s = end_in a left 1 pk y tidy p z.1 in
         let some : 0 < length states = omega (arith, place_of (length states) set 0 places z.0) in
-        (s.0, ends_has new ends set pk (to s.0 1) 0 (contains_has set 0 z.0) (subst (λ os. Has os (to s.0 1)) (sym ((marks.start some).leaf pk p.0)) (merged_left (to s.0 1) (marked a left 1 pk) (marked a right 2 pk) s.1)), s.2)
+        (s.0, ends_has new ends set pk (to s.0 1) 0 (contains_has set 0 z.0) (subst (λ os. Has os (to s.0 1)) (sym ((marks.start some).leaf pk p.0)) (merged_left (to s.0 1) (finals_of_side a left 1 pk) (finals_of_side a right 2 pk) s.1)), s.2)
     | inr z ↦ state_among 1 y z
   ]
 
@@ -221,7 +221,7 @@ module _ (a new : Held) (states : List ℕ) (left right bound : ℕ) (ends set p
     | inl z ↦
         let s = end_in a right 2 pk y tidy p z.1 in
         let some : 0 < length states = omega (arith, place_of (length states) set 0 places z.0) in
-        (s.0, ends_has new ends set pk (to s.0 2) 0 (contains_has set 0 z.0) (subst (λ os. Has os (to s.0 2)) (sym ((marks.start some).leaf pk p.0)) (merged_right (to s.0 2) (marked a left 1 pk) (marked a right 2 pk) s.1)), s.2)
+        (s.0, ends_has new ends set pk (to s.0 2) 0 (contains_has set 0 z.0) (subst (λ os. Has os (to s.0 2)) (sym ((marks.start some).leaf pk p.0)) (merged_right (to s.0 2) (finals_of_side a left 1 pk) (finals_of_side a right 2 pk) s.1)), s.2)
     | inr z ↦ state_among 2 y z
   ]
 

@@ -1,6 +1,6 @@
 -- From what a level leads to, to the next level.
 use Rattle.std.proofs.Common.{◌≡◌, ℕ, ◌<◌, sym, ◌∙◌, subst, List, length}
-use Rattle.nk_store.specs.Held.{Held, Grows}
+use Rattle.nk_store.specs.StoreState.{StoreState, Grows}
 use Rattle.nk_determ.specs.Sets.{SetsGrow}
 use Rattle.nk_reach.specs.Pairs.{Under, Named, ArePairs}
 use Rattle.nk_reach.specs.Rounds.{IsNextLevel, IsRaw, IsFresh}
@@ -8,7 +8,7 @@ use Rattle.nk_reach.proofs.Kept.{packet_on}
 use Rattle.nk_reach.proofs.Growing.{sets_known, sets_same, named_known, under_named, under_on, under_back, pairs_of, packets_of}
 
 -- what a level leads to, without what was met, is the next level
-pub next_of_raw : (st mid new : Held) (ss nss : List (List ℕ)) (states : List ℕ) (met last raw level : List (ℕ × ℕ)) → IsRaw st ss states last mid nss raw → IsFresh mid met raw new level → Grows st mid → SetsGrow ss nss → ArePairs st ss (length states) met → IsNextLevel st ss states met last new nss level
+pub next_of_raw : (st mid new : StoreState) (ss nss : List (List ℕ)) (states : List ℕ) (met last raw level : List (ℕ × ℕ)) → IsRaw st ss states last mid nss raw → IsFresh mid met raw new level → Grows st mid → SetsGrow ss nss → ArePairs st ss (length states) met → IsNextLevel st ss states met last new nss level
 next_of_raw st mid new ss nss states met last raw level r f g s mp =
     let known : (i : ℕ) → Named met i → (i < length ss) = λ i n. (named_known st ss (length states) met i mp.each n).0 in
     let mpk = packets_of st ss (length states) met mp.each in

@@ -3,9 +3,9 @@ use Rattle.std.proofs.Common.{◌≡◌, ◌≤◌, ◌+◌, inl, inr, refl, sym
 use Rattle.nk_apply.proofs.Members.{Has as Among}
 
 -- no item stands twice
-abbrev pub Apart : {A : Type 0} → List A → Type 0
-Apart [] = Unit {0}
-Apart (x ∷ xs) = (Among xs x → ⊥) × Apart xs
+abbrev pub NoDup : {A : Type 0} → List A → Type 0
+NoDup [] = Unit {0}
+NoDup (x ∷ xs) = (Among xs x → ⊥) × NoDup xs
 
 -- the list without one of its items
 pub without : {A : Type 0} (ys : List A) (x : A) → Among ys x → (zs : List A) × (length ys ≡ length zs + 1) × ((z : A) → Among ys z → (z ≡ x → ⊥) → Among zs z)
@@ -18,7 +18,7 @@ without {A} (y ∷ ys) x h = elim h [
 ]
 
 -- things that differ, all in a list, are no more than it has
-pub at_most : {A : Type 0} (xs ys : List A) → Apart xs → ((x : A) → Among xs x → Among ys x) → length xs ≤ length ys
+pub at_most : {A : Type 0} (xs ys : List A) → NoDup xs → ((x : A) → Among xs x → Among ys x) → length xs ≤ length ys
 at_most [] ys d all = omega arith
 at_most {A} (x ∷ xs) ys d all =
     let w = without ys x (all x (inl refl)) in

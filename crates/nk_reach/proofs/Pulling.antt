@@ -3,15 +3,15 @@ use Rattle.std.proofs.Common.{◌≡◌, ℕ, ◌<◌, ◌+◌, ◌||◌, ◌&&�
 use Rattle.std.specs.Map.{lookup}
 use Rattle.nk_field.specs.Act.{applied}
 use Rattle.nk_store.specs.declared.node.Out.{Out}
-use Rattle.nk_store.specs.Held.{Held, HasLeaves, look, Grows}
+use Rattle.nk_store.specs.StoreState.{StoreState, HasLeaves, look, Grows}
 use Rattle.nk_store.proofs.Stores.{grows_on}
 use Rattle.nk_apply.specs.Leaves.{guarded, merged}
 use Rattle.nk_apply.specs.Predicates.{IsPredicate}
-use Rattle.nk_sets.specs.PacketSets.{has_out, is_in, IsSet, IsPacketSetOf}
+use Rattle.nk_sets.specs.PacketSets.{has_some_out, is_in, IsSet, IsPacketSetOf}
 use Rattle.nk_sets.proofs.SetLemmas.{guarded_out, merged_out, both_pass, pass_both, predicate_grows}
 use Rattle.nk_determ.specs.Sets.{SetsGrow, HasEachSetOnce}
 use Rattle.nk_reach.specs.declared.outs.Given.{Given}
-use Rattle.nk_reach.specs.Pairs.{Node, Under, Named, Once, AreStates, HavePlaces, IsPair, ArePairs, IsStep}
+use Rattle.nk_reach.specs.Pairs.{Node, Under, Named, Once, AreStates, AreLabelsBelow, IsPair, ArePairs, IsStep}
 use Rattle.nk_reach.specs.Outs.{IsGiven, AreGiven, IsByOut}
 use Rattle.nk_reach.specs.Rounds.{HaveSets, sent_to, IsAdded}
 use Rattle.nk_reach.specs.Local.{IsStateAt}
@@ -22,11 +22,11 @@ use Rattle.nk_reach.proofs.Givens.{is_given_at, gives_more, gives_less, gives_la
 use Rattle.nk_reach.specs.Pulls.{IsPulled, AreAllPulled, IsPulledPair, IsPulledSoFar}
 
 -- the empty set has no packet
-pub empty_not : (st : Held) (r : ℕ) (z : List ℕ) → HasLeaves st r (λ pk. []) → length z ≡ 18 → Has st r z → ⊥
-empty_not st r z h w m = let e : has_out (look st r z) ≡ false = ap has_out (h.leaf z w) in absurd cc
+pub empty_not : (st : StoreState) (r : ℕ) (z : List ℕ) → HasLeaves st r (λ pk. []) → length z ≡ 18 → Has st r z → ⊥
+empty_not st r z h w m = let e : has_some_out (look st r z) ≡ false = ap has_some_out (h.leaf z w) in absurd cc
 
 -- nothing is led where the out's set has no packets under it
-pub pulled_none : (st new : Held) (o : Out) (p r : ℕ) (next : List (ℕ × ℕ)) → HasLeaves new r (λ pk. []) → IsPredicate new r → ((t : ℕ) (z : List ℕ) → t + 1 ≡ o.target → Under st next t z → ⊥) → IsPulled st o p next new r
+pub pulled_none : (st new : StoreState) (o : Out) (p r : ℕ) (next : List (ℕ × ℕ)) → HasLeaves new r (λ pk. []) → IsPredicate new r → ((t : ℕ) (z : List ℕ) → t + 1 ≡ o.target → Under st next t z → ⊥) → IsPulled st o p next new r
 pulled_none st new o p r next h k none = record {
   packets = record { id = h.id; predicate = k };
   from = λ z w m. absurd (empty_not new r z h w.0 m);
@@ -34,13 +34,13 @@ pulled_none st new o p r next h k none = record {
 }
 
 -- where the out's set has no entry
-pub pulled_missing : (st new : Held) (o : Out) (p r t : ℕ) (next : List (ℕ × ℕ)) → HasLeaves new r (λ pk. []) → IsPredicate new r → t + 1 ≡ o.target → lookup (eqb t) next ≡ None → IsPulled st o p next new r
+pub pulled_missing : (st new : StoreState) (o : Out) (p r t : ℕ) (next : List (ℕ × ℕ)) → HasLeaves new r (λ pk. []) → IsPredicate new r → t + 1 ≡ o.target → lookup (eqb t) next ≡ None → IsPulled st o p next new r
 pulled_missing st new o p r t next h k e miss =
     pulled_none st new o p r next h k
     (λ s z is u. let same : s ≡ t = omega (arith, is, e) in not_found next t miss (subst (λ j. Named next j) same (under_named st next s z u)))
 
 -- where the out's set has an entry
-pub pulled_some : (st mid new : Held) (o : Out) (p t q b r : ℕ) (next : List (ℕ × ℕ)) → Grows st mid → IsSet st p → Once next → lookup (eqb t) next ≡ Some q → t + 1 ≡ o.target → IsPacketSetOf mid b (λ pk. is_in st q (applied o.act pk)) →
+pub pulled_some : (st mid new : StoreState) (o : Out) (p t q b r : ℕ) (next : List (ℕ × ℕ)) → Grows st mid → IsSet st p → Once next → lookup (eqb t) next ≡ Some q → t + 1 ≡ o.target → IsPacketSetOf mid b (λ pk. is_in st q (applied o.act pk)) →
     HasLeaves new r (λ pk. guarded (look mid b pk) (look mid p pk)) → (IsPredicate mid p → IsPredicate new r) → IsPulled st o p next new r
 pulled_some st mid new o p t q b r next g sp once found e before h k = record {
   packets = record { id = h.id; predicate = k (predicate_grows st mid p g sp.id sp.predicate) };
@@ -54,10 +54,10 @@ pulled_some st mid new o p t q b r next g sp once found e before h k = record {
 }
   where
     key : (z : List ℕ) → length z ≡ 18 → is_in new r z ≡ is_in mid b z && is_in mid p z
-    key z w = ap has_out (h.leaf z w) ∙ guarded_out (look mid b z) (look mid p z)
+    key z w = ap has_some_out (h.leaf z w) ∙ guarded_out (look mid b z) (look mid p z)
 
 -- no out yet
-pub all_pulled_none : (st new : Held) (es : List Given) (next : List (ℕ × ℕ)) (r : ℕ) → HasLeaves new r (λ pk. []) → IsPredicate new r → AreAllPulled st es 0 next new r
+pub all_pulled_none : (st new : StoreState) (es : List Given) (next : List (ℕ × ℕ)) (r : ℕ) → HasLeaves new r (λ pk. []) → IsPredicate new r → AreAllPulled st es 0 next new r
 all_pulled_none st new es next r h k = record {
   packets = record { id = h.id; predicate = k };
   from = λ z w m. absurd (empty_not new r z h w.0 m);
@@ -69,7 +69,7 @@ pub out_is : (o : Out) (t : ℕ) → t + 1 ≡ o.target → o ≡ sent_to o.act 
 out_is o t e = ap (λ (v : ℕ). sent_to o.act v) (sym e)
 
 -- one out more
-pub all_pulled_push : (a st mid new : Held) (es : List Given) (n : ℕ) (q : Given) (next : List (ℕ × ℕ)) (all some r : ℕ) → AreGiven a es → HaveSets a next → n < length es → q ≡ get_or es n q → Grows a st → AreAllPulled a es n next st all →
+pub all_pulled_push : (a st mid new : StoreState) (es : List Given) (n : ℕ) (q : Given) (next : List (ℕ × ℕ)) (all some r : ℕ) → AreGiven a es → HaveSets a next → n < length es → q ≡ get_or es n q → Grows a st → AreAllPulled a es n next st all →
     Grows st mid → IsPulled st q.out q.packets next mid some → HasLeaves new r (λ pk. merged (look mid all pk) (look mid some pk)) → (IsPredicate mid all → IsPredicate mid some → IsPredicate new r) → AreAllPulled a es (n + 1) next new r
 all_pulled_push a st mid new es n q next all some r k sets l is g1 made g2 one h pred = record {
   packets = record { id = h.id; predicate = pred (predicate_grows st mid all g2 made.packets.id made.packets.predicate) one.packets.predicate };
@@ -95,10 +95,10 @@ all_pulled_push a st mid new es n q next all some r k sets l is g1 made g2 one h
     kept = is_given_at a es n q k l is
 
     key : (z : List ℕ) → length z ≡ 18 → is_in new r z ≡ is_in mid all z || is_in mid some z
-    key z w = ap has_out (h.leaf z w) ∙ merged_out (look mid all z) (look mid some z)
+    key z w = ap has_some_out (h.leaf z w) ∙ merged_out (look mid all z) (look mid some z)
 
 -- by the diagram of the set state at the packets, all its outs
-pub pulled_pair_of : (st s1 s2 new : Held) (ss nss : List (List ℕ)) (states set : List ℕ) (x d : ℕ) (es : List Given) (next : List (ℕ × ℕ)) (r : ℕ) → Grows st s1 → Grows s1 s2 → SetsGrow ss nss → HasEachSetOnce nss → ArePairs st ss (length states) next →
+pub pulled_pair_of : (st s1 s2 new : StoreState) (ss nss : List (List ℕ)) (states set : List ℕ) (x d : ℕ) (es : List Given) (next : List (ℕ × ℕ)) (r : ℕ) → Grows st s1 → Grows s1 s2 → SetsGrow ss nss → HasEachSetOnce nss → ArePairs st ss (length states) next →
     IsStateAt st states set x s1 nss d → IsByOut s2 d es → AreAllPulled s2 es (length es) next new r → IsPulledPair st ss states set x next new r
 pulled_pair_of st s1 s2 new ss nss states set x d es next r g1 g2 grow differ pairs at by all = record {
   packets = all.packets;
@@ -132,7 +132,7 @@ pulled_pair_of st s1 s2 new ss nss states set x d es next r g1 g2 grow differ pa
     sets = packets_of st ss (length states) next pairs.each
 
 -- one entry more
-pub pulled_so_far_push : (a st mid new : Held) (ass ss : List (List ℕ)) (states : List ℕ) (next done back more : List (ℕ × ℕ)) (p : ℕ × ℕ) (r : ℕ) → AreStates a states → IsPulledSoFar a ass states next done st back → Grows a st → SetsGrow ass ss → Grows st mid → ArePairs a ass (length states) next →
+pub pulled_so_far_push : (a st mid new : StoreState) (ass ss : List (List ℕ)) (states : List ℕ) (next done back more : List (ℕ × ℕ)) (p : ℕ × ℕ) (r : ℕ) → AreStates a states → IsPulledSoFar a ass states next done st back → Grows a st → SetsGrow ass ss → Grows st mid → ArePairs a ass (length states) next →
     IsPair a ass (length states) p → IsPulledPair st ss states (get_or ss p.0 []) p.1 next mid r → IsAdded mid back p.0 r new more → IsPulledSoFar a ass states next (done ++ p ∷ []) new more
 pulled_so_far_push a st mid new ass ss states next done back more p r states_ok so g1 s1 g2 pairs pair one add = record {
   from = λ i z w u. elim (add.either i z (packet_on st mid z g2 (packet_on a st z g1 w)) u) [
@@ -158,7 +158,7 @@ pulled_so_far_push a st mid new ass ss states next done back more p r states_ok 
   ];
   named = λ i n. elim (add.named i n) [
     | inl old ↦ so.named i old
-    | inr here ↦ (subst (λ j. j < length ass) (sym here) pair.known, subst (λ j. HavePlaces (length states) (get_or ass j [])) (sym here) pair.places)
+    | inr here ↦ (subst (λ j. j < length ass) (sym here) pair.known, subst (λ j. AreLabelsBelow (length states) (get_or ass j [])) (sym here) pair.places)
   ];
   packets = add.packets;
   once = add.once;

@@ -2,13 +2,13 @@
 use Rattle.std.proofs.Common.{◌≡◌, ℕ, ◌<◌, ◌+◌, inl, inr, refl, sym, ◌∙◌, ap, subst, arith, List, [], ◌∷◌, ◌++◌, length, get_or, length-append}
 use Rattle.std.proofs.lemmas.Bool.Decides.{eqb_tells}
 use Rattle.nk_store.specs.declared.node.Out.{Out}
-use Rattle.nk_store.specs.Held.{Held, IsPacket, Grows}
+use Rattle.nk_store.specs.StoreState.{StoreState, IsStorePacket, Grows}
 use Rattle.nk_store.proofs.Stores.{grows_on, grows_same}
 use Rattle.nk_apply.proofs.Members.{Has as Among}
 use Rattle.nk_sets.specs.PacketSets.{IsSet}
 use Rattle.nk_determ.specs.Sets.{SetsGrow}
-use Rattle.nk_reach.specs.Pairs.{Node, EachPair, Within, AreStates, HavePlaces, ArePairs, IsStart, IsStep, IsGood}
-use Rattle.nk_reach.specs.Levels.{InLevel, IsLater, IsFilled, Bad}
+use Rattle.nk_reach.specs.Pairs.{Node, EachPair, Within, AreStates, AreLabelsBelow, ArePairs, IsStart, IsStep, IsGood}
+use Rattle.nk_reach.specs.Levels.{InLevel, IsLaterLevel, IsFilled, IsViolation}
 use Rattle.nk_reach.specs.Rounds.{HaveSets, IsNextLevel, IsMerged}
 use Rattle.nk_reach.proofs.Graphs.{IsNext, exact_push, exact_start}
 use Rattle.nk_reach.proofs.Kept.{packet_on, packet_back}
@@ -17,12 +17,12 @@ use Rattle.nk_reach.proofs.Everything.{all_nodes, among_nodes}
 use Rattle.nk_reach.proofs.Going.{Going, level_old, level_new, level_on, level_back, going_on}
 
 -- a level that is not empty has a packet
-pub first_node : (st : Held) (ss : List (List ℕ)) (ps : List (ℕ × ℕ)) → 0 < length ps → HaveSets st ps → EachPair (λ p. IsFilled st p.1) ps → (n : Node) × IsPacket st n.1 × Within st ss ps n
+pub first_node : (st : StoreState) (ss : List (List ℕ)) (ps : List (ℕ × ℕ)) → 0 < length ps → HaveSets st ps → EachPair (λ p. IsFilled st p.1) ps → (n : Node) × IsStorePacket st n.1 × Within st ss ps n
 first_node st ss [] l e f = absurd (omega (arith, l))
 first_node st ss (p ∷ ps) l e f = ((get_or ss p.0 [], f.0.0), f.0.1, (p.0, refl, inl (refl, f.0.2)))
 
 -- the new level follows from the ones before
-pub round_next : (old : Held) (oss : List (List ℕ)) (st mid new : Held) (ss nss : List (List ℕ)) (states : List ℕ) (set start : ℕ) (bad : List ℕ → List ℕ → List Out) (met : List (ℕ × ℕ)) (ls : List (List (ℕ × ℕ))) (level : List (ℕ × ℕ)) (h : ℕ) → AreStates old states → Going old oss st ss states set start bad met ls h → IsNextLevel st ss states met (get_or ls h []) mid nss level → Grows st mid → SetsGrow ss nss → Grows mid new → IsNext (IsStep old states) (IsGood old) (InLevel new nss ls) h (Within new nss level)
+pub round_next : (old : StoreState) (oss : List (List ℕ)) (st mid new : StoreState) (ss nss : List (List ℕ)) (states : List ℕ) (set start : ℕ) (bad : List ℕ → List ℕ → List Out) (met : List (ℕ × ℕ)) (ls : List (List (ℕ × ℕ))) (level : List (ℕ × ℕ)) (h : ℕ) → AreStates old states → Going old oss st ss states set start bad met ls h → IsNextLevel st ss states met (get_or ls h []) mid nss level → Grows st mid → SetsGrow ss nss → Grows mid new → IsNext (IsStep old states) (IsGood old) (InLevel new nss ls) h (Within new nss level)
 round_next old oss st mid new ss nss states set start bad met ls level h states_ok go next g1 s1 g2 =
     let r = length states in
     let last = get_or ls h [] in
@@ -33,20 +33,20 @@ round_next old oss st mid new ss nss states set start bad met ls level h states_
       from = λ n p v.
           let w = next.from n (packet_on old st n.1 go.grows p) (to_mid n v) in
           let m : Node = w.0 in
-          let places : HavePlaces r m.0 = within_places st ss r last m (go.pairs h h_in) w.2 in
+          let places : AreLabelsBelow r m.0 = within_places st ss r last m (go.pairs h h_in) w.2 in
           (m, packet_back old st m.1 go.grows w.1, level_on old oss st new ss nss states set start bad met ls h h m go g s1 h_in w.2, step_back old st states m n go.grows states_ok places w.3);
       fresh = λ n p v j l lev.
           next.fresh n (packet_on old st n.1 go.grows p) (to_mid n v) (go.in_met j n p l (level_back old oss st new ss nss states set start bad met ls h j n go g s1 l lev));
       every = λ m n p lev step none.
           let was : Within st ss last m = level_back old oss st new ss nss states set start bad met ls h h m go g s1 h_in lev in
-          let places : HavePlaces r m.0 = within_places st ss r last m (go.pairs h h_in) was in
+          let places : AreLabelsBelow r m.0 = within_places st ss r last m (go.pairs h h_in) was in
           let made = next.every m n (packet_on old st m.1 go.grows p) was (step_on old st states m n go.grows states_ok places step)
           (λ w. let q = go.met_in n step.packet w in none q.0 q.1 (level_on old oss st new ss nss states set start bad met ls h q.0 n go g s1 q.1 q.2)) in
           within_on mid new nss nss r level n g2 (sets_refl nss) next.pairs made;
     }
 
 -- a round keeps what holds between rounds
-pub going_next : (old : Held) (oss : List (List ℕ)) (st mid new : Held) (ss nss : List (List ℕ)) (states : List ℕ) (set start : ℕ) (bad : List ℕ → List ℕ → List Out) (met all : List (ℕ × ℕ)) (ls : List (List (ℕ × ℕ))) (level : List (ℕ × ℕ)) (h : ℕ) → AreStates old states → Going old oss st ss states set start bad met ls h → ((n : Node) → IsGood old n → InLevel st ss ls h n → Bad bad n → ⊥) → IsNextLevel st ss states met (get_or ls h []) mid nss level → Grows st mid → SetsGrow ss nss → IsMerged mid met level new all → Grows mid new → 0 < length level → Going old oss new nss states set start bad all (ls ++ level ∷ []) (h + 1)
+pub going_next : (old : StoreState) (oss : List (List ℕ)) (st mid new : StoreState) (ss nss : List (List ℕ)) (states : List ℕ) (set start : ℕ) (bad : List ℕ → List ℕ → List Out) (met all : List (ℕ × ℕ)) (ls : List (List (ℕ × ℕ))) (level : List (ℕ × ℕ)) (h : ℕ) → AreStates old states → Going old oss st ss states set start bad met ls h → ((n : Node) → IsGood old n → InLevel st ss ls h n → IsViolation bad n → ⊥) → IsNextLevel st ss states met (get_or ls h []) mid nss level → Grows st mid → SetsGrow ss nss → IsMerged mid met level new all → Grows mid new → 0 < length level → Going old oss new nss states set start bad all (ls ++ level ∷ []) (h + 1)
 going_next old oss st mid new ss nss states set start bad met all ls level h states_ok go none next g1 s1 merged g2 some =
     let r = length states in
     let g : Grows st new = grows_on st mid new g1 g2 in
@@ -69,7 +69,7 @@ going_next old oss st mid new ss nss states set start bad met all ls level h sta
     let in0 : Within new nss level n0 = within_on mid new nss nss r level n0 g2 s2 next.pairs one.2 in
     let came = is_next.from n0 good0 in0 in
     let m0 : Node = came.0 in
-    let places0 : HavePlaces r m0.0 = within_places new nss r (get_or ls h []) m0 (gn.pairs h (omega arith)) came.2 in
+    let places0 : AreLabelsBelow r m0.0 = within_places new nss r (get_or ls h []) m0 (gn.pairs h (omega arith)) came.2 in
     record {
       grows = gn.grows;
       sets = gn.sets;
@@ -82,8 +82,8 @@ going_next old oss st mid new ss nss states set start bad met all ls level h sta
         | inr other ↦ subst (λ (q : List (ℕ × ℕ)). ArePairs new nss r q) (sym (is_old i (omega (arith, l, other.1)))) (gn.pairs i (omega (arith, l, other.1)))
       ];
       shape = λ i a l. elim (eqb_tells i (h + 1)) [
-        | inl same ↦ subst (λ (q : List (ℕ × ℕ)). IsLater new q) (sym (is_new i same.1)) (record { some = some; filled = filled_on mid new level g2 mid_packets next.filled })
-        | inr other ↦ subst (λ (q : List (ℕ × ℕ)). IsLater new q) (sym (is_old i (omega (arith, l, other.1)))) (gn.shape i a (omega (arith, l, other.1)))
+        | inl same ↦ subst (λ (q : List (ℕ × ℕ)). IsLaterLevel new q) (sym (is_new i same.1)) (record { some = some; filled = filled_on mid new level g2 mid_packets next.filled })
+        | inr other ↦ subst (λ (q : List (ℕ × ℕ)). IsLaterLevel new q) (sym (is_old i (omega (arith, l, other.1)))) (gn.shape i a (omega (arith, l, other.1)))
       ];
       goal = λ i n l p v b. elim (eqb_tells i h) [
         | inl same ↦ none n p (level_back old oss st new ss nss states set start bad met ls h h n go g s1 (omega arith) (subst (λ j. InLevel new nss ls j n) same.1 (back i n l v))) b
@@ -113,7 +113,7 @@ going_next old oss st mid new ss nss states set start bad met all ls level h sta
       ];
       seen = n0 ∷ gn.seen;
       seen_count = omega (arith, gn.seen_count);
-      seen_apart = (λ q. let w = gn.seen_in n0 q in is_next.fresh n0 good0 in0 w.1.0 w.1.1 w.1.2, gn.seen_apart);
+      seen_no_dup = (λ q. let w = gn.seen_in n0 q in is_next.fresh n0 good0 in0 w.1.0 w.1.1 w.1.2, gn.seen_no_dup);
       seen_in = λ n q. elim q [
         | inl e ↦ subst (λ (k : Node). IsGood old k × ((j : ℕ) × (j < h + 1 + 1) × InLevel new nss nls j k)) e (good0, (h + 1, omega arith, last_on (h + 1) n0 refl in0))
         | inr later ↦ let w = gn.seen_in n later in (w.0, (w.1.0, omega (arith, w.1.1), on w.1.0 n w.1.1 w.1.2))
@@ -126,7 +126,7 @@ going_next old oss st mid new ss nss states set start bad met all ls level h sta
     }
 
 -- before the first round
-pub going_start : (old : Held) (oss : List (List ℕ)) (states : List ℕ) (set start : ℕ) (bad : List ℕ → List ℕ → List Out) → (set < length oss) → HavePlaces (length states) (get_or oss set []) → IsSet old start → Going old oss old oss states set start bad ((set, start) ∷ []) (((set, start) ∷ []) ∷ []) 0
+pub going_start : (old : StoreState) (oss : List (List ℕ)) (states : List ℕ) (set start : ℕ) (bad : List ℕ → List ℕ → List Out) → (set < length oss) → AreLabelsBelow (length states) (get_or oss set []) → IsSet old start → Going old oss old oss states set start bad ((set, start) ∷ []) (((set, start) ∷ []) ∷ []) 0
 going_start old oss states set start bad k p q =
     let one : ArePairs old oss (length states) ((set, start) ∷ []) = record { each = (record { known = k; places = p; packets = q }, tt); once = (λ e. e, tt) } in
     let ls : List (List (ℕ × ℕ)) = ((set, start) ∷ []) ∷ [] in
@@ -149,7 +149,7 @@ going_start old oss states set start bad k p q =
       in_met = λ j n g l v. let z : j ≡ 0 = omega (arith, l) in subst (λ j. InLevel old oss ls j n) z v;
       seen = [];
       seen_count = refl;
-      seen_apart = tt;
+      seen_no_dup = tt;
       seen_in = λ n m. absurd m;
       seen_all = λ n m. absurd m;
     }

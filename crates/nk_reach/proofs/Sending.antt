@@ -2,12 +2,12 @@
 use Rattle.std.proofs.Common.{◌≡◌, ℕ, ◌<◌, ◌+◌, true, false, inl, inr, sym, ◌∙◌, ap, subst, arith, List, [], length, get_or, Contains}
 use Rattle.nk_field.specs.Act.{applied}
 use Rattle.nk_store.specs.declared.node.Out.{Out}
-use Rattle.nk_store.specs.Held.{Held, IsWhole, IsPacket, look, Grows}
+use Rattle.nk_store.specs.StoreState.{StoreState, IsWhole, IsStorePacket, look, Grows}
 use Rattle.nk_store.proofs.Stores.{grows_on}
 use Rattle.nk_sets.specs.PacketSets.{is_in, IsSet, IsImage}
 use Rattle.nk_sets.proofs.SetLemmas.{set_grows}
 use Rattle.nk_reach.specs.declared.outs.Given.{Given}
-use Rattle.nk_reach.specs.Pairs.{Node, Under, Once, Within, AreStates, HavePlaces, IsStep}
+use Rattle.nk_reach.specs.Pairs.{Node, Under, Once, Within, AreStates, AreLabelsBelow, IsStep}
 use Rattle.nk_reach.specs.Outs.{AreGiven, GivesAny, IsByOut}
 use Rattle.nk_reach.specs.Local.{IsStateAt}
 use Rattle.nk_reach.specs.Rounds.{HaveSets, sent_to, IsAdded, IsFollowed, IsSent, IsAllSent}
@@ -16,7 +16,7 @@ use Rattle.nk_reach.proofs.Growing.{under_on, under_back, each_weaker, step_plac
 use Rattle.nk_reach.proofs.Givens.{given_at, gives_more, gives_less, gives_last}
 
 -- an image without packets sends nothing
-pub sent_empty : (st mid : Held) (o : Out) (p r : ℕ) (ps : List (ℕ × ℕ)) → HaveSets st ps → Once ps → Grows st mid → IsImage st o.act p mid r → ((pk : List ℕ) → IsWhole pk → is_in mid r pk ≡ false) → IsSent st o p ps mid ps
+pub sent_empty : (st mid : StoreState) (o : Out) (p r : ℕ) (ps : List (ℕ × ℕ)) → HaveSets st ps → Once ps → Grows st mid → IsImage st o.act p mid r → ((pk : List ℕ) → IsWhole pk → is_in mid r pk ≡ false) → IsSent st o p ps mid ps
 sent_empty st mid o p r ps e once g im none = record {
   from = λ i y w u. inl (under_back st mid ps i y g e u);
   old = λ i y w u. under_on st mid ps i y g e u;
@@ -27,7 +27,7 @@ sent_empty st mid o p r ps e once g im none = record {
 }
 
 -- an image that is added is sent
-pub sent_add : (st mid new : Held) (o : Out) (p r t : ℕ) (ps qs : List (ℕ × ℕ)) → HaveSets st ps → Grows st mid → IsImage st o.act p mid r → ((y : List ℕ) × IsPacket mid y × (is_in mid r y ≡ true)) → t + 1 ≡ o.target → IsAdded mid ps t r new qs → IsSent st o p ps new qs
+pub sent_add : (st mid new : StoreState) (o : Out) (p r t : ℕ) (ps qs : List (ℕ × ℕ)) → HaveSets st ps → Grows st mid → IsImage st o.act p mid r → ((y : List ℕ) × IsStorePacket mid y × (is_in mid r y ≡ true)) → t + 1 ≡ o.target → IsAdded mid ps t r new qs → IsSent st o p ps new qs
 sent_add st mid new o p r t ps qs e g im fill is a = record {
   from = λ i y w u. elim (a.either i y (packet_on st mid y g w) u) [
     | inl was ↦ inl (under_back st mid ps i y g e was)
@@ -42,14 +42,14 @@ sent_add st mid new o p r t ps qs e g im fill is a = record {
     | inr now ↦
         let y = packet_back st mid fill.0 g fill.1 in
         let c = im.comes fill.0 y fill.2 in
-        inr (omega (arith, now, is), (c.0, c.1, c.2, subst (IsPacket st) (sym c.3) y))
+        inr (omega (arith, now, is), (c.0, c.1, c.2, subst (IsStorePacket st) (sym c.3) y))
   ];
   packets = a.packets;
   once = a.once;
 }
 
 -- one out more
-pub all_sent_push : (a st new : Held) (es : List Given) (n : ℕ) (q : Given) (ps qs rs : List (ℕ × ℕ)) → AreGiven a es → n < length es → q ≡ get_or es n q → IsAllSent a es n ps st qs → Grows a st → IsSent st q.out q.packets qs new rs → IsAllSent a es (n + 1) ps new rs
+pub all_sent_push : (a st new : StoreState) (es : List Given) (n : ℕ) (q : Given) (ps qs rs : List (ℕ × ℕ)) → AreGiven a es → n < length es → q ≡ get_or es n q → IsAllSent a es n ps st qs → Grows a st → IsSent st q.out q.packets qs new rs → IsAllSent a es (n + 1) ps new rs
 all_sent_push a st new es n q ps qs rs ok l is m g s =
     let k : IsSet a q.packets = given_at a es n q ok l is in
     let same : (i : ℕ) → i + 1 ≡ q.out.target → q.out ≡ sent_to q.out.act (i + 1) = λ i e. ap (λ t. sent_to q.out.act t) (sym e) in
@@ -85,7 +85,7 @@ all_sent_push a st new es n q ps qs rs ok l is m g s =
     }
 
 -- the outs of a set state at some packets, all of them sent, are what the set records next
-pub followed_of : (st mid s3 new : Held) (nss : List (List ℕ)) (states set : List ℕ) (x d : ℕ) (es : List Given) (ps qs : List (ℕ × ℕ)) → AreStates st states → HavePlaces (length states) set → HaveSets st ps →
+pub followed_of : (st mid s3 new : StoreState) (nss : List (List ℕ)) (states set : List ℕ) (x d : ℕ) (es : List Given) (ps qs : List (ℕ × ℕ)) → AreStates st states → AreLabelsBelow (length states) set → HaveSets st ps →
     Grows st mid → Grows mid s3 → IsStateAt st states set x mid nss d → IsByOut s3 d es → IsAllSent s3 es (length es) ps new qs → IsFollowed st states set x ps new nss qs
 followed_of st mid s3 new nss states set x d es ps qs states_ok places pp g1 g2 state by sent =
     record {
@@ -94,7 +94,7 @@ followed_of st mid s3 new nss states set x d es ps qs states_ok places pp g1 g2 
         | inr now ↦
             let z : List ℕ = now.0 in
             let h : List (ℕ × ℕ) = now.1 in
-            let pz : IsPacket st z = packet_back st s3 z g now.2 in
+            let pz : IsStorePacket st z = packet_back st s3 z g now.2 in
             let r = reach z h i pz now.3 in
             inr (z, pz, r.0, subst (λ (v : List ℕ). IsStep st states (set, z) (get_or nss i [], v)) now.4 r.1)
       ];
@@ -105,7 +105,7 @@ followed_of st mid s3 new nss states set x d es ps qs states_ok places pp g1 g2 
         | inr now ↦
             let z : List ℕ = now.0 in
             let h : List (ℕ × ℕ) = now.1 in
-            let pz : IsPacket st z = packet_back st s3 z g now.2 in
+            let pz : IsStorePacket st z = packet_back st s3 z g now.2 in
             let r = reach z h i pz now.3 in
             inr (r.2, step_places st states (set, z) (get_or nss i [], applied h z) states_ok places pz r.1)
       ];
@@ -116,14 +116,14 @@ followed_of st mid s3 new nss states set x d es ps qs states_ok places pp g1 g2 
     g : Grows st s3
     g = grows_on st mid s3 g1 g2
 
-    reach : (z : List ℕ) (h : List (ℕ × ℕ)) (i : ℕ) → IsPacket st z → GivesAny s3 es z (sent_to h (i + 1)) → Has st x z × IsStep st states (set, z) (get_or nss i [], applied h z) × (i < length nss)
+    reach : (z : List ℕ) (h : List (ℕ × ℕ)) (i : ℕ) → IsStorePacket st z → GivesAny s3 es z (sent_to h (i + 1)) → Has st x z × IsStep st states (set, z) (get_or nss i [], applied h z) × (i < length nss)
     reach z h i pz gv =
         let o : Out = sent_to h (i + 1) in
         let at : Contains (look mid d z) o = subst (λ (os : List Out). Contains os o) (g2.leaves d z state.id) (by.goes z o (packet_on st s3 z g pz) gv) in
         let r = state.goes z h i pz at in
         (r.0, r.2, r.1)
 
-    follow : (z : List ℕ) (n : Node) → IsPacket st z → Has st x z → IsStep st states (set, z) n → Within new nss qs n
+    follow : (z : List ℕ) (n : Node) → IsStorePacket st z → Has st x z → IsStep st states (set, z) n → Within new nss qs n
     follow z n pz hz step =
         let way = state.comes z n pz hz step in
         let h : List (ℕ × ℕ) = way.0 in

@@ -8,7 +8,7 @@ use Rattle.std.specs.declared.cmp.Ordering.TheVariants.{Less, Equal}
 use Rattle.nk_field.specs.contracts.act.ActOrd.TheImpl.{ghosts}
 use Rattle.nk_store.specs.declared.node.Out.{Out}
 use Rattle.nk_store.specs.Leaves.{out_cmp, Every, Strict, Suits}
-use Rattle.nk_store.specs.Held.{Held, IsLeaf}
+use Rattle.nk_store.specs.StoreState.{StoreState, IsLeaf}
 use Rattle.nk_apply.proofs.Members.{Has, has_contains, contains_has, every_has, every_from}
 use Rattle.nk_determ.specs.Sets.{SetsGrow, holds, place_in}
 use Rattle.nk_determ.proofs.Interned.{holds_grow, sets_same}
@@ -142,9 +142,9 @@ steps_of_finals sets label os e z = record {
     none p h l = let t : p.target ≡ label = only_label label os e p h l in omega (arith, t, z, l)
 
 -- the steps among a leaf's outs can be made a leaf
-pub leaf_steps_of : (st : Held) (d : ℕ) (sets : List (List ℕ)) (outs items r : List Out) → IsLeaf st d outs → items ≡ outs → AreSteps sets items r → AreLeafSteps st d sets r
+pub leaf_steps_of : (st : StoreState) (d : ℕ) (sets : List (List ℕ)) (outs items r : List Out) → IsLeaf st d outs → items ≡ outs → AreSteps sets items r → AreLeafSteps st d sets r
 leaf_steps_of st d sets outs items r leaf same k = record {
-  leaf = leaf.top_is;
+  leaf = leaf.root_field_is;
   steps = λ pk. subst (λ os. AreSteps sets os r) (sym (leaf.leaf pk ∙ sym same)) k;
   sorted = subst Strict (sym is) (stepped_strict T outs leaf.sorted one);
   suits = subst (Every (Suits st.maxes)) (sym is) (stepped_suits T st.maxes outs leaf.suits);

@@ -3,7 +3,7 @@ use Rattle.std.proofs.Common.{◌≡◌, ℕ, ◌+◌, ◌<◌, refl, sym, ◌�
 use Rattle.std.specs.List.{Contains}
 use Rattle.nk_field.specs.Act.{applied}
 use Rattle.nk_store.specs.declared.node.Out.{Out}
-use Rattle.nk_store.specs.Held.{Held, IsPacket, look}
+use Rattle.nk_store.specs.StoreState.{StoreState, IsStorePacket, look}
 use Rattle.nk_apply.proofs.Members.{Has, has_contains, contains_has}
 use Rattle.nk_determ.specs.Exact.{Sends}
 use Rattle.nk_determ.specs.Sets.{place_in}
@@ -21,7 +21,7 @@ only_member d e c = by (contains_has (d ∷ []) e c)
     by (inl is) = sym is
     by (inr h) = absurd h
 
-module _ (old : Held) (d : ℕ) where
+module _ (old : StoreState) (d : ℕ) where
   -- where one diagram leads
   leads_one : (pk y : List ℕ) (t : ℕ) → SomeLeads old (d ∷ []) pk y t → Sends old d pk y t
   leads_one pk y t s = subst (λ e. Sends old e pk y t) (only_member d s.0 s.1) s.2
@@ -30,13 +30,13 @@ module _ (old : Held) (d : ℕ) where
   one_leads : (pk y : List ℕ) (t : ℕ) → Sends old d pk y t → SomeLeads old (d ∷ []) pk y t
   one_leads pk y t s = (d, (0, omega arith, refl), s)
 
-  module _ (new : Held) (sets : List (List ℕ)) (r : ℕ) (k : IsSingle old d new sets r) where
+  module _ (new : StoreState) (sets : List (List ℕ)) (r : ℕ) (k : IsSingle old d new sets r) where
     -- the leaf of the steps
-    leaf_is : (pk : List ℕ) → IsPacket old pk → look new r pk ≡ single_to sets (look old d pk)
+    leaf_is : (pk : List ℕ) → IsStorePacket old pk → look new r pk ≡ single_to sets (look old d pk)
     leaf_is pk p = (k.leaves sets (sets_same sets)).leaf pk p.0
 
     -- a step leads to the set of all labels that record the packet
-    pub single_leads : (pk y : List ℕ) (i : ℕ) → IsPacket old pk → Sends new r pk y (i + 1) → AreLedTo sets old (d ∷ []) pk y i
+    pub single_leads : (pk y : List ℕ) (i : ℕ) → IsStorePacket old pk → Sends new r pk y (i + 1) → AreLedTo sets old (d ∷ []) pk y i
     single_leads pk y i p s =
         let os : List Out = look old d pk in
         let c : Has (single_to sets os) (sent_to s.0 (i + 1)) = subst (λ (xs : List Out). Has xs (sent_to s.0 (i + 1))) (leaf_is pk p) (contains_has (look new r pk) (sent_to s.0 (i + 1)) s.1) in
@@ -62,7 +62,7 @@ module _ (old : Held) (d : ℕ) where
         }
 
     -- what a label records a step leads to
-    pub single_led : (pk y : List ℕ) (l : ℕ) → IsPacket old pk → 0 < l → SomeLeads old (d ∷ []) pk y l → (i : ℕ) × Sends new r pk y (i + 1)
+    pub single_led : (pk y : List ℕ) (l : ℕ) → IsStorePacket old pk → 0 < l → SomeLeads old (d ∷ []) pk y l → (i : ℕ) × Sends new r pk y (i + 1)
     single_led pk y l p pos s =
         let os : List Out = look old d pk in
         let way = leads_one pk y l s in

@@ -1,7 +1,7 @@
 -- Levels stay levels as the store and the sets grow.
 use Rattle.std.proofs.Common.{◌≡◌, ℕ, ◌<◌, ◌-◌, sym, subst, arith, Bool, List, [], length, get_or}
 use Rattle.nk_store.specs.declared.node.Out.{Out}
-use Rattle.nk_store.specs.Held.{Held, Grows}
+use Rattle.nk_store.specs.StoreState.{StoreState, Grows}
 use Rattle.nk_determ.specs.Sets.{SetsGrow}
 use Rattle.nk_reach.specs.Reach.{Exact}
 use Rattle.nk_reach.specs.Pairs.{Node, ArePairs, IsStart, IsStep, IsGood}
@@ -10,7 +10,7 @@ use Rattle.nk_reach.proofs.Growing.{sets_same, packets_of, pairs_on, within_on, 
 use Rattle.nk_reach.proofs.Going.{exact_same}
 
 -- levels in a store and among sets are levels in a store and among sets that have grown from these
-pub levels_on : (old st new : Held) (ss nss : List (List ℕ)) (states : List ℕ) (set start : ℕ) (bad : List ℕ → List ℕ → List Out) (ls : List (List (ℕ × ℕ))) (broken : Bool) → Grows st new → SetsGrow ss nss → AreLevels old st ss states set start bad ls broken → AreLevels old new nss states set start bad ls broken
+pub levels_on : (old st new : StoreState) (ss nss : List (List ℕ)) (states : List ℕ) (set start : ℕ) (bad : List ℕ → List ℕ → List Out) (ls : List (List (ℕ × ℕ))) (broken : Bool) → Grows st new → SetsGrow ss nss → AreLevels old st ss states set start bad ls broken → AreLevels old new nss states set start bad ls broken
 levels_on old st new ss nss states set start bad ls broken g s k =
     let r = length states in
     let known : set < length ss = (subst (ArePairs st ss r) k.start_is (k.pairs 0 k.some)).each.0.known in

@@ -3,7 +3,7 @@ use Rattle.std.specs.Prelude.{◌≡◌, ℕ, ◌+◌, ◌<◌, ◌≤◌, ◌�
 use Rattle.nk_field.specs.Act.{applied}
 use Rattle.nk_field.specs.Order.{Precedes}
 use Rattle.nk_store.specs.declared.node.Out.{Out}
-use Rattle.nk_store.specs.Held.{Held}
+use Rattle.nk_store.specs.StoreState.{StoreState}
 use Rattle.nk_apply.specs.Seqs.{no_out}
 use Rattle.nk_reach.specs.Pairs.{Under}
 use Rattle.nk_reach.specs.declared.choice.Choice.{Choice}
@@ -13,7 +13,7 @@ abbrev pub IsChoiceUpTo : List ℕ → ℕ → List ℕ → ℕ → Type 0
 IsChoiceUpTo x t y u = ((x ≡ y) × (t ≤ u)) ⊎ Precedes x y
 
 -- the out's target is a set under which the packet stands that the out makes
-abbrev pub IsAhead : Held → List (ℕ × ℕ) → List ℕ → Out → Type 0
+abbrev pub IsAhead : StoreState → List (ℕ × ℕ) → List ℕ → Out → Type 0
 IsAhead st next x o = (t : ℕ) × (t + 1 ≡ o.target) × Under st next t (applied o.act x)
 
 -- an out of which no more is asked

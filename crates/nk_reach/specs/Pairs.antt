@@ -1,2 +1,2 @@
 -- Set states at packets, and entries of them.
-pub use Rattle.nk_determ.specs.Pairs.{Node, HavePlaces, AreStates, Under, Named, Once, EachPair, Within, IsPair, ArePairs, IsStart, IsStep, IsGood}
+pub use Rattle.nk_determ.specs.Pairs.{Node, AreLabelsBelow, AreStates, Under, Named, Once, EachPair, Within, IsPair, ArePairs, IsStart, IsStep, IsGood}

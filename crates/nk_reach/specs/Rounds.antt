@@ -2,16 +2,16 @@
 use Rattle.std.specs.Prelude.{◌≡◌, ℕ, ◌+◌, ◌<◌, ◌⊎◌, true, List, [], length, slice_index_or}
 use Rattle.nk_field.specs.Act.{applied}
 use Rattle.nk_store.specs.declared.node.Out.{Out}
-use Rattle.nk_store.specs.Held.{Held, IsPacket}
+use Rattle.nk_store.specs.StoreState.{StoreState, IsStorePacket}
 use Rattle.nk_sets.specs.PacketSets.{is_in, IsSet}
 use Rattle.nk_determ.specs.Sets.{HasEachSetOnce}
-use Rattle.nk_reach.specs.Pairs.{Node, Under, Named, Once, EachPair, Within, ArePairs, HavePlaces, IsStep}
+use Rattle.nk_reach.specs.Pairs.{Node, Under, Named, Once, EachPair, Within, ArePairs, AreLabelsBelow, IsStep}
 use Rattle.nk_reach.specs.Levels.{IsFilled}
 use Rattle.nk_reach.specs.Outs.{GivesOut}
 use Rattle.nk_reach.specs.declared.outs.Given.{Given}
 
 -- each entry has a set of packets
-abbrev pub HaveSets : Held → List (ℕ × ℕ) → Type 0
+abbrev pub HaveSets : StoreState → List (ℕ × ℕ) → Type 0
 HaveSets st ps = EachPair (λ p. IsSet st p.1) ps
 
 -- the out with this act and target
@@ -19,93 +19,93 @@ abbrev pub sent_to : List (ℕ × ℕ) → ℕ → Out
 sent_to g t = record { act = g; target = t }
 
 -- the level has exactly what the last level leads to and was not met
-pub record IsNextLevel (st : Held) (ss : List (List ℕ)) (states : List ℕ) (met last : List (ℕ × ℕ)) (new : Held) (nss : List (List ℕ)) (level : List (ℕ × ℕ)) : Type 0 where
-  pub from : (n : Node) → IsPacket st n.1 → Within new nss level n → (m : Node) × IsPacket st m.1 × Within st ss last m × IsStep st states m n
-  pub fresh : (n : Node) → IsPacket st n.1 → Within new nss level n → Within st ss met n → ⊥
-  pub every : (m n : Node) → IsPacket st m.1 → Within st ss last m → IsStep st states m n → (Within st ss met n → ⊥) → Within new nss level n
+pub record IsNextLevel (st : StoreState) (ss : List (List ℕ)) (states : List ℕ) (met last : List (ℕ × ℕ)) (new : StoreState) (nss : List (List ℕ)) (level : List (ℕ × ℕ)) : Type 0 where
+  pub from : (n : Node) → IsStorePacket st n.1 → Within new nss level n → (m : Node) × IsStorePacket st m.1 × Within st ss last m × IsStep st states m n
+  pub fresh : (n : Node) → IsStorePacket st n.1 → Within new nss level n → Within st ss met n → ⊥
+  pub every : (m n : Node) → IsStorePacket st m.1 → Within st ss last m → IsStep st states m n → (Within st ss met n → ⊥) → Within new nss level n
   pub pairs : ArePairs new nss (length states) level
   pub filled : EachPair (λ p. IsFilled new p.1) level
 
 -- the entries of both, a set once
-pub record IsMerged (st : Held) (met level : List (ℕ × ℕ)) (new : Held) (all : List (ℕ × ℕ)) : Type 0 where
-  pub either : (i : ℕ) (x : List ℕ) → IsPacket st x → Under new all i x → Under st met i x ⊎ Under st level i x
-  pub old : (i : ℕ) (x : List ℕ) → IsPacket st x → Under st met i x → Under new all i x
-  pub more : (i : ℕ) (x : List ℕ) → IsPacket st x → Under st level i x → Under new all i x
+pub record IsMerged (st : StoreState) (met level : List (ℕ × ℕ)) (new : StoreState) (all : List (ℕ × ℕ)) : Type 0 where
+  pub either : (i : ℕ) (x : List ℕ) → IsStorePacket st x → Under new all i x → Under st met i x ⊎ Under st level i x
+  pub old : (i : ℕ) (x : List ℕ) → IsStorePacket st x → Under st met i x → Under new all i x
+  pub more : (i : ℕ) (x : List ℕ) → IsStorePacket st x → Under st level i x → Under new all i x
   pub named : (i : ℕ) → Named all i → Named met i ⊎ Named level i
   pub packets : HaveSets new all
   pub once : Once all
 
 -- y's packets are under t as well
-pub record IsAdded (st : Held) (ps : List (ℕ × ℕ)) (t y : ℕ) (new : Held) (qs : List (ℕ × ℕ)) : Type 0 where
-  pub either : (i : ℕ) (x : List ℕ) → IsPacket st x → Under new qs i x → Under st ps i x ⊎ ((i ≡ t) × (is_in st y x ≡ true))
-  pub old : (i : ℕ) (x : List ℕ) → IsPacket st x → Under st ps i x → Under new qs i x
-  pub more : (x : List ℕ) → IsPacket st x → is_in st y x ≡ true → Under new qs t x
+pub record IsAdded (st : StoreState) (ps : List (ℕ × ℕ)) (t y : ℕ) (new : StoreState) (qs : List (ℕ × ℕ)) : Type 0 where
+  pub either : (i : ℕ) (x : List ℕ) → IsStorePacket st x → Under new qs i x → Under st ps i x ⊎ ((i ≡ t) × (is_in st y x ≡ true))
+  pub old : (i : ℕ) (x : List ℕ) → IsStorePacket st x → Under st ps i x → Under new qs i x
+  pub more : (x : List ℕ) → IsStorePacket st x → is_in st y x ≡ true → Under new qs t x
   pub named : (i : ℕ) → Named qs i → Named ps i ⊎ (i ≡ t)
   pub packets : HaveSets new qs
   pub once : Once qs
 
 -- r has the packets under t and those of y
-pub record IsJoined (st : Held) (ps : List (ℕ × ℕ)) (t y : ℕ) (new : Held) (r : ℕ) : Type 0 where
+pub record IsJoined (st : StoreState) (ps : List (ℕ × ℕ)) (t y : ℕ) (new : StoreState) (r : ℕ) : Type 0 where
   pub packets : IsSet new r
-  pub either : (x : List ℕ) → IsPacket st x → is_in new r x ≡ true → Under st ps t x ⊎ (is_in st y x ≡ true)
-  pub old : (x : List ℕ) → IsPacket st x → Under st ps t x → is_in new r x ≡ true
-  pub more : (x : List ℕ) → IsPacket st x → is_in st y x ≡ true → is_in new r x ≡ true
+  pub either : (x : List ℕ) → IsStorePacket st x → is_in new r x ≡ true → Under st ps t x ⊎ (is_in st y x ≡ true)
+  pub old : (x : List ℕ) → IsStorePacket st x → Under st ps t x → is_in new r x ≡ true
+  pub more : (x : List ℕ) → IsStorePacket st x → is_in st y x ≡ true → is_in new r x ≡ true
 
 -- r has the packets of y that do not stand under t
-pub record IsRest (st : Held) (ps : List (ℕ × ℕ)) (t y : ℕ) (new : Held) (r : ℕ) : Type 0 where
+pub record IsRest (st : StoreState) (ps : List (ℕ × ℕ)) (t y : ℕ) (new : StoreState) (r : ℕ) : Type 0 where
   pub packets : IsSet new r
-  pub first : (x : List ℕ) → IsPacket st x → is_in new r x ≡ true → is_in st y x ≡ true
-  pub second : (x : List ℕ) → IsPacket st x → is_in new r x ≡ true → Under st ps t x → ⊥
-  pub both : (x : List ℕ) → IsPacket st x → is_in st y x ≡ true → (Under st ps t x → ⊥) → is_in new r x ≡ true
+  pub first : (x : List ℕ) → IsStorePacket st x → is_in new r x ≡ true → is_in st y x ≡ true
+  pub second : (x : List ℕ) → IsStorePacket st x → is_in new r x ≡ true → Under st ps t x → ⊥
+  pub both : (x : List ℕ) → IsStorePacket st x → is_in st y x ≡ true → (Under st ps t x → ⊥) → is_in new r x ≡ true
 
 -- the level has exactly what the last level leads to
-pub record IsRaw (st : Held) (ss : List (List ℕ)) (states : List ℕ) (last : List (ℕ × ℕ)) (new : Held) (nss : List (List ℕ)) (raw : List (ℕ × ℕ)) : Type 0 where
-  pub from : (n : Node) → IsPacket st n.1 → Within new nss raw n → (m : Node) × IsPacket st m.1 × Within st ss last m × IsStep st states m n
-  pub every : (m n : Node) → IsPacket st m.1 → Within st ss last m → IsStep st states m n → Within new nss raw n
+pub record IsRaw (st : StoreState) (ss : List (List ℕ)) (states : List ℕ) (last : List (ℕ × ℕ)) (new : StoreState) (nss : List (List ℕ)) (raw : List (ℕ × ℕ)) : Type 0 where
+  pub from : (n : Node) → IsStorePacket st n.1 → Within new nss raw n → (m : Node) × IsStorePacket st m.1 × Within st ss last m × IsStep st states m n
+  pub every : (m n : Node) → IsStorePacket st m.1 → Within st ss last m → IsStep st states m n → Within new nss raw n
   pub pairs : ArePairs new nss (length states) raw
   pub differ : HasEachSetOnce nss
 
 -- the level has the entries of raw without what was met, where there are any
-pub record IsFresh (st : Held) (met raw : List (ℕ × ℕ)) (new : Held) (level : List (ℕ × ℕ)) : Type 0 where
-  pub from : (i : ℕ) (x : List ℕ) → IsPacket st x → Under new level i x → Under st raw i x
-  pub unmet : (i : ℕ) (x : List ℕ) → IsPacket st x → Under new level i x → Under st met i x → ⊥
-  pub every : (i : ℕ) (x : List ℕ) → IsPacket st x → Under st raw i x → (Under st met i x → ⊥) → Under new level i x
+pub record IsFresh (st : StoreState) (met raw : List (ℕ × ℕ)) (new : StoreState) (level : List (ℕ × ℕ)) : Type 0 where
+  pub from : (i : ℕ) (x : List ℕ) → IsStorePacket st x → Under new level i x → Under st raw i x
+  pub unmet : (i : ℕ) (x : List ℕ) → IsStorePacket st x → Under new level i x → Under st met i x → ⊥
+  pub every : (i : ℕ) (x : List ℕ) → IsStorePacket st x → Under st raw i x → (Under st met i x → ⊥) → Under new level i x
   pub named : (i : ℕ) → Named level i → Named raw i
   pub packets : HaveSets new level
   pub filled : EachPair (λ p. IsFilled new p.1) level
   pub once : Once level
 
 -- beside what was there stands exactly what the set records next at the packets of x
-pub record IsFollowed (st : Held) (states set : List ℕ) (x : ℕ) (ps : List (ℕ × ℕ)) (new : Held) (nss : List (List ℕ)) (qs : List (ℕ × ℕ)) : Type 0 where
-  pub from : (i : ℕ) (y : List ℕ) → IsPacket st y → Under new qs i y → Under st ps i y ⊎ ((z : List ℕ) × IsPacket st z × (is_in st x z ≡ true) × IsStep st states (set, z) (slice_index_or nss i [], y))
-  pub old : (i : ℕ) (y : List ℕ) → IsPacket st y → Under st ps i y → Under new qs i y
-  pub every : (z : List ℕ) (n : Node) → IsPacket st z → is_in st x z ≡ true → IsStep st states (set, z) n → Within new nss qs n
-  pub named : (i : ℕ) → Named qs i → Named ps i ⊎ ((i < length nss) × HavePlaces (length states) (slice_index_or nss i []))
+pub record IsFollowed (st : StoreState) (states set : List ℕ) (x : ℕ) (ps : List (ℕ × ℕ)) (new : StoreState) (nss : List (List ℕ)) (qs : List (ℕ × ℕ)) : Type 0 where
+  pub from : (i : ℕ) (y : List ℕ) → IsStorePacket st y → Under new qs i y → Under st ps i y ⊎ ((z : List ℕ) × IsStorePacket st z × (is_in st x z ≡ true) × IsStep st states (set, z) (slice_index_or nss i [], y))
+  pub old : (i : ℕ) (y : List ℕ) → IsStorePacket st y → Under st ps i y → Under new qs i y
+  pub every : (z : List ℕ) (n : Node) → IsStorePacket st z → is_in st x z ≡ true → IsStep st states (set, z) n → Within new nss qs n
+  pub named : (i : ℕ) → Named qs i → Named ps i ⊎ ((i < length nss) × AreLabelsBelow (length states) (slice_index_or nss i []))
   pub packets : HaveSets new qs
   pub once : Once qs
 
 -- what some entries lead to
-pub record IsSoFar (st : Held) (ss : List (List ℕ)) (states : List ℕ) (last : List (ℕ × ℕ)) (new : Held) (nss : List (List ℕ)) (raw : List (ℕ × ℕ)) : Type 0 where
-  pub from : (i : ℕ) (y : List ℕ) → IsPacket st y → Under new raw i y → (m : Node) × IsPacket st m.1 × Within st ss last m × IsStep st states m (slice_index_or nss i [], y)
-  pub every : (m n : Node) → IsPacket st m.1 → Within st ss last m → IsStep st states m n → Within new nss raw n
-  pub named : (i : ℕ) → Named raw i → (i < length nss) × HavePlaces (length states) (slice_index_or nss i [])
+pub record IsSoFar (st : StoreState) (ss : List (List ℕ)) (states : List ℕ) (last : List (ℕ × ℕ)) (new : StoreState) (nss : List (List ℕ)) (raw : List (ℕ × ℕ)) : Type 0 where
+  pub from : (i : ℕ) (y : List ℕ) → IsStorePacket st y → Under new raw i y → (m : Node) × IsStorePacket st m.1 × Within st ss last m × IsStep st states m (slice_index_or nss i [], y)
+  pub every : (m n : Node) → IsStorePacket st m.1 → Within st ss last m → IsStep st states m n → Within new nss raw n
+  pub named : (i : ℕ) → Named raw i → (i < length nss) × AreLabelsBelow (length states) (slice_index_or nss i [])
   pub packets : HaveSets new raw
   pub once : Once raw
 
 -- beside what was there stands what one out makes of the packets of p
-pub record IsSent (st : Held) (o : Out) (p : ℕ) (ps : List (ℕ × ℕ)) (new : Held) (qs : List (ℕ × ℕ)) : Type 0 where
-  pub from : (i : ℕ) (y : List ℕ) → IsPacket st y → Under new qs i y → Under st ps i y ⊎ ((i + 1 ≡ o.target) × ((z : List ℕ) × IsPacket st z × (is_in st p z ≡ true) × (applied o.act z ≡ y)))
-  pub old : (i : ℕ) (y : List ℕ) → IsPacket st y → Under st ps i y → Under new qs i y
-  pub every : (i : ℕ) (z y : List ℕ) → IsPacket st z → IsPacket st y → is_in st p z ≡ true → i + 1 ≡ o.target → applied o.act z ≡ y → Under new qs i y
-  pub named : (i : ℕ) → Named qs i → Named ps i ⊎ ((i + 1 ≡ o.target) × ((z : List ℕ) × IsPacket st z × (is_in st p z ≡ true) × IsPacket st (applied o.act z)))
+pub record IsSent (st : StoreState) (o : Out) (p : ℕ) (ps : List (ℕ × ℕ)) (new : StoreState) (qs : List (ℕ × ℕ)) : Type 0 where
+  pub from : (i : ℕ) (y : List ℕ) → IsStorePacket st y → Under new qs i y → Under st ps i y ⊎ ((i + 1 ≡ o.target) × ((z : List ℕ) × IsStorePacket st z × (is_in st p z ≡ true) × (applied o.act z ≡ y)))
+  pub old : (i : ℕ) (y : List ℕ) → IsStorePacket st y → Under st ps i y → Under new qs i y
+  pub every : (i : ℕ) (z y : List ℕ) → IsStorePacket st z → IsStorePacket st y → is_in st p z ≡ true → i + 1 ≡ o.target → applied o.act z ≡ y → Under new qs i y
+  pub named : (i : ℕ) → Named qs i → Named ps i ⊎ ((i + 1 ≡ o.target) × ((z : List ℕ) × IsStorePacket st z × (is_in st p z ≡ true) × IsStorePacket st (applied o.act z)))
   pub packets : HaveSets new qs
   pub once : Once qs
 
 -- beside what was there stands what the first n of these entries make
-pub record IsAllSent (st : Held) (es : List Given) (n : ℕ) (ps : List (ℕ × ℕ)) (new : Held) (qs : List (ℕ × ℕ)) : Type 0 where
-  pub from : (i : ℕ) (y : List ℕ) → IsPacket st y → Under new qs i y → Under st ps i y ⊎ ((z : List ℕ) × (g : List (ℕ × ℕ)) × IsPacket st z × GivesOut st es 0 n z (sent_to g (i + 1)) × (applied g z ≡ y))
-  pub old : (i : ℕ) (y : List ℕ) → IsPacket st y → Under st ps i y → Under new qs i y
-  pub every : (i : ℕ) (z y : List ℕ) (g : List (ℕ × ℕ)) → IsPacket st z → IsPacket st y → GivesOut st es 0 n z (sent_to g (i + 1)) → applied g z ≡ y → Under new qs i y
-  pub named : (i : ℕ) → Named qs i → Named ps i ⊎ ((z : List ℕ) × (g : List (ℕ × ℕ)) × IsPacket st z × GivesOut st es 0 n z (sent_to g (i + 1)) × IsPacket st (applied g z))
+pub record IsAllSent (st : StoreState) (es : List Given) (n : ℕ) (ps : List (ℕ × ℕ)) (new : StoreState) (qs : List (ℕ × ℕ)) : Type 0 where
+  pub from : (i : ℕ) (y : List ℕ) → IsStorePacket st y → Under new qs i y → Under st ps i y ⊎ ((z : List ℕ) × (g : List (ℕ × ℕ)) × IsStorePacket st z × GivesOut st es 0 n z (sent_to g (i + 1)) × (applied g z ≡ y))
+  pub old : (i : ℕ) (y : List ℕ) → IsStorePacket st y → Under st ps i y → Under new qs i y
+  pub every : (i : ℕ) (z y : List ℕ) (g : List (ℕ × ℕ)) → IsStorePacket st z → IsStorePacket st y → GivesOut st es 0 n z (sent_to g (i + 1)) → applied g z ≡ y → Under new qs i y
+  pub named : (i : ℕ) → Named qs i → Named ps i ⊎ ((z : List ℕ) × (g : List (ℕ × ℕ)) × IsStorePacket st z × GivesOut st es 0 n z (sent_to g (i + 1)) × IsStorePacket st (applied g z))
   pub packets : HaveSets new qs
   pub once : Once qs

@@ -4,8 +4,8 @@ use Rattle.std.specs.Map.{lookup}
 use Rattle.nk_store.specs.declared.node.Out.{Out}
 use Rattle.nk_store.specs.Leaves.{Strict, Every, Suits}
 use Rattle.nk_store.specs.Nodes.{child_at}
-use Rattle.nk_store.specs.Held.{Held, IsId, IsWhole, look, top, HasLeaves, AreParts}
-use Rattle.nk_apply.specs.Subs.{sub}
+use Rattle.nk_store.specs.StoreState.{StoreState, IsId, IsWhole, look, root_field, HasLeaves, AreParts}
+use Rattle.nk_apply.specs.Cofactors.{cofactor}
 use Rattle.nk_determ.specs.Sets.{SetsGrow, holds, place_in}
 
 -- the out to that target, unless it is a final
@@ -32,26 +32,26 @@ pub record AreSteps (sets : List (List ℕ)) (outs r : List Out) : Type 0 where
   pub single : IsSingleIn sets outs
 
 -- the diagram is a leaf, and those are its steps, which can be made a leaf
-pub record AreLeafSteps (st : Held) (d : ℕ) (sets : List (List ℕ)) (r : List Out) : Type 0 where
-  pub leaf : top st d ≡ 18
+pub record AreLeafSteps (st : StoreState) (d : ℕ) (sets : List (List ℕ)) (r : List Out) : Type 0 where
+  pub leaf : root_field st d ≡ 18
   pub steps : (pk : List ℕ) → AreSteps sets (look st d pk) r
   pub sorted : Strict r
   pub suits : Every (Suits st.maxes) r
 
 -- each leaf of d has one label at most, and r has the steps of d, whatever sets come later; it tests no field before those
 -- that d tests
-pub record IsSingle (old : Held) (d : ℕ) (new : Held) (sets : List (List ℕ)) (r : ℕ) : Type 0 where
+pub record IsSingle (old : StoreState) (d : ℕ) (new : StoreState) (sets : List (List ℕ)) (r : ℕ) : Type 0 where
   pub leaves : (later : List (List ℕ)) → SetsGrow sets later → HasLeaves new r (λ pk. single_to later (look old d pk))
   pub single : (pk : List ℕ) → IsSingleIn sets (look old d pk)
-  pub later : top old d ≤ top new r
+  pub later : root_field old d ≤ root_field new r
 
 -- the same of the parts by the field f
-pub record AreSingleBy (old : Held) (f d : ℕ) (new : Held) (sets : List (List ℕ)) (ps : List (ℕ × ℕ)) : Type 0 where
+pub record AreSingleBy (old : StoreState) (f d : ℕ) (new : StoreState) (sets : List (List ℕ)) (ps : List (ℕ × ℕ)) : Type 0 where
   pub parts : AreParts new f ps
   pub leaves : (later : List (List ℕ)) → SetsGrow sets later → (v : ℕ) (pk : List ℕ) → IsWhole pk →
-      look new (child_at 0 ps v) pk ≡ single_to later (look old (sub old f v d) pk)
+      look new (child_at 0 ps v) pk ≡ single_to later (look old (cofactor old f v d) pk)
   pub single : (pk : List ℕ) → IsSingleIn sets (look old d pk)
 
 -- each entry leads from a diagram to its steps
-abbrev pub AreSingle : Held → List (List ℕ) → List (ℕ × ℕ) → Type 0
+abbrev pub AreSingle : StoreState → List (List ℕ) → List (ℕ × ℕ) → Type 0
 AreSingle st sets entries = (d r : ℕ) → lookup (eqb d) entries ≡ Some r → IsId st d × IsSingle st d st sets r

@@ -1,8 +1,8 @@
 //! The packets of each level from where something bad is met.
 ghost use Rattle.std.specs.Prelude.{◌≡◌, ℕ, IfOk, OnOk, List as Items};
-ghost use Rattle.nk_store.specs.Held.{Held, Grows};
+ghost use Rattle.nk_store.specs.StoreState.{StoreState, Grows};
 ghost use Rattle.nk_reach.specs.Pairs.{ArePairs};
-ghost use Rattle.nk_reach.specs.Backs.{IsBadSoFar};
+ghost use Rattle.nk_reach.specs.Backs.{AreViolationsSoFar};
 
 use crate::entries::add;
 use crate::goal::Goal;
@@ -14,8 +14,8 @@ use nk_sets::at_packets;
 use nk_store::{Id, Store};
 use std::alloc::AllocError;
 
-/// The packets of the entries of a level that have a bad final.
-pub(crate) fn bad_level<G: Goal>(
+/// The packets of the entries of a level that have a violation.
+pub(crate) fn violation_level<G: Goal>(
     st: &mut Store,
     ss: &Sets,
     level: &List<(SetId, Id)>,
@@ -24,10 +24,10 @@ pub(crate) fn bad_level<G: Goal>(
     requires fits { G.fits g.old st.old }
     requires pairs { ArePairs st.old ss.now (G.labels g.old) level.now }
     ensures grows { Grows st.old st.new }
-    ensures ok { IfOk result (λ back. IsBadSoFar st.old ss.now (G.bad_of g.old st.old) level.now st.new back) }
+    ensures ok { IfOk result (λ back. AreViolationsSoFar st.old ss.now (G.violations_of g.old st.old) level.now st.new back) }
     ensures fits { OnOk result (G.fits g.new st.new) }
     ensures labels { OnOk result (G.labels g.new ≡ G.labels g.old) }
-    ensures same { OnOk result ((st : Held) (set pk : Items ℕ) → G.bad_of g.new st set pk ≡ G.bad_of g.old st set pk) }
+    ensures same { OnOk result ((st : StoreState) (set pk : Items ℕ) → G.violations_of g.new st set pk ≡ G.violations_of g.old st set pk) }
 {
     let mut back = IndexMap::new(st.alloc());
     for k in 0..level.len() {

@@ -1,6 +1,6 @@
 //! The least packet that outs make of a packet.
 ghost use Rattle.std.specs.Prelude.{◌≡◌, ℕ, ◌+◌, true, false, length, Some};
-ghost use Rattle.nk_store.specs.Held.{IsId};
+ghost use Rattle.nk_store.specs.StoreState.{IsId};
 ghost use Rattle.nk_sets.specs.PacketSets.{is_in};
 ghost use Rattle.nk_reach.specs.Pairs.{Under, Once};
 ghost use Rattle.nk_reach.specs.Rounds.{HaveSets};

@@ -1,7 +1,7 @@
 //! Sets of labels with their packets, found by the set's number.
 ghost use Rattle.std.specs.Prelude.{◌≡◌, ℕ, eqb, take, IfOk, OnOk, OnErr};
 ghost use Rattle.std.specs.Map.{lookup};
-ghost use Rattle.nk_store.specs.Held.{Grows};
+ghost use Rattle.nk_store.specs.StoreState.{Grows};
 ghost use Rattle.nk_sets.specs.PacketSets.{IsSet};
 ghost use Rattle.nk_reach.specs.Pairs.{Once};
 ghost use Rattle.nk_reach.specs.Rounds.{HaveSets, IsJoined, IsAdded, IsRest, IsMerged};
@@ -81,7 +81,7 @@ pub(crate) fn unmet(
 
 /// Adds the packets of one more level to those met so far. The only error is that memory ran out; then the store has only grown,
 /// and the packets of the level's first entries are added, and of the others none.
-pub fn merge(
+pub fn add_level(
     st: &mut Store,
     met: &mut IndexMap<SetId, Id>,
     level: &List<(SetId, Id)>,

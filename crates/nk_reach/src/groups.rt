@@ -1,6 +1,6 @@
 //! Outs by the values of a field, those of one out put together.
 ghost use Rattle.std.specs.Prelude.{◌≡◌, ◌<◌, ◌≤◌, IfOk, OnOk, true, length, IsPermutation};
-ghost use Rattle.nk_store.specs.Held.{Grows};
+ghost use Rattle.nk_store.specs.StoreState.{Grows};
 ghost use Rattle.nk_reach.specs.Outs.{IsByOut, AreStretches, AreOfDiagram, AreUnited, IsRunOf, HaveRun, IsNone, piece, with_stretch};
 
 use crate::outs::Given;
@@ -78,8 +78,8 @@ fn out_at(ss: &[Stretch], k: usize) -> Result<Out, AllocError>
     ss[k].out.copy()
 }
 
-/// The packets of one out from a place on, and the place behind the last of them. They end where the out is another one,
-/// or where an interval doesn't stand behind the one before it.
+/// The packets of one out from a place on, and the place after the last of them. They end where the out is another one,
+/// or where an interval doesn't stand after the one before it.
 fn run_packets(
     st: &mut Store,
     f: Fid,
@@ -99,7 +99,7 @@ fn run_packets(
     Ok((to, packets))
 }
 
-/// The parts by a field of the packets of one out from a place on, and the place behind the last of them.
+/// The parts by a field of the packets of one out from a place on, and the place after the last of them.
 fn run_parts(
     st: &Store,
     f: Fid,
@@ -132,7 +132,7 @@ fn run_parts(
     }
 }
 
-/// Puts the part of the stretch at a place behind others, and before it one of no packets for the values from next up to it.
+/// Puts the part of the stretch at a place after others, and before it one of no packets for the values from next up to it.
 fn put_part(
     parts: &mut List<(u64, Id)>,
     next: u64,
@@ -165,7 +165,7 @@ fn follows(ss: &[Stretch], a: usize, b: usize, next: u64) -> bool
     requires left { a < length ss.now }
     requires right { b < length ss.now }
     ensures out { result ≡ true → (piece ss.now b).out ≡ (piece ss.now a).out }
-    ensures behind { result ≡ true → next ≤ (piece ss.now b).from }
+    ensures following { result ≡ true → next ≤ (piece ss.now b).from }
 {
     ss[b].out == ss[a].out && next <= ss[b].from
 }

@@ -1,7 +1,7 @@
 //! The least history.
 ghost use Rattle.std.specs.Prelude.{◌≡◌, ℕ, ◌-◌, ◌<◌, ◌≤◌, [], true, IfOk, OnOk, length, slice_index_or, List as Items};
 ghost use Rattle.nk_field.specs.Order.{IsLeast};
-ghost use Rattle.nk_store.specs.Held.{Held, IsPacket, Grows};
+ghost use Rattle.nk_store.specs.StoreState.{StoreState, IsStorePacket, Grows};
 ghost use Rattle.nk_determ.specs.Sets.{SetsGrow, HasEachSetOnce};
 ghost use Rattle.nk_reach.specs.Pairs.{AreStates};
 ghost use Rattle.nk_reach.specs.Levels.{AreLevels};
@@ -9,7 +9,7 @@ ghost use Rattle.nk_reach.specs.Histories.{IsBreak, Breaks};
 ghost use Rattle.nk_reach.specs.Backs.{AreBacks};
 ghost use Rattle.nk_reach.specs.Finds.{first_set, first_packets, target_of, found_of};
 
-use crate::back::bad_level;
+use crate::back::violation_level;
 use crate::forward::{last_packet, least_under, next_packet};
 use crate::found::{Found, Side};
 use crate::goal::Goal;
@@ -21,9 +21,9 @@ use nk_store::{Id, Store};
 use std::alloc::AllocError;
 
 /// The least history that breaks a goal: it starts at one of the packets that the levels start from, its records follow
-/// the states' set states, and a bad final of the side that is told makes its last packet. Fewer records come first, then the
-/// lesser start, then the records in turn, then the last packet; where a bad final of either side makes that history, the
-/// left side is told. The levels are those of these states and this goal, and ended at a bad final. The only error is that
+/// the states' set states, and a violation of the side that is told makes its last packet. Fewer records come first, then the
+/// lesser start, then the records in turn, then the last packet; where a violation of either side makes that history, the
+/// left side is told. The levels are those of these states and this goal, and ended at a violation. The only error is that
 /// memory ran out; then the store and the sets have only grown, and nothing is said of the goal.
 pub fn least_history<G: Goal>(
     st: &mut Store,
@@ -35,20 +35,20 @@ pub fn least_history<G: Goal>(
     requires fits { G.fits g.old st.old }
     requires labels { length states.now ≤ G.labels g.old }
     requires states { AreStates st.old states.now }
-    requires levels { AreLevels st.old st.old ss.old states.now (first_set l.now.levels) (first_packets l.now.levels) (G.bad_of g.old st.old) l.now.levels l.now.broken }
+    requires levels { AreLevels st.old st.old ss.old states.now (first_set l.now.levels) (first_packets l.now.levels) (G.violations_of g.old st.old) l.now.levels l.now.broken }
     requires broken { l.now.broken ≡ true }
     ensures grows { Grows st.old st.new }
     ensures sets { SetsGrow ss.old ss.new }
     ensures breaks { IfOk result (λ f.
-        IsBreak st.old states.now (slice_index_or ss.old (first_set l.now.levels) []) (first_packets l.now.levels) (G.bad_of g.old st.old) (target_of f.side) (found_of f)) }
+        IsBreak st.old states.now (slice_index_or ss.old (first_set l.now.levels) []) (first_packets l.now.levels) (G.violations_of g.old st.old) (target_of f.side) (found_of f)) }
     ensures least { IfOk result (λ f.
-        IsLeast (Breaks st.old states.now (slice_index_or ss.old (first_set l.now.levels) []) (first_packets l.now.levels) (G.bad_of g.old st.old)) (found_of f)) }
+        IsLeast (Breaks st.old states.now (slice_index_or ss.old (first_set l.now.levels) []) (first_packets l.now.levels) (G.violations_of g.old st.old)) (found_of f)) }
     ensures left { IfOk result (λ f.
-        IsBreak st.old states.now (slice_index_or ss.old (first_set l.now.levels) []) (first_packets l.now.levels) (G.bad_of g.old st.old) 0 (found_of f) → f.side ≡ Side.Left) }
-    ensures range { IfOk result (λ f. IsPacket st.old f.history.last) }
+        IsBreak st.old states.now (slice_index_or ss.old (first_set l.now.levels) []) (first_packets l.now.levels) (G.violations_of g.old st.old) 0 (found_of f) → f.side ≡ Side.Left) }
+    ensures range { IfOk result (λ f. IsStorePacket st.old f.history.last) }
     ensures fits { OnOk result (G.fits g.new st.new) }
     ensures labels { OnOk result (G.labels g.new ≡ G.labels g.old) }
-    ensures same { OnOk result ((st : Held) (set pk : Items ℕ) → G.bad_of g.new st set pk ≡ G.bad_of g.old st set pk) }
+    ensures same { OnOk result ((st : StoreState) (set pk : Items ℕ) → G.violations_of g.new st set pk ≡ G.violations_of g.old st set pk) }
 {
     let mut backs = List::new(st.alloc());
     let found = go_forward(st, ss, states, &mut backs, l, g)?;
@@ -67,20 +67,20 @@ fn go_forward<G: Goal>(
     requires fits { G.fits g.old st.old }
     requires labels { length states.now ≤ G.labels g.old }
     requires states { AreStates st.old states.now }
-    requires levels { AreLevels st.old st.old ss.old states.now (first_set l.now.levels) (first_packets l.now.levels) (G.bad_of g.old st.old) l.now.levels l.now.broken }
+    requires levels { AreLevels st.old st.old ss.old states.now (first_set l.now.levels) (first_packets l.now.levels) (G.violations_of g.old st.old) l.now.levels l.now.broken }
     requires broken { l.now.broken ≡ true }
     ensures grows { Grows st.old st.new }
     ensures sets { SetsGrow ss.old ss.new }
     ensures breaks { IfOk result (λ f.
-        IsBreak st.old states.now (slice_index_or ss.old (first_set l.now.levels) []) (first_packets l.now.levels) (G.bad_of g.old st.old) (target_of f.side) (found_of f)) }
+        IsBreak st.old states.now (slice_index_or ss.old (first_set l.now.levels) []) (first_packets l.now.levels) (G.violations_of g.old st.old) (target_of f.side) (found_of f)) }
     ensures least { IfOk result (λ f.
-        IsLeast (Breaks st.old states.now (slice_index_or ss.old (first_set l.now.levels) []) (first_packets l.now.levels) (G.bad_of g.old st.old)) (found_of f)) }
+        IsLeast (Breaks st.old states.now (slice_index_or ss.old (first_set l.now.levels) []) (first_packets l.now.levels) (G.violations_of g.old st.old)) (found_of f)) }
     ensures left { IfOk result (λ f.
-        IsBreak st.old states.now (slice_index_or ss.old (first_set l.now.levels) []) (first_packets l.now.levels) (G.bad_of g.old st.old) 0 (found_of f) → f.side ≡ Side.Left) }
-    ensures range { IfOk result (λ f. IsPacket st.old f.history.last) }
+        IsBreak st.old states.now (slice_index_or ss.old (first_set l.now.levels) []) (first_packets l.now.levels) (G.violations_of g.old st.old) 0 (found_of f) → f.side ≡ Side.Left) }
+    ensures range { IfOk result (λ f. IsStorePacket st.old f.history.last) }
     ensures fits { OnOk result (G.fits g.new st.new) }
     ensures labels { OnOk result (G.labels g.new ≡ G.labels g.old) }
-    ensures same { OnOk result ((st : Held) (set pk : Items ℕ) → G.bad_of g.new st set pk ≡ G.bad_of g.old st set pk) }
+    ensures same { OnOk result ((st : StoreState) (set pk : Items ℕ) → G.violations_of g.new st set pk ≡ G.violations_of g.old st set pk) }
 {
     let made = backs_of(st, ss, states, l, g)?;
     *backs = made;
@@ -119,7 +119,7 @@ fn start_set(l: &Levels) -> SetId
     l.levels.at(0).at(0).0
 }
 
-/// The side of a bad final.
+/// The side of a violation.
 fn side_of(target: u64) -> Side
     ensures left { target ≡ 0 → result ≡ Side.Left }
     ensures right { target ≡ 1 → result ≡ Side.Right }
@@ -138,19 +138,19 @@ fn backs_of<G: Goal>(
     requires fits { G.fits g.old st.old }
     requires labels { length states.now ≤ G.labels g.old }
     requires states { AreStates st.old states.now }
-    requires levels { AreLevels st.old st.old ss.old states.now (first_set l.now.levels) (first_packets l.now.levels) (G.bad_of g.old st.old) l.now.levels l.now.broken }
+    requires levels { AreLevels st.old st.old ss.old states.now (first_set l.now.levels) (first_packets l.now.levels) (G.violations_of g.old st.old) l.now.levels l.now.broken }
     ensures grows { Grows st.old st.new }
     ensures sets { SetsGrow ss.old ss.new }
     ensures differ { OnOk result (HasEachSetOnce ss.new) }
     ensures count { IfOk result (λ backs. length backs ≡ length l.now.levels) }
-    ensures ok { IfOk result (λ backs. AreBacks st.old st.new ss.old ss.new states.now (G.bad_of g.old st.old) l.now.levels (length l.now.levels - 1) (length l.now.levels) backs) }
+    ensures ok { IfOk result (λ backs. AreBacks st.old st.new ss.old ss.new states.now (G.violations_of g.old st.old) l.now.levels (length l.now.levels - 1) (length l.now.levels) backs) }
     ensures fits { OnOk result (G.fits g.new st.new) }
     ensures labels { OnOk result (G.labels g.new ≡ G.labels g.old) }
-    ensures same { OnOk result ((st : Held) (set pk : Items ℕ) → G.bad_of g.new st set pk ≡ G.bad_of g.old st set pk) }
+    ensures same { OnOk result ((st : StoreState) (set pk : Items ℕ) → G.violations_of g.new st set pk ≡ G.violations_of g.old st set pk) }
 {
     let last = l.levels.len() - 1;
     let level = l.levels.at(last);
-    let first = bad_level(st, ss, level, g)?;
+    let first = violation_level(st, ss, level, g)?;
     let mut backs = List::new(st.alloc());
     backs.push(first)?;
     for k in 0..last {

@@ -1,15 +1,15 @@
 //! Which packets lead to given ones.
 ghost use Rattle.std.specs.Prelude.{◌<◌, [], IfOk, length, slice_index_or};
-ghost use Rattle.nk_store.specs.Held.{Grows};
+ghost use Rattle.nk_store.specs.StoreState.{Grows};
 ghost use Rattle.nk_sets.specs.PacketSets.{IsSet};
 ghost use Rattle.nk_determ.specs.Sets.{SetsGrow};
-ghost use Rattle.nk_reach.specs.Pairs.{AreStates, HavePlaces, ArePairs, Once};
+ghost use Rattle.nk_reach.specs.Pairs.{AreStates, AreLabelsBelow, ArePairs, Once};
 ghost use Rattle.nk_reach.specs.Outs.{AreGiven};
 ghost use Rattle.nk_reach.specs.Rounds.{HaveSets};
 ghost use Rattle.nk_reach.specs.Pulls.{IsPulled, AreAllPulled, IsPulledPair, IsPulledSoFar};
 
 use crate::entries::add;
-use crate::local::state_at;
+use crate::local_state::local_state;
 use crate::outs::{Given, by_out};
 use crate::standing::Entries;
 use indexmap::IndexMap;
@@ -56,14 +56,14 @@ fn pull_pair(
 ) -> Result<Id, AllocError>
     requires states { AreStates st.old states.now }
     requires set { s < length ss.old }
-    requires places { HavePlaces (length states.now) (slice_index_or ss.old s []) }
+    requires places { AreLabelsBelow (length states.now) (slice_index_or ss.old s []) }
     requires packets { IsSet st.old x }
     requires next { ArePairs st.old ss.old (length states.now) next.now }
     ensures grows { Grows st.old st.new }
     ensures sets { SetsGrow ss.old ss.new }
     ensures ok { IfOk result (λ r. IsPulledPair st.old ss.old states.now (slice_index_or ss.old s []) x next.now st.new r) }
 {
-    let d = state_at(st, ss, states, s, x)?;
+    let d = local_state(st, ss, states, s, x)?;
     let outs = by_out(st, d)?;
     let led = pull_all(st, &outs, next)?;
     Ok(led)

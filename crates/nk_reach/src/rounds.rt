@@ -1,6 +1,6 @@
 //! One round of the levels.
 ghost use Rattle.std.specs.Prelude.{IfOk, length};
-ghost use Rattle.nk_store.specs.Held.{Grows};
+ghost use Rattle.nk_store.specs.StoreState.{Grows};
 ghost use Rattle.nk_determ.specs.Sets.{SetsGrow};
 ghost use Rattle.nk_reach.specs.Pairs.{AreStates, ArePairs, Once};
 ghost use Rattle.nk_reach.specs.Rounds.{HaveSets, IsNextLevel, IsFresh};

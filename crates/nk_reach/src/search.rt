@@ -1,13 +1,13 @@
 //! Levels.
 ghost use Rattle.std.specs.Prelude.{◌≡◌, ℕ, ◌<◌, ◌≤◌, [], ◌∷◌, IfOk, OnOk, length, slice_index_or, List as Items};
-ghost use Rattle.nk_store.specs.Held.{Held, Grows};
+ghost use Rattle.nk_store.specs.StoreState.{StoreState, Grows};
 ghost use Rattle.nk_sets.specs.PacketSets.{IsSet};
 ghost use Rattle.nk_determ.specs.Sets.{SetsGrow};
-ghost use Rattle.nk_reach.specs.Pairs.{AreStates, HavePlaces};
+ghost use Rattle.nk_reach.specs.Pairs.{AreStates, AreLabelsBelow};
 ghost use Rattle.nk_reach.specs.Levels.{AreLevels};
 
-use crate::entries::merge;
-use crate::goal::{Goal, any_bad};
+use crate::entries::add_level;
+use crate::goal::{Goal, any_violation};
 use crate::rounds::next_level;
 use indexmap::IndexMap;
 use nk_determ::{Levels, SetId, Sets};
@@ -16,7 +16,7 @@ use nk_store::{Id, Store};
 use std::alloc::{AllocError, Global};
 
 /// The levels of an automaton's states, from the set state `s` at the packets `start`, up to the
-/// first level with a bad final of the goal, or until a level meets nothing new. The only error is
+/// first level with a violation of the goal, or until a level meets nothing new. The only error is
 /// that memory ran out; then the store and the sets have only grown, and nothing is said of the goal.
 pub fn levels<G: Goal>(
     st: &mut Store,
@@ -30,14 +30,14 @@ pub fn levels<G: Goal>(
     requires labels { length states.now ≤ G.labels g.old }
     requires states { AreStates st.old states.now }
     requires set { s < length ss.old }
-    requires places { HavePlaces (length states.now) (slice_index_or ss.old s []) }
+    requires places { AreLabelsBelow (length states.now) (slice_index_or ss.old s []) }
     requires packets { IsSet st.old start }
     ensures grows { Grows st.old st.new }
     ensures sets { SetsGrow ss.old ss.new }
-    ensures ok { IfOk result (λ l. AreLevels st.old st.new ss.new states.now s start (G.bad_of g.old st.old) l.levels l.broken) }
+    ensures ok { IfOk result (λ l. AreLevels st.old st.new ss.new states.now s start (G.violations_of g.old st.old) l.levels l.broken) }
     ensures fits { OnOk result (G.fits g.new st.new) }
     ensures labels { OnOk result (G.labels g.new ≡ G.labels g.old) }
-    ensures same { OnOk result ((st : Held) (set pk : Items ℕ) → G.bad_of g.new st set pk ≡ G.bad_of g.old st set pk) }
+    ensures same { OnOk result ((st : StoreState) (set pk : Items ℕ) → G.violations_of g.new st set pk ≡ G.violations_of g.old st set pk) }
 {
     let alloc = st.alloc();
     let mut met = first_met(alloc, s, start)?;
@@ -45,14 +45,14 @@ pub fn levels<G: Goal>(
     all.push(first_level(alloc, s, start)?)?;
     loop {
         let last = all.len() - 1;
-        if any_bad(st, ss, all.at(last), g)? {
+        if any_violation(st, ss, all.at(last), g)? {
             return Ok(Levels::new(all, true));
         }
         let level = next_level(st, ss, states, &met, all.at(last))?;
         if level.len() == 0 {
             return Ok(Levels::new(all, false));
         }
-        merge(st, &mut met, &level)?;
+        add_level(st, &mut met, &level)?;
         all.push(level)?;
     }
 }

@@ -3,11 +3,11 @@ ghost use Rattle.std.specs.Prelude.{◌≡◌, ◌↔◌, ℕ, ◌<◌, ◌++◌
 ghost use Rattle.std.specs.List.Sorted.{IsStrictlyIncreasing};
 ghost use Rattle.std.specs.Map.{lookup};
 ghost use Rattle.std.proofs.Common.{ap};
-ghost use Rattle.nk_store.specs.Held.{IsId, IsPacket, look, Grows, HasLeaves};
+ghost use Rattle.nk_store.specs.StoreState.{IsId, IsStorePacket, look, Grows, HasLeaves};
 ghost use Rattle.nk_apply.specs.Unions.{AreIds};
 ghost use Rattle.nk_apply.specs.Leaves.{merged};
-ghost use Rattle.nk_reach.specs.Pairs.{HavePlaces};
-ghost use Rattle.nk_reach.specs.Sides.{alone_out, alone, ends_of, ends_same, alone_sided, twin, marked, mark_of, AreMarked, AreMarkedOf, AreAloneOf, IsGoalOf, goal_on, AreOneSided};
+ghost use Rattle.nk_reach.specs.Pairs.{AreLabelsBelow};
+ghost use Rattle.nk_reach.specs.Sides.{alone_out, alone, ends_of, ends_same, alone_sided, twin, finals_of_side, label_side, AreSideFinals, AreFinalsOfSide, AreAloneOf, IsPropertyOfEnds, property_grows, AreOneSided};
 
 use crate::goal::Goal;
 use nk_apply::{LeafMap, map_leaves, union, union_all};
@@ -28,15 +28,15 @@ pub struct OneSide {
 }
 
 impl Goal for OneSide {
-    ghost fits = { λ g st. IsGoalOf st g.ends g.seen.entries };
+    ghost fits = { λ g st. IsPropertyOfEnds st g.ends g.seen.entries };
 
     ghost labels = { λ g. length g.ends };
 
-    ghost bad_of = { λ g st set pk. alone (ends_of st g.ends set pk) };
+    ghost violations_of = { λ g st set pk. alone (ends_of st g.ends set pk) };
 
-    ghost fits_on = { λ g old new fits grows. goal_on old new g.ends g.seen.entries fits grows };
+    ghost fits_on = { λ g old new fits grows. property_grows old new g.ends g.seen.entries fits grows };
 
-    ghost bad_on = { λ g old new set pk fits grows places. ap alone (ends_same old new g.ends set pk grows fits.ids places) };
+    ghost violations_grow = { λ g old new set pk fits grows places. ap alone (ends_same old new g.ends set pk grows fits.ids places) };
 
     ghost sided = { λ g st set pk o fits whole among. alone_sided (ends_of st g.ends set pk) o among };
 
@@ -65,9 +65,9 @@ impl OneSide {
         requires right { IsId st.old right }
         ensures grows { Grows st.old st.new }
         ensures ids { IfOk result (λ g. AreIds st.new g.ends) }
-        ensures fits { IfOk result (λ g. IsGoalOf st.new g.ends g.seen.entries) }
-        ensures marked { IfOk result (λ g. AreMarked st.old states.now left right bound (length states.now) st.new g.ends) }
-        ensures alone { IfOk result (λ g. (set pk : Items ℕ) → HavePlaces (length states.now) set → IsPacket st.old pk →
+        ensures fits { IfOk result (λ g. IsPropertyOfEnds st.new g.ends g.seen.entries) }
+        ensures marked { IfOk result (λ g. AreSideFinals st.old states.now left right bound (length states.now) st.new g.ends) }
+        ensures alone { IfOk result (λ g. (set pk : Items ℕ) → AreLabelsBelow (length states.now) set → IsStorePacket st.old pk →
             AreOneSided st.old states.now left right bound set pk (alone (ends_of st.new g.ends set pk))) }
     {
         st.laws();
@@ -116,13 +116,13 @@ fn marked_state(
     requires left { IsId st.old left }
     requires right { IsId st.old right }
     requires label { l < length states.now }
-    requires of_left { AreMarkedOf st.old 1 marks.old.left.entries }
-    requires of_right { AreMarkedOf st.old 2 marks.old.right.entries }
+    requires of_left { AreFinalsOfSide st.old 1 marks.old.left.entries }
+    requires of_right { AreFinalsOfSide st.old 2 marks.old.right.entries }
     ensures grows { Grows st.old st.new }
-    ensures start { IfOk result (λ d. l ≡ 0 → HasLeaves st.new d (λ pk. merged (marked st.old left 1 pk) (marked st.old right 2 pk))) }
-    ensures rest { IfOk result (λ d. 0 < l → HasLeaves st.new d (λ pk. marked st.old (slice_index states.now l) (mark_of bound l) pk)) }
-    ensures of_left { OnOk result (AreMarkedOf st.new 1 marks.new.left.entries) }
-    ensures of_right { OnOk result (AreMarkedOf st.new 2 marks.new.right.entries) }
+    ensures start { IfOk result (λ d. l ≡ 0 → HasLeaves st.new d (λ pk. merged (finals_of_side st.old left 1 pk) (finals_of_side st.old right 2 pk))) }
+    ensures rest { IfOk result (λ d. 0 < l → HasLeaves st.new d (λ pk. finals_of_side st.old (slice_index states.now l) (label_side bound l) pk)) }
+    ensures of_left { OnOk result (AreFinalsOfSide st.new 1 marks.new.left.entries) }
+    ensures of_right { OnOk result (AreFinalsOfSide st.new 2 marks.new.right.entries) }
 {
     if l == 0 {
         let d = marked_starts(st, left, right)?;
@@ -136,7 +136,7 @@ fn marked_starts(st: &mut Store, left: Id, right: Id) -> Result<Id, AllocError>
     requires left { IsId st.old left }
     requires right { IsId st.old right }
     ensures grows { Grows st.old st.new }
-    ensures ok { IfOk result (λ d. HasLeaves st.new d (λ pk. merged (marked st.old left 1 pk) (marked st.old right 2 pk))) }
+    ensures ok { IfOk result (λ d. HasLeaves st.new d (λ pk. merged (finals_of_side st.old left 1 pk) (finals_of_side st.old right 2 pk))) }
 {
     let first = marked_ends(st, left, 1)?;
     let second = marked_ends(st, right, 2)?;
@@ -152,12 +152,12 @@ fn marked_label(
     l: usize,
 ) -> Result<Id, AllocError>
     requires state { IsId st.old state }
-    requires of_left { AreMarkedOf st.old 1 marks.old.left.entries }
-    requires of_right { AreMarkedOf st.old 2 marks.old.right.entries }
+    requires of_left { AreFinalsOfSide st.old 1 marks.old.left.entries }
+    requires of_right { AreFinalsOfSide st.old 2 marks.old.right.entries }
     ensures grows { Grows st.old st.new }
-    ensures ok { IfOk result (λ r. HasLeaves st.new r (λ pk. marked st.old state (mark_of bound l) pk)) }
-    ensures of_left { OnOk result (AreMarkedOf st.new 1 marks.new.left.entries) }
-    ensures of_right { OnOk result (AreMarkedOf st.new 2 marks.new.right.entries) }
+    ensures ok { IfOk result (λ r. HasLeaves st.new r (λ pk. finals_of_side st.old state (label_side bound l) pk)) }
+    ensures of_left { OnOk result (AreFinalsOfSide st.new 1 marks.new.left.entries) }
+    ensures of_right { OnOk result (AreFinalsOfSide st.new 2 marks.new.right.entries) }
 {
     if l < bound {
         let r = marked_once(st, &mut marks.left, state, 1)?;
@@ -175,10 +175,10 @@ fn marked_once(
     mark: u64,
 ) -> Result<Id, AllocError>
     requires state { IsId st.old state }
-    requires made { AreMarkedOf st.old mark made.old.entries }
+    requires made { AreFinalsOfSide st.old mark made.old.entries }
     ensures grows { Grows st.old st.new }
-    ensures ok { IfOk result (λ r. HasLeaves st.new r (λ pk. marked st.old state mark pk)) }
-    ensures made { OnOk result (AreMarkedOf st.new mark made.new.entries) }
+    ensures ok { IfOk result (λ r. HasLeaves st.new r (λ pk. finals_of_side st.old state mark pk)) }
+    ensures made { OnOk result (AreFinalsOfSide st.new mark made.new.entries) }
 {
     if let Some(r) = known(made, state) {
         return Ok(r);
@@ -199,7 +199,7 @@ fn known(table: &HashMap<Id, Id>, d: Id) -> Option<Id>
 fn marked_ends(st: &mut Store, d: Id, mark: u64) -> Result<Id, AllocError>
     requires { IsId st.old d }
     ensures grows { Grows st.old st.new }
-    ensures ok { IfOk result (λ r. HasLeaves st.new r (λ pk. marked st.old d mark pk)) }
+    ensures ok { IfOk result (λ r. HasLeaves st.new r (λ pk. finals_of_side st.old d mark pk)) }
 {
     let finals = retarget(st, d, &[Some(mark)])?;
     split(st, finals)
@@ -207,7 +207,7 @@ fn marked_ends(st: &mut Store, d: Id, mark: u64) -> Result<Id, AllocError>
 
 /// The diagrams of some labels.
 fn ends_at(alloc: Global, ends: &[Id], labels: &[u64]) -> Result<List<Id>, AllocError>
-    requires { HavePlaces (length ends.now) labels.now }
+    requires { AreLabelsBelow (length ends.now) labels.now }
     ensures { IfOk result (λ ds. ds ≡ map (slice_index ends.now) labels.now) }
 {
     let mut ds = List::with_capacity(alloc, labels.len())?;

@@ -1,8 +1,8 @@
 //! The steps of a diagram whose leaves have one label each at most.
 ghost use Rattle.std.specs.Prelude.{◌≡◌, ℕ, ◌+◌, ◌<◌, ◌≤◌, ◌++◌, ◌||◌, true, eqb, [], ◌∷◌, List as Items, IfOk, IfSome, OnOk};
 ghost use Rattle.std.specs.List.{flat_map, list_all};
-ghost use Rattle.nk_store.specs.Held.{IsId, IsPacket, top, Grows};
-ghost use Rattle.nk_apply.specs.Subs.{IsSplit};
+ghost use Rattle.nk_store.specs.StoreState.{IsId, IsStorePacket, root_field, Grows};
+ghost use Rattle.nk_apply.specs.Cofactors.{IsSplit};
 ghost use Rattle.nk_determ.specs.Exact.{Sends};
 ghost use Rattle.nk_determ.specs.Sets.{SetsGrow, holds, place_in};
 ghost use Rattle.nk_determ.specs.States.{SomeLeads, AreLedTo};
@@ -23,9 +23,9 @@ pub(crate) fn steps_single(st: &mut Store, ss: &mut Sets, d: Id) -> Result<Optio
     ensures grows { Grows st.old st.new }
     ensures sets { SetsGrow ss.old ss.new }
     ensures id { IfOk result (λ o. IfSome o (λ r. IsId st.new r)) }
-    ensures leads { IfOk result (λ o. IfSome o (λ r. (pk y : Items ℕ) (i : ℕ) → IsPacket st.old pk →
+    ensures leads { IfOk result (λ o. IfSome o (λ r. (pk y : Items ℕ) (i : ℕ) → IsStorePacket st.old pk →
         Sends st.new r pk y (i + 1) → AreLedTo ss.new st.old (d ∷ []) pk y i)) }
-    ensures led { IfOk result (λ o. IfSome o (λ r. (pk y : Items ℕ) (l : ℕ) → IsPacket st.old pk → 0 < l →
+    ensures led { IfOk result (λ o. IfSome o (λ r. (pk y : Items ℕ) (l : ℕ) → IsStorePacket st.old pk → 0 < l →
         SomeLeads st.old (d ∷ []) pk y l → (i : ℕ) × Sends st.new r pk y (i + 1))) }
 {
     if st.drops(d) {
@@ -93,7 +93,7 @@ fn single_case(
 ) -> Result<Option<Id>, AllocError>
     requires id { IsId st.old d }
     requires field { f < 18 }
-    requires first { top st.old d ≡ f }
+    requires first { root_field st.old d ≡ f }
     requires split { IsSplit st.old f d }
     requires seen { AreSingle st.old ss.old seen.old.entries }
     ensures grows { Grows st.old st.new }
@@ -119,7 +119,7 @@ fn single_parts(
 ) -> Result<Option<List<(u64, Id)>>, AllocError>
     requires id { IsId st.old d }
     requires field { f < 18 }
-    requires first { top st.old d ≡ f }
+    requires first { root_field st.old d ≡ f }
     requires split { IsSplit st.old f d }
     requires seen { AreSingle st.old ss.old seen.old.entries }
     ensures grows { Grows st.old st.new }
@@ -147,7 +147,7 @@ fn single_parts(
 /// The steps of a leaf.
 fn single_leaf(st: &mut Store, ss: &mut Sets, d: Id) -> Result<Option<Id>, AllocError>
     requires id { IsId st.old d }
-    requires leaf { 18 ≤ top st.old d }
+    requires leaf { 18 ≤ root_field st.old d }
     ensures grows { Grows st.old st.new }
     ensures sets { SetsGrow ss.old ss.new }
     ensures ok { IfOk result (λ o. IfSome o (λ r. IsSingle st.old d st.new ss.new r)) }
@@ -162,7 +162,7 @@ fn single_leaf(st: &mut Store, ss: &mut Sets, d: Id) -> Result<Option<Id>, Alloc
 /// The outs of the steps of a leaf.
 fn leaf_steps(st: &Store, ss: &mut Sets, d: Id) -> Result<Option<List<Out>>, AllocError>
     requires id { IsId st.now d }
-    requires leaf { 18 ≤ top st.now d }
+    requires leaf { 18 ≤ root_field st.now d }
     ensures sets { SetsGrow ss.old ss.new }
     ensures ok { IfOk result (λ o. IfSome o (λ r. AreLeafSteps st.now d ss.new r)) }
 {

@@ -1,6 +1,6 @@
 //! The steps of diagrams together.
 ghost use Rattle.std.specs.Prelude.{ℕ, ◌+◌, ◌<◌, List as Items, IfOk, IfSome};
-ghost use Rattle.nk_store.specs.Held.{IsId, IsPacket, Grows};
+ghost use Rattle.nk_store.specs.StoreState.{IsId, IsStorePacket, Grows};
 ghost use Rattle.nk_apply.specs.Unions.{AreIds};
 ghost use Rattle.nk_determ.specs.Exact.{Sends};
 ghost use Rattle.nk_determ.specs.Sets.{SetsGrow};
@@ -23,9 +23,9 @@ pub(crate) fn steps_together(
     ensures grows { Grows st.old st.new }
     ensures sets { SetsGrow ss.old ss.new }
     ensures id { IfOk result (λ r. IsId st.new r) }
-    ensures leads { IfOk result (λ r. (pk y : Items ℕ) (i : ℕ) → IsPacket st.old pk → Sends st.new r pk y (i + 1) →
+    ensures leads { IfOk result (λ r. (pk y : Items ℕ) (i : ℕ) → IsStorePacket st.old pk → Sends st.new r pk y (i + 1) →
         AreLedTo ss.new st.old diagrams.now pk y i) }
-    ensures led { IfOk result (λ r. (pk y : Items ℕ) (l : ℕ) → IsPacket st.old pk → 0 < l →
+    ensures led { IfOk result (λ r. (pk y : Items ℕ) (l : ℕ) → IsStorePacket st.old pk → 0 < l →
         SomeLeads st.old diagrams.now pk y l → (i : ℕ) × Sends st.new r pk y (i + 1)) }
 {
     let one = steps_of_one(st, ss, diagrams)?;
@@ -41,9 +41,9 @@ fn steps_of_one(st: &mut Store, ss: &mut Sets, diagrams: &[Id]) -> Result<Option
     ensures grows { Grows st.old st.new }
     ensures sets { SetsGrow ss.old ss.new }
     ensures id { IfOk result (λ o. IfSome o (λ r. IsId st.new r)) }
-    ensures leads { IfOk result (λ o. IfSome o (λ r. (pk y : Items ℕ) (i : ℕ) → IsPacket st.old pk →
+    ensures leads { IfOk result (λ o. IfSome o (λ r. (pk y : Items ℕ) (i : ℕ) → IsStorePacket st.old pk →
         Sends st.new r pk y (i + 1) → AreLedTo ss.new st.old diagrams.now pk y i)) }
-    ensures led { IfOk result (λ o. IfSome o (λ r. (pk y : Items ℕ) (l : ℕ) → IsPacket st.old pk → 0 < l →
+    ensures led { IfOk result (λ o. IfSome o (λ r. (pk y : Items ℕ) (l : ℕ) → IsStorePacket st.old pk → 0 < l →
         SomeLeads st.old diagrams.now pk y l → (i : ℕ) × Sends st.new r pk y (i + 1))) }
 {
     if diagrams.len() != 1 {

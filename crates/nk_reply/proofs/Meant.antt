@@ -12,7 +12,7 @@ use Rattle.nk_reply.specs.Answer.{Answer, answer_of, limit, too_long}
 use Rattle.nk_reply.specs.Outcome.{Outcome, done, differs, text_refused, policy_refused}
 use Rattle.nk_reply.specs.declared.reply.Reply.{Reply}
 use Rattle.nk_reply.specs.declared.reply.Reply.TheVariants as reply
-use Rattle.nk_reply.specs.Reply.{IsReplyOf, answer_in, said}
+use Rattle.nk_reply.specs.Reply.{IsReplyOf, answer_in, outcome_of}
 use Rattle.nk_reply.specs.Use.{HadLeft, IsQuiet, Use}
 use Rattle.nk_reply.specs.Meant.{IsCauseBy, IsFixedByInput, IsMeantBy, IsReadWhere, IsUnread, IsUnreadAs}
 
@@ -60,7 +60,7 @@ read_for source (policy_refused text) end = end
 pub whole_meant : (O : List ℕ → Outcome → Type 0) (source : Use) (bytes : List ℕ) (r : Reply) → HadLeft source bytes
     → length bytes ≤ limit → Consumes source.old source.new bytes → IsAtEnd source.new → IsQuiet source
     → IsReplyOf (O bytes) r → IsMeantBy O source (answer_in r)
-whole_meant O source bytes (reply.Said s) left fits read end quiet h = outcome_meant (said s) h
+whole_meant O source bytes (reply.CommandAnswer s) left fits read end quiet h = outcome_meant (outcome_of s) h
   where
     within : nat_lt limit (length bytes) ≡ false
     within = grind (arith, nat_tests, fits)

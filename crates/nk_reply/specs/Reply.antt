@@ -4,22 +4,22 @@ use Rattle.nk_reply.specs.declared.status.Status.{Status}
 use Rattle.nk_reply.specs.declared.status.Status.TheVariants.{WriteFault}
 use Rattle.nk_reply.specs.declared.reply.Reply.{Reply}
 use Rattle.nk_reply.specs.declared.reply.Reply.TheVariants as reply
-use Rattle.nk_reply.specs.declared.reply.Said.{Said}
-use Rattle.nk_reply.specs.declared.reply.Said.TheVariants as is_said
+use Rattle.nk_reply.specs.declared.reply.CommandAnswer.{CommandAnswer}
+use Rattle.nk_reply.specs.declared.reply.CommandAnswer.TheVariants as is_said
 use Rattle.nk_reply.specs.Outcome.{Outcome, done, differs, text_refused, policy_refused}
 use Rattle.nk_reply.specs.Answer.{Answer, answer_of, no_memory, read_fault, too_long, usage}
 use Rattle.nk_reply.specs.Use.{FailedAt, Took, Use}
 
 -- the kind of answer, and its text
-abbrev pub said : Said → Outcome
-said (is_said.Done text) = done text.items
-said (is_said.Differs text) = differs text.items
-said (is_said.Text text) = text_refused text.items
-said (is_said.Refused text) = policy_refused text.items
+abbrev pub outcome_of : CommandAnswer → Outcome
+outcome_of (is_said.Done text) = done text.items
+outcome_of (is_said.Differs text) = differs text.items
+outcome_of (is_said.Text text) = text_refused text.items
+outcome_of (is_said.Refused text) = policy_refused text.items
 
 -- the answer in a reply
 abbrev pub answer_in : Reply → Answer
-answer_in (reply.Said s) = answer_of (said s)
+answer_in (reply.CommandAnswer s) = answer_of (outcome_of s)
 answer_in reply.Usage = usage
 answer_in reply.ReadFault = read_fault
 answer_in reply.NoMemory = no_memory
@@ -32,6 +32,6 @@ IsDelivered sink bytes s result =
 
 -- the reply is one of these outcomes, or memory ran out
 abbrev pub IsReplyOf : (Outcome → Type 0) → Reply → Type 0
-IsReplyOf P (reply.Said s) = P (said s)
+IsReplyOf P (reply.CommandAnswer s) = P (outcome_of s)
 IsReplyOf P reply.NoMemory = ⊤
 IsReplyOf P r = ⊥

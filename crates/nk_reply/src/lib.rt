@@ -5,5 +5,5 @@ pub mod messages;
 mod reply;
 mod status;
 
-pub use reply::{Reply, Said, deliver};
+pub use reply::{CommandAnswer, Reply, deliver};
 pub use status::Status;

@@ -13,7 +13,7 @@ use nk_io::{ReadError, Sink, write_all};
 /// The whole answer of a command, made before its first byte is written. Each line of a text ends
 /// with a line feed.
 #[derive(Drop)]
-pub enum Said {
+pub enum CommandAnswer {
     /// The command is done: its answer.
     Done(Vec<u8>),
     /// What was compared differs, what was checked isn't valid, or what was asked is broken: the
@@ -29,7 +29,7 @@ pub enum Said {
 #[derive(Drop)]
 pub enum Reply {
     /// The command's own answer.
-    Said(Said),
+    CommandAnswer(CommandAnswer),
     /// The words are not those of a command.
     Usage,
     /// A call of the source failed.
@@ -63,10 +63,10 @@ pub fn deliver<O: Sink, E: Sink>(reply: &Reply, out: &mut O, err: &mut E) -> Sta
     ensures alone { LeavesAlone result (out.new ≡ out.old) (err.new ≡ err.old) }
 {
     match reply {
-        Reply::Said(Said::Done(text)) => send(out, text, Status::Done),
-        Reply::Said(Said::Differs(text)) => send(out, text, Status::Differs),
-        Reply::Said(Said::Text(text)) => send(err, text, Status::Text),
-        Reply::Said(Said::Refused(text)) => send(err, text, Status::Refused),
+        Reply::CommandAnswer(CommandAnswer::Done(text)) => send(out, text, Status::Done),
+        Reply::CommandAnswer(CommandAnswer::Differs(text)) => send(out, text, Status::Differs),
+        Reply::CommandAnswer(CommandAnswer::Text(text)) => send(err, text, Status::Text),
+        Reply::CommandAnswer(CommandAnswer::Refused(text)) => send(err, text, Status::Refused),
         Reply::Usage => send(err, b"usage: nk COMMAND ARGUMENTS\n", Status::Usage),
         Reply::ReadFault => send(err, b"read fault\n", Status::ReadFault),
         Reply::NoMemory => send(err, b"no memory\n", Status::NoMemory),

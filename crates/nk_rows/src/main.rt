@@ -3,7 +3,7 @@
 //!
 //! # How rows are written
 //!
-//! A line that is empty or begins with `#` says nothing. A text is written in lines, one behind the other:
+//! A line that is empty or begins with `#` says nothing. A text is written in lines, one after the other:
 //!
 //!     |WORDS            the words and a line feed
 //!     .WORDS            the words alone
@@ -11,7 +11,7 @@
 //!     *TIMES WORDS      the words, so often, at least once
 //!     @FIRST LAST STEP WORDS     the words for each number from FIRST up to LAST, not below it, by steps of at least 1
 //!
-//! In words `\n`, `\r`, `\t` and `\s` are a line feed, a return, a tab and a space, `\\` is a backslash, and behind `@` `\i` is
+//! In words `\n`, `\r`, `\t` and `\s` are a line feed, a return, a tab and a space, `\\` is a backslash, and after `@` `\i` is
 //! the number and `\p` the one before. Every other line begins with its word:
 //!
 //!     text NAME         a text follows, by whose name it is used below
@@ -34,9 +34,9 @@
 //!                       of memory, `err` took something and `out` nothing
 //!     else NUMBER       how each cut has to end of which no line `at` speaks: in that shape with this status
 //!     ends N*TIMES ..   the same by lengths: of the first cuts, from the empty one on, so many with status N, and so on to the last
-//!     at NUMBER ..      so many bytes of the input; `status`, `out` and `err` behind it are of these cuts
+//!     at NUMBER ..      so many bytes of the input; `status`, `out` and `err` after it are of these cuts
 //!
-//! A number is digits alone. Of one row or cut each is said once, with one of `else` and `ends`, and of a length by one `at`; behind `at`
+//! A number is digits alone. Of one row or cut each is said once, with one of `else` and `ends`, and of a length by one `at`; after `at`
 //! stand `at`, `status`, `out` and `err` alone. No two texts of a file have a name, and no two rows. A row without `words` or a
 //! status is malformed, one with `each call fails` and no `calls`, one that speaks of a cut that isn't made, or, by `ends`, not of
 //! each; and so is any other line. Of a file with malformed lines no row is run: each such line is told, and then the line of each
@@ -50,7 +50,7 @@ mod row;
 mod text;
 mod trial;
 
-use crate::reader::said_of;
+use crate::reader::row_file_of;
 use crate::row::Row;
 use crate::trial::tried;
 use std::{fs, io};
@@ -84,7 +84,7 @@ const FILES: [&str; 22] = [
 fn main(rt: HostRuntime) -> io::Result<()> {
     for file in FILES {
         let text = fs::read_to_string(&rt, file)?;
-        let said = said_of(rt.alloc(), text.as_str())?;
+        let said = row_file_of(rt.alloc(), text.as_str())?;
         if said.malformed.is_empty() {
             tell(&rt, file, said.rows.as_slice())?;
         }

@@ -24,14 +24,14 @@ struct Reader {
 
 /// What a file says.
 #[derive(Drop)]
-pub(crate) struct Said {
+pub(crate) struct RowFile {
     pub(crate) rows: Vec<Row>,
     /// The lines that are malformed, from 1, each passed over; then those at which a row begins that is malformed as a whole.
     pub(crate) malformed: Vec<u64>,
 }
 
 /// What a file says, unless memory runs out.
-pub(crate) fn said_of(alloc: Global, file: &str) -> Result<Said, AllocError> {
+pub(crate) fn row_file_of(alloc: Global, file: &str) -> Result<RowFile, AllocError> {
     let mut reader = Reader {
         alloc,
         texts: Vec::new(alloc),
@@ -53,7 +53,7 @@ pub(crate) fn said_of(alloc: Global, file: &str) -> Result<Said, AllocError> {
             malformed.push(row.line)?;
         }
     }
-    Ok(Said {
+    Ok(RowFile {
         rows: reader.rows,
         malformed,
     })
@@ -110,7 +110,7 @@ impl Reader {
         self.rows.push(row).map_err(|_| Fault::NoMemory)
     }
 
-    /// Puts bytes behind the text that is being read.
+    /// Puts bytes after the text that is being read.
     fn put(&mut self, bytes: &[u8]) -> Result<(), Fault> {
         if self.place == Place::Named {
             return match self.texts.last_mut() {
@@ -125,7 +125,7 @@ impl Reader {
     }
 }
 
-/// Puts bytes behind a text of the row.
+/// Puts bytes after a text of the row.
 fn put_of_row(row: &mut Row, place: Place, bytes: &[u8]) -> Result<(), Fault> {
     if place == Place::Input {
         return put_of_text(&mut row.input, bytes);
@@ -136,7 +136,7 @@ fn put_of_row(row: &mut Row, place: Place, bytes: &[u8]) -> Result<(), Fault> {
     }
 }
 
-/// Puts bytes behind a text that is wanted.
+/// Puts bytes after a text that is wanted.
 fn put_of_wanted(wanted: &mut Wanted, place: Place, bytes: &[u8]) -> Result<(), Fault> {
     match place {
         Place::Out => put_of_text(&mut wanted.out, bytes),
@@ -145,7 +145,7 @@ fn put_of_wanted(wanted: &mut Wanted, place: Place, bytes: &[u8]) -> Result<(), 
     }
 }
 
-/// Puts bytes behind a text that has begun.
+/// Puts bytes after a text that has begun.
 fn put_of_text(text: &mut Option<Vec<u8>>, bytes: &[u8]) -> Result<(), Fault> {
     match text {
         Some(text) => Ok(text.extend_from_slice(bytes)?),

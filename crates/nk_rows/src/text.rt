@@ -40,7 +40,7 @@ pub(crate) fn piece_of(
     Ok(Some(bytes))
 }
 
-/// Puts words behind the text, by what their signs stand for.
+/// Puts words after the text, by what their signs stand for.
 pub(crate) fn put_word(alloc: Global, text: &mut Vec<u8>, word: &str) -> Result<(), Fault> {
     put_words(alloc, text, word, None)
 }
@@ -70,7 +70,7 @@ fn put_words(
     }
 }
 
-/// Puts what a letter behind a backslash stands for.
+/// Puts what a letter after a backslash stands for.
 fn put_sign(
     alloc: Global,
     text: &mut Vec<u8>,

@@ -162,7 +162,7 @@ impl Trial<'_> {
         Ok(())
     }
 
-    /// Runs the row on this input, with these calls failing, and keeps what came where it isn't what is due. Behind a run that
+    /// Runs the row on this input, with these calls failing, and keeps what came where it isn't what is due. After a run that
     /// was wrong there is none.
     fn judge(
         &mut self,

@@ -1,4 +1,4 @@
--- Where bad finals are the wrong ends of members, what breaks the goal are the histories that end wrongly.
+-- Where violations are the wrong ends of members, what breaks the goal are the histories that end wrongly.
 use Rattle.std.proofs.Common.{◌≡◌, ℕ, inl, List, [], ◌∷◌, length, refl, subst}
 use Rattle.std.specs.Prelude.{◌↔◌, Contains}
 use Rattle.nk_field.specs.declared.packet.Packet.{Packet}
@@ -9,20 +9,20 @@ use Rattle.nk_policy.specs.Policy.{Policy}
 use Rattle.nk_policy.specs.Meaning.{Gives}
 use Rattle.nk_policy.specs.Distinct.{HasDistinct}
 use Rattle.nk_store.specs.declared.node.Out.{Out}
-use Rattle.nk_store.specs.Held.{Held, IsPacket, AreTidy}
+use Rattle.nk_store.specs.StoreState.{StoreState, IsStorePacket, AreTidy}
 use Rattle.nk_determ.specs.States.{StateLeads}
 use Rattle.nk_determ.specs.Automaton.{IsAutomaton}
-use Rattle.nk_determ.specs.Pairs.{HavePlaces}
+use Rattle.nk_determ.specs.Pairs.{AreLabelsBelow}
 use Rattle.nk_determ.specs.Breaks.{MakesWithTarget}
 use Rattle.nk_determ.specs.Breaks.{Breaks}
 use Rattle.nk_runs.specs.Labels.{IsAmong}
 use Rattle.nk_runs.proofs.Ends.{EndsAt}
 use Rattle.nk_runs.proofs.Walking.{walk_in_range, walks_met, walk_places, ends_given, given_walked}
 
--- of sets of places: the bad finals make, with target 0, exactly the wrong packets at which members' states end
-abbrev pub MakeWrong : Held → List ℕ → (Packet → Type 0) → (List ℕ → List ℕ → List Out) → Type 0
+-- of sets of places: the violations make, with target 0, exactly the wrong packets at which members' states end
+abbrev pub MakeWrong : StoreState → List ℕ → (Packet → Type 0) → (List ℕ → List ℕ → List Out) → Type 0
 MakeWrong st states Wrong bad =
-    (set x y : List ℕ) (target : ℕ) → HavePlaces (length states) set → IsPacket st x
+    (set x y : List ℕ) (target : ℕ) → AreLabelsBelow (length states) set → IsStorePacket st x
     → MakesWithTarget (bad set x) x y target ↔ ((target ≡ 0) × StateLeads st states set x y 0 × Wrong y)
 
 -- a list with an out isn't empty
@@ -34,15 +34,15 @@ some_out : (outs : List Out) → (outs ≡ [] → ⊥) → (o : Out) × Contains
 some_out [] some = absurd (some refl)
 some_out (o ∷ os) some = (o, contains_from_in (o ∷ os) o (inl refl))
 
-module _ (st : Held) (states : List ℕ) (Wrong : Packet → Type 0) (bad : List ℕ → List ℕ → List Out) (made : MakeWrong st states Wrong bad) where
-  -- wherever a member ends wrongly there is a bad final
-  pub is_alert : (set x : List ℕ) → HavePlaces (length states) set → IsPacket st x → EndsAt st states Wrong set x → bad set x ≡ [] → ⊥
+module _ (st : StoreState) (states : List ℕ) (Wrong : Packet → Type 0) (bad : List ℕ → List ℕ → List Out) (made : MakeWrong st states Wrong bad) where
+  -- wherever a member ends wrongly there is a violation
+  pub is_alert : (set x : List ℕ) → AreLabelsBelow (length states) set → IsStorePacket st x → EndsAt st states Wrong set x → bad set x ≡ [] → ⊥
   is_alert set x places r h empty =
       let m = (made set x h.1 0 places r).1 (refl, (h.0, h.2, h.3), h.4) in
       not_none (bad set x) (record { act = m.0; target = 0 }) m.1 empty
 
   -- and only there
-  pub is_right : (set x : List ℕ) → HavePlaces (length states) set → IsPacket st x → (bad set x ≡ [] → ⊥) → EndsAt st states Wrong set x
+  pub is_right : (set x : List ℕ) → AreLabelsBelow (length states) set → IsStorePacket st x → (bad set x ≡ [] → ⊥) → EndsAt st states Wrong set x
   is_right set x places r some =
       let o = some_out (bad set x) some in
       let h = (made set x (applied o.0.act x) o.0.target places r).0 (o.0.act, o.1, refl) in

@@ -9,27 +9,27 @@ use Rattle.nk_policy.specs.Distinct.{HasDistinct}
 use Rattle.nk_policy.proofs.LabelSteps.{gives_at}
 use Rattle.nk_policy.proofs.ListParts.{last_of_list}
 use Rattle.nk_store.specs.declared.node.Out.{Out}
-use Rattle.nk_store.specs.Held.{Held, IsPacket, AreTidy}
+use Rattle.nk_store.specs.StoreState.{StoreState, IsStorePacket, AreTidy}
 use Rattle.nk_determ.specs.Exact.{Sends}
 use Rattle.nk_determ.specs.Automaton.{IsAutomaton}
-use Rattle.nk_determ.specs.Pairs.{Node, HavePlaces, IsPair}
-use Rattle.nk_determ.specs.Levels.{At, InLevel, Bad, AreLevels}
+use Rattle.nk_determ.specs.Pairs.{Node, AreLabelsBelow, IsPair}
+use Rattle.nk_determ.specs.Levels.{At, InLevel, IsViolation, AreLevels}
 use Rattle.nk_determ.proofs.Naming.{named_entry}
 use Rattle.nk_runs.specs.Labels.{IsAmong}
 use Rattle.nk_runs.proofs.Numbers.{at_dup}
-use Rattle.nk_runs.proofs.Steps.{no_member, state_at, known}
+use Rattle.nk_runs.proofs.Steps.{no_member, state_of_dup, known}
 use Rattle.nk_runs.proofs.Labelled.{met_in_range, met_labels, labels_met}
 use Rattle.nk_runs.proofs.TagSets.{under_named}
 
 -- a member's state ends, from this packet, at a wrong one
-abbrev pub EndsAt : Held → List ℕ → (Packet → Type 0) → List ℕ → Packet → Type 0
+abbrev pub EndsAt : StoreState → List ℕ → (Packet → Type 0) → List ℕ → Packet → Type 0
 EndsAt st states Wrong set x = (l : ℕ) × (y : Packet) × Contains set l × Sends st (slice_index states l) x y 0 × Wrong y
 
 -- some history of a start packet ends at a wrong one
 abbrev pub Ended : Policy → (Packet → Type 0) → (Packet → Type 0) → Type 0
 Ended p Start Wrong = (pk : Packet) × (w : List Packet) × (y : Packet) × Start pk × Gives p pk w y × Wrong y
 
-module _ (st : Held) (states : List ℕ) (start : ℕ) (p : Policy) (a : IsAutomaton st states 1 p) (d : HasDistinct p) (tidy : AreTidy st) (Wrong : Packet → Type 0) where
+module _ (st : StoreState) (states : List ℕ) (start : ℕ) (p : Policy) (a : IsAutomaton st states 1 p) (d : HasDistinct p) (tidy : AreTidy st) (Wrong : Packet → Type 0) where
   -- an end of a member of a set that is met is a history's
   pub end_of_history : (i : ℕ) (n : Node) → At st states (0 ∷ []) start i n → EndsAt st states Wrong n.0 n.1
       → Ended p (IsAmong st start) Wrong
@@ -43,7 +43,7 @@ module _ (st : Held) (states : List ℕ) (start : ℕ) (p : Policy) (a : IsAutom
       let range = met_in_range st states start p a d tidy (suc i) n h in
       let at = (l.4.1.1 e.0).0 e.2 in
       let dup = at_dup p l.0 (l.1 ++ n.1 ∷ []) e.0 at in
-      let g = ((state_at st states p a d tidy e.0 dup).ends n.1 e.1 range).0 e.3 in
+      let g = ((state_of_dup st states p a d tidy e.0 dup).ends n.1 e.1 range).0 e.3 in
       (l.0, l.1 ++ n.1 ∷ [], e.1, l.2, (gives_at p d l.0 l.1 n.1 e.1).1 (e.0, at, g), e.4)
 
   -- and a history's end is one of a member of a set that is met
@@ -72,23 +72,23 @@ module _ (st : Held) (states : List ℕ) (start : ℕ) (p : Policy) (a : IsAutom
             n,
             labels_met st states start p a d tidy (suc (length c.0)) n
                 (h.0, c.0, h.3, refl, ((λ none. no_member k.set r.0 none there), k.exactly)),
-            (r.0, h.2, there, ((state_at st states p a d tidy r.0 dup).ends c.1 h.2 range).1 r.2, h.5),
+            (r.0, h.2, there, ((state_of_dup st states p a d tidy r.0 dup).ends c.1 h.2 range).1 r.2, h.5),
           )
 
-module _ (old new : Held) (ss : List (List ℕ)) (states : List ℕ) (set start : ℕ) (bad : List ℕ → List ℕ → List Out) (ls : List (List (ℕ × ℕ))) (p : Policy) (Wrong : Packet → Type 0) (a : IsAutomaton old states 1 p) (d : HasDistinct p) (tidy : AreTidy old) (from : slice_index_or ss set [] ≡ 0 ∷ []) where
+module _ (old new : StoreState) (ss : List (List ℕ)) (states : List ℕ) (set start : ℕ) (bad : List ℕ → List ℕ → List Out) (ls : List (List (ℕ × ℕ))) (p : Policy) (Wrong : Packet → Type 0) (a : IsAutomaton old states 1 p) (d : HasDistinct p) (tidy : AreTidy old) (from : slice_index_or ss set [] ≡ 0 ∷ []) where
   -- the members of a set of a level are places among the states
   pub level_places : (broken : Bool) → AreLevels old new ss states set start bad ls broken → (j : ℕ) (n : Node) → j < length ls
-      → InLevel new ss ls j n → HavePlaces (length states) n.0
+      → InLevel new ss ls j n → AreLabelsBelow (length states) n.0
   level_places broken levels j n lt level =
       let named = under_named new (slice_index_or ls j []) level.0 n.1 level.2 in
       let q = named_entry (IsPair new ss (length states)) (slice_index_or ls j []) level.0 named (levels.pairs j lt).each in
       let e : slice_index_or ss q.0.0 [] ≡ n.0 = ap (λ i. slice_index_or ss i []) q.2 ∙ level.1 in
-      subst (λ s. HavePlaces (length states) s) e q.1.places
+      subst (λ s. AreLabelsBelow (length states) s) e q.1.places
 
-  -- levels without a bad final have none at any level
-  pub never_bad : AreLevels old new ss states set start bad ls false → (j : ℕ) (n : Node) → j < length ls → IsPacket old n.1
-      → InLevel new ss ls j n → Bad bad n → ⊥
-  never_bad levels j n lt good level b =
+  -- levels without a violation have none at any level
+  pub never_violation : AreLevels old new ss states set start bad ls false → (j : ℕ) (n : Node) → j < length ls → IsStorePacket old n.1
+      → InLevel new ss ls j n → IsViolation bad n → ⊥
+  never_violation levels j n lt good level b =
       ⊎_elim
       (λ last.
       let is : j ≡ length ls - 1 = omega (arith, last) in
@@ -97,17 +97,17 @@ module _ (old new : Held) (ss : List (List ℕ)) (states : List ℕ) (set start 
       (numbers_decided (j + 1) (length ls))
 
   -- so no history ends wrongly
-  pub none_ends : ((s x : List ℕ) → HavePlaces (length states) s → IsPacket old x → EndsAt old states Wrong s x → bad s x ≡ [] → ⊥)
+  pub none_ends : ((s x : List ℕ) → AreLabelsBelow (length states) s → IsStorePacket old x → EndsAt old states Wrong s x → bad s x ≡ [] → ⊥)
       → AreLevels old new ss states set start bad ls false → Ended p (IsAmong old start) Wrong → ⊥
   none_ends alert levels h =
       let e = history_of_end old states start p a d tidy Wrong h in
       let n = e.1 in
       let good = met_in_range old states start p a d tidy e.0 n e.2 in
       let c = levels.complete refl e.0 n (subst (λ s. At old states s start e.0 n) (sym from) e.2) in
-      never_bad levels c.0 n c.2 good c.3 (alert n.0 n.1 (level_places false levels c.0 n c.2 c.3) good e.3)
+      never_violation levels c.0 n c.2 good c.3 (alert n.0 n.1 (level_places false levels c.0 n c.2 c.3) good e.3)
 
   -- and where there is one some history does
-  pub some_ends : ((s x : List ℕ) → HavePlaces (length states) s → IsPacket old x → (bad s x ≡ [] → ⊥) → EndsAt old states Wrong s x)
+  pub some_ends : ((s x : List ℕ) → AreLabelsBelow (length states) s → IsStorePacket old x → (bad s x ≡ [] → ⊥) → EndsAt old states Wrong s x)
       → AreLevels old new ss states set start bad ls true → Ended p (IsAmong old start) Wrong
   some_ends right levels =
       let b = levels.broken_at refl in

@@ -7,16 +7,16 @@ use Rattle.nk_policy.specs.Distinct.{HasDistinct}
 use Rattle.nk_policy.specs.Labels.{IsLabelSet}
 use Rattle.nk_policy.proofs.LabelSteps.{at_next}
 use Rattle.nk_policy.proofs.ListParts.{last_of_list}
-use Rattle.nk_store.specs.Held.{Held, IsPacket, AreTidy}
+use Rattle.nk_store.specs.StoreState.{StoreState, IsStorePacket, AreTidy}
 use Rattle.nk_determ.specs.Automaton.{IsAutomaton}
 use Rattle.nk_determ.specs.Pairs.{Node, IsStep}
 use Rattle.nk_determ.specs.Levels.{At}
 use Rattle.nk_runs.specs.Labels.{IsAmong, IsLabelled}
 use Rattle.nk_runs.proofs.Steps.{some_member, no_member, begins, follows, known}
 
-module _ (st : Held) (states : List ℕ) (start : ℕ) (p : Policy) (a : IsAutomaton st states 1 p) (d : HasDistinct p) (tidy : AreTidy st) where
+module _ (st : StoreState) (states : List ℕ) (start : ℕ) (p : Policy) (a : IsAutomaton st states 1 p) (d : HasDistinct p) (tidy : AreTidy st) where
   -- a packet at which a set is met is in range
-  pub met_in_range : (i : ℕ) (n : Node) → At st states (0 ∷ []) start i n → IsPacket st n.1
+  pub met_in_range : (i : ℕ) (n : Node) → At st states (0 ∷ []) start i n → IsStorePacket st n.1
   met_in_range zero n h = h.packet
   met_in_range (suc i) n h = h.2.packet
 

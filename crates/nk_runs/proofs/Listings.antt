@@ -5,7 +5,7 @@ use Rattle.nk_field.proofs.Lists.{In, in_from_contains, contains_from_in, Decide
 use Rattle.nk_field.proofs.Ascending.{Rising, increasing_from}
 use Rattle.nk_policy.specs.Labels.{HasExactly}
 use Rattle.nk_store.specs.declared.node.Out.{Out}
-use Rattle.nk_store.specs.Held.{Held, look}
+use Rattle.nk_store.specs.StoreState.{StoreState, look}
 use Rattle.nk_determ.specs.Exact.{Sends}
 
 -- what is at least a number is that number or above it
@@ -114,7 +114,7 @@ outs_decided pk y t (o ∷ os) =
     by (inr other) b (inr none) = inr (later none (λ g _. other g))
 
 -- whether a diagram sends a packet, made y, to a target
-pub sends_decided : (st : Held) (d : ℕ) (pk y : List ℕ) (t : ℕ) → Decided (Sends st d pk y t)
+pub sends_decided : (st : StoreState) (d : ℕ) (pk y : List ℕ) (t : ℕ) → Decided (Sends st d pk y t)
 sends_decided st d pk y t =
     ⊎_elim
     (λ h. inl (h.0, contains_from_in (look st d pk) (record { act = h.0; target = t }) h.1, h.2))

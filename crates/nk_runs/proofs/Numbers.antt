@@ -3,7 +3,7 @@ use Rattle.std.proofs.Common.{◌≡◌, ℕ, zero, suc, ◌+◌, ◌-◌, ◌<�
 use Rattle.std.specs.List.{range_with_len}
 use Rattle.std.proofs.lemmas.List.Elements.{All-contains, Contains-push}
 use Rattle.nk_field.specs.declared.packet.Packet.{Packet}
-use Rattle.nk_field.proofs.Lists.{In, in_left, in_right, in_either, in_from_contains, in_decided, numbers_decided, Apart}
+use Rattle.nk_field.proofs.Lists.{In, in_left, in_right, in_either, in_from_contains, in_decided, numbers_decided, NoDup}
 use Rattle.nk_policy.specs.Policy.{Policy, Policies, test, range, assign, sum_of, seq_of, not_of, star_of, dup, link, no_part, part, dups_of, dups_of_all, numbers_of, numbers_of_all}
 use Rattle.nk_policy.specs.Progress.{RecordsAt}
 use Rattle.nk_policy.specs.After.{has_dup, after}
@@ -14,33 +14,33 @@ use Rattle.nk_policy.proofs.Remade.{numbers_are}
 -- where an element stands
 record IsSplitAt {X : Type 0} (xs : List X) (x : X) : Type 0 where
   before : List X
-  behind : List X
-  is : xs ≡ before ++ x ∷ behind
+  following : List X
+  is : xs ≡ before ++ x ∷ following
 
 split_at : {X : Type 0} (xs : List X) (x : X) → In xs x → IsSplitAt xs x
 split_at [] x h = absurd h
 split_at (y ∷ ys) x h =
     ⊎_elim
-    (λ e. record { before = []; behind = ys; is = ap (λ z. z ∷ ys) (sym e) })
-    (λ r. let s = split_at ys x r in record { before = y ∷ s.before; behind = s.behind; is = ap (λ l. y ∷ l) s.is })
+    (λ e. record { before = []; following = ys; is = ap (λ z. z ∷ ys) (sym e) })
+    (λ r. let s = split_at ys x r in record { before = y ∷ s.before; following = s.following; is = ap (λ l. y ∷ l) s.is })
     h
 
 -- elements without doubles that stand in a list are at most as many as it has
-pub apart_fit : {X : Type 0} (xs ys : List X) → Apart xs → ((x : X) → In xs x → In ys x) → length xs ≤ length ys
-apart_fit [] ys a h = omega arith
-apart_fit {X} (x ∷ xs) ys a h =
+pub no_dup_fit : {X : Type 0} (xs ys : List X) → NoDup xs → ((x : X) → In xs x → In ys x) → length xs ≤ length ys
+no_dup_fit [] ys a h = omega arith
+no_dup_fit {X} (x ∷ xs) ys a h =
     let s = split_at ys x (h x (inl refl)) in
-    let less = apart_fit xs (s.before ++ s.behind) a.1 (λ y i. others s y i) in
-    let many : length ys ≡ length s.before + length (x ∷ s.behind) = ap length s.is ∙ length-append s.before (x ∷ s.behind) in
-    let fewer : length (s.before ++ s.behind) ≡ length s.before + length s.behind = length-append s.before s.behind in
+    let less = no_dup_fit xs (s.before ++ s.following) a.1 (λ y i. others s y i) in
+    let many : length ys ≡ length s.before + length (x ∷ s.following) = ap length s.is ∙ length-append s.before (x ∷ s.following) in
+    let fewer : length (s.before ++ s.following) ≡ length s.before + length s.following = length-append s.before s.following in
     omega (arith, less, many, fewer)
   where
-    others : (s : IsSplitAt ys x) (y : X) → In xs y → In (s.before ++ s.behind) y
+    others : (s : IsSplitAt ys x) (y : X) → In xs y → In (s.before ++ s.following) y
     others s y i =
         ⊎_elim
-        (λ l. in_left s.before s.behind y l)
-        (λ r. ⊎_elim (λ e. absurd (a.0 (subst (λ z. In xs z) e i))) (λ j. in_right s.before s.behind y j) r)
-        (in_either s.before (x ∷ s.behind) y (subst (λ l. In l y) s.is (h y (inr i))))
+        (λ l. in_left s.before s.following y l)
+        (λ r. ⊎_elim (λ e. absurd (a.0 (subst (λ z. In xs z) e i))) (λ j. in_right s.before s.following y j) r)
+        (in_either s.before (x ∷ s.following) y (subst (λ l. In l y) s.is (h y (inr i))))
 
 -- a number of numbers in a row
 range_in : (a n l : ℕ) → In (range_with_len a n) l → (a ≤ l) × (l < a + n)
@@ -51,9 +51,9 @@ range_in a (suc n) l h =
     (λ r. let b = range_in (a + 1) n l r in (omega (arith, b.0), omega (arith, b.1)))
     h
 
-range_apart : (a n : ℕ) → Apart (range_with_len a n)
-range_apart a zero = tt
-range_apart a (suc n) = (λ i. let b = range_in (a + 1) n a i in omega (arith, b.0), range_apart (a + 1) n)
+range_no_dup : (a n : ℕ) → NoDup (range_with_len a n)
+range_no_dup a zero = tt
+range_no_dup a (suc n) = (λ i. let b = range_in (a + 1) n a i in omega (arith, b.0), range_no_dup (a + 1) n)
 
 range_count : (a n : ℕ) → length (range_with_len a n) ≡ n
 range_count a zero = refl
@@ -102,7 +102,7 @@ dup_within p all l h =
 
     too_many : (In (range_with_len 1 (dups_of p)) l → ⊥) → ⊥
     too_many new =
-        let le = apart_fit (l ∷ range_with_len 1 (dups_of p)) (numbers_of p) (new, range_apart 1 (dups_of p)) each in
+        let le = no_dup_fit (l ∷ range_with_len 1 (dups_of p)) (numbers_of p) (new, range_no_dup 1 (dups_of p)) each in
         omega (arith, le, range_count 1 (dups_of p), count_numbers p)
 
 -- what is recorded, at once or after more, is recorded at one of the policy's dups

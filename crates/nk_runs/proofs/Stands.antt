@@ -4,17 +4,17 @@ use Rattle.std.specs.Prelude.{slice_index}
 use Rattle.nk_policy.specs.Policy.{Policy, dups_of}
 use Rattle.nk_policy.specs.After.{after}
 use Rattle.nk_store.specs.Nodes.{InRange}
-use Rattle.nk_store.specs.Held.{Held, IsId, IsPacket, Grows}
+use Rattle.nk_store.specs.StoreState.{StoreState, IsId, IsStorePacket, Grows}
 use Rattle.nk_determ.specs.Automaton.{IsState, IsAutomaton}
 use Rattle.nk_determ.proofs.Sending.{sends_on, sends_back}
 use Rattle.nk_determ.specs.Pairs.{AreStates}
 
 -- a packet of the grown store is one of the old store
-pub packet_back : (old new : Held) (pk : List ℕ) → Grows old new → IsPacket new pk → IsPacket old pk
+pub packet_back : (old new : StoreState) (pk : List ℕ) → Grows old new → IsStorePacket new pk → IsStorePacket old pk
 packet_back old new pk g h = subst (λ m. InRange m pk) g.maxes h
 
 -- a state stands
-pub state_on : (old new : Held) (d : ℕ) (p : Policy) → IsState old d p → Grows old new → IsState new d p
+pub state_on : (old new : StoreState) (d : ℕ) (p : Policy) → IsState old d p → Grows old new → IsState new d p
 state_on old new d p s g = record {
   id = g.ids d s.id;
   ends = λ pk y r.
@@ -26,7 +26,7 @@ state_on old new d p s g = record {
 }
 
 -- each state is a diagram
-pub state_id : (st : Held) (states : List ℕ) (first : ℕ) (p : Policy) → IsAutomaton st states first p
+pub state_id : (st : StoreState) (states : List ℕ) (first : ℕ) (p : Policy) → IsAutomaton st states first p
     → (i : ℕ) → i < length states → IsId st (slice_index states i)
 state_id st states first p a zero lt = a.start.id
 state_id st states first p a (suc i) lt =
@@ -35,7 +35,7 @@ state_id st states first p a (suc i) lt =
     subst (λ k. IsId st (slice_index states k)) e (a.rest i less).id
 
 -- the automaton stands
-pub stands : (st new : Held) (states : List ℕ) (first : ℕ) (p : Policy) → IsAutomaton st states first p → Grows st new
+pub stands : (st new : StoreState) (states : List ℕ) (first : ℕ) (p : Policy) → IsAutomaton st states first p → Grows st new
     → IsAutomaton new states first p
 stands st new states first p a g = record {
   count = a.count;
@@ -47,7 +47,7 @@ stands st new states first p a g = record {
 }
 
 -- levels can be made of its states
-pub are_states : (st : Held) (states : List ℕ) (p : Policy) → IsAutomaton st states 1 p → AreStates st states
+pub are_states : (st : StoreState) (states : List ℕ) (p : Policy) → IsAutomaton st states 1 p → AreStates st states
 are_states st states p a = record {
   ids = λ k lt. state_id st states 1 p a k lt;
   targets = λ l pk y t lt r s.

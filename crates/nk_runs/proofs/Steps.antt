@@ -11,7 +11,7 @@ use Rattle.nk_policy.specs.Labels.{HasRecorded, HasExactly, IsLabelSet}
 use Rattle.nk_policy.proofs.LabelSteps.{at_first, at_next, sets_follow}
 use Rattle.nk_policy.proofs.ListParts.{last_of_list}
 use Rattle.nk_policy.proofs.Tests.{false_true}
-use Rattle.nk_store.specs.Held.{Held, IsPacket, AreTidy}
+use Rattle.nk_store.specs.StoreState.{StoreState, IsStorePacket, AreTidy}
 use Rattle.nk_determ.specs.Exact.{Sends}
 use Rattle.nk_determ.specs.States.{StateLeads}
 use Rattle.nk_determ.specs.Automaton.{IsState, IsAutomaton}
@@ -34,19 +34,19 @@ pub only_member : (l k : ℕ) → Contains (k ∷ []) l → l ≡ k
 only_member l k c = ⊎_elim (λ e. e) (λ i. absurd i) (in_from_contains (k ∷ []) l c)
 
 -- all labels after some records, and that the last packet is in range where there are any
-pub record Known (st : Held) (p : Policy) (pk : Packet) (u : List Packet) (x : Packet) : Type 0 where
+pub record Known (st : StoreState) (p : Policy) (pk : Packet) (u : List Packet) (x : Packet) : Type 0 where
   pub set : List ℕ
   pub exactly : HasExactly (HasRecorded p pk (u ++ x ∷ [])) set
-  pub range : (l : ℕ) → HasRecorded p pk (u ++ x ∷ []) l → IsPacket st x
+  pub range : (l : ℕ) → HasRecorded p pk (u ++ x ∷ []) l → IsStorePacket st x
 
 -- what is decided of one is decided of the other
 decided_by : {P Q : Type 0} → P ↔ Q → Decided P → Decided Q
 decided_by e k = ⊎_elim (λ h. inl (e.0 h)) (λ no. inr (λ h. no (e.1 h))) k
 
-module _ (st : Held) (states : List ℕ) (p : Policy) (a : IsAutomaton st states 1 p) (d : HasDistinct p) (tidy : AreTidy st) where
+module _ (st : StoreState) (states : List ℕ) (p : Policy) (a : IsAutomaton st states 1 p) (d : HasDistinct p) (tidy : AreTidy st) where
   -- the state of a dup
-  pub state_at : (l : ℕ) → has_dup p l ≡ true → IsState st (slice_index states l) (after p l)
-  state_at l h =
+  pub state_of_dup : (l : ℕ) → has_dup p l ≡ true → IsState st (slice_index states l) (after p l)
+  state_of_dup l h =
       let b = dup_within p a.labels l h in
       let lt : l - 1 < dups_of p = omega (arith, b.0, b.1) in
       let e : 1 + (l - 1) ≡ l = omega (arith, b.0) in
@@ -58,7 +58,7 @@ module _ (st : Held) (states : List ℕ) (p : Policy) (a : IsAutomaton st states
 
   -- a step to the labels that R holds of
   step_is : (s : List ℕ) (x y : Packet) (t : List ℕ) (R : ℕ → Type 0)
-      → ((l : ℕ) → ((0 < l) × StateLeads st states s x y l) ↔ R l) → ((l : ℕ) → R l → IsPacket st y)
+      → ((l : ℕ) → ((0 < l) × StateLeads st states s x y l) ↔ R l) → ((l : ℕ) → R l → IsStorePacket st y)
       → IsStep st states (s, x) (t, y) ↔ ((t ≡ [] → ⊥) × HasExactly R t)
   step_is s x y t R both range = (
     λ h. (h.some, (h.ascend, λ l. (λ c. (both l).0 ((h.every l).0 c), λ r. (h.every l).1 ((both l).1 r)))),
@@ -71,7 +71,7 @@ module _ (st : Held) (states : List ℕ) (p : Policy) (a : IsAutomaton st states
   )
 
   -- what the start records
-  pub start_leads : (pk y : Packet) → IsPacket st pk → (l : ℕ)
+  pub start_leads : (pk y : Packet) → IsStorePacket st pk → (l : ℕ)
       → ((0 < l) × StateLeads st states (0 ∷ []) pk y l) ↔ RecordsAt p pk [] y l
   start_leads pk y r l = (
     λ h.
@@ -85,23 +85,23 @@ module _ (st : Held) (states : List ℕ) (p : Policy) (a : IsAutomaton st states
   )
 
   -- what the members of a set of dups record
-  pub members_lead : (s : List ℕ) (x y : Packet) → ((l : ℕ) → Contains s l → has_dup p l ≡ true) → IsPacket st x → (l' : ℕ)
+  pub members_lead : (s : List ℕ) (x y : Packet) → ((l : ℕ) → Contains s l → has_dup p l ≡ true) → IsStorePacket st x → (l' : ℕ)
       → ((0 < l') × StateLeads st states s x y l') ↔ ((l : ℕ) × Contains s l × RecordsAt (after p l) x [] y l')
   members_lead s x y dups r l' = (
     λ h.
         let lead = h.1 in
-        (lead.0, lead.1, ((state_at lead.0 (dups lead.0 lead.1)).records x y l' r h.0).0 lead.2),
+        (lead.0, lead.1, ((state_of_dup lead.0 (dups lead.0 lead.1)).records x y l' r h.0).0 lead.2),
     λ h.
         let lt : 1 ≤ l' = above l' (rest_record_dup p h.0 x y l' h.2) in
-        (lt, (h.0, h.1, ((state_at h.0 (dups h.0 h.1)).records x y l' r lt).1 h.2)),
+        (lt, (h.0, h.1, ((state_of_dup h.0 (dups h.0 h.1)).records x y l' r lt).1 h.2)),
   )
 
   -- a packet that is led to is in range
-  pub led_in_range : (s : List ℕ) (x y : Packet) (l : ℕ) → IsPacket st x → StateLeads st states s x y l → IsPacket st y
+  pub led_in_range : (s : List ℕ) (x y : Packet) (l : ℕ) → IsStorePacket st x → StateLeads st states s x y l → IsStorePacket st y
   led_in_range s x y l r h = sent_in_range st (slice_index states h.0) x y l tidy r h.2
 
   -- the first step
-  pub begins : (pk y : Packet) (t : List ℕ) → IsPacket st pk
+  pub begins : (pk y : Packet) (t : List ℕ) → IsStorePacket st pk
       → IsStep st states (0 ∷ [], pk) (t, y) ↔ IsLabelSet p pk (y ∷ []) t
   begins pk y t r =
       let i = step_is (0 ∷ []) pk y t (λ l. RecordsAt p pk [] y l) (start_leads pk y r)
@@ -116,7 +116,7 @@ module _ (st : Held) (states : List ℕ) (p : Policy) (a : IsAutomaton st states
   members_are_dups pk u s h l c = at_dup p pk u l ((h.1 l).0 c)
 
   -- each further step
-  pub follows : (pk : Packet) (u : List Packet) (x y : Packet) (s t : List ℕ) → IsPacket st x
+  pub follows : (pk : Packet) (u : List Packet) (x y : Packet) (s t : List ℕ) → IsStorePacket st x
       → HasExactly (HasRecorded p pk (u ++ x ∷ [])) s
       → IsStep st states (s, x) (t, y) ↔ IsLabelSet p pk ((u ++ x ∷ []) ++ y ∷ []) t
   follows pk u x y s t r h =
@@ -129,21 +129,21 @@ module _ (st : Held) (states : List ℕ) (p : Policy) (a : IsAutomaton st states
 
   -- from deciding each label
   from_decided : (pk : Packet) (u : List Packet) (x : Packet) → ((l : ℕ) → Decided (HasRecorded p pk (u ++ x ∷ []) l))
-      → ((l : ℕ) → HasRecorded p pk (u ++ x ∷ []) l → IsPacket st x) → Known st p pk u x
+      → ((l : ℕ) → HasRecorded p pk (u ++ x ∷ []) l → IsStorePacket st x) → Known st p pk u x
   from_decided pk u x decided range =
       let all = all_listed (λ l. HasRecorded p pk (u ++ x ∷ []) l) decided (1 + dups_of p)
       (λ l h. let b = dup_within p a.labels l (at_dup p pk (u ++ x ∷ []) l h) in omega (arith, b.1)) in
       record { set = all.0; exactly = all.1; range = range }
 
   -- whether a state records the packet at a label
-  state_decided : (q : Policy) (i : ℕ) (pk y : Packet) (l : ℕ) → IsState st (slice_index states i) q → IsPacket st pk
+  state_decided : (q : Policy) (i : ℕ) (pk y : Packet) (l : ℕ) → IsState st (slice_index states i) q → IsStorePacket st pk
       → (RecordsAt q pk [] y l → 1 ≤ l) → Decided (RecordsAt q pk [] y l)
   state_decided q i pk y zero s r low = inr (λ h. let le = low h in omega (arith, le))
   state_decided q i pk y (suc l) s r low =
       let le : 1 ≤ suc l = omega arith in
       decided_by (s.records pk y (suc l) r le) (sends_decided st (slice_index states i) pk y (suc l))
 
-  first_known : (pk y : Packet) → IsPacket st pk → Known st p pk [] y
+  first_known : (pk y : Packet) → IsStorePacket st pk → Known st p pk [] y
   first_known pk y r = from_decided pk [] y
       (λ l. let e = at_first p d pk y l in
       decided_by (e.1, e.0) (state_decided p 0 pk y l a.start r (λ h. above l (record_dup p pk [] y l h))))
@@ -155,18 +155,18 @@ module _ (st : Held) (states : List ℕ) (p : Policy) (a : IsAutomaton st states
       dups : (l : ℕ) → Contains k.set l → has_dup p l ≡ true
       dups = members_are_dups pk (u ++ x ∷ []) k.set k.exactly
 
-      range : (l : ℕ) → HasRecorded p pk ((u ++ x ∷ []) ++ y ∷ []) l → IsPacket st y
+      range : (l : ℕ) → HasRecorded p pk ((u ++ x ∷ []) ++ y ∷ []) l → IsStorePacket st y
       range l h =
           let b = (at_next p d pk u x y l).0 h in
           let r = k.range b.0 b.1 in
           led_in_range k.set x y l r ((members_lead k.set x y dups r l).1 (b.0, (k.exactly.1 b.0).1 b.1, b.2)).1
 
       -- whether a dup records the packet at the label, from a packet in range
-      by_dup : IsPacket st x → (l' l : ℕ) (b : Bool) → has_dup p l ≡ b
+      by_dup : IsStorePacket st x → (l' l : ℕ) (b : Bool) → has_dup p l ≡ b
           → Decided ((has_dup p l ≡ true) × RecordsAt (after p l) x [] y l')
       by_dup r l' l true e =
           decided_by ((λ q. (e, q)), (λ q. q.1))
-          (state_decided (after p l) l x y l' (state_at l e) r (λ h. above l' (rest_record_dup p l x y l' h)))
+          (state_decided (after p l) l x y l' (state_of_dup l e) r (λ h. above l' (rest_record_dup p l x y l' h)))
       by_dup r l' l false e = inr (λ q. false_true (sym e ∙ q.0))
 
       -- whether some member does
@@ -176,7 +176,7 @@ module _ (st : Held) (states : List ℕ) (p : Policy) (a : IsAutomaton st states
       by_set l' (m ∷ s) e =
           let place : 0 < length (m ∷ s) = omega arith in
           let one : Contains k.set m = subst (λ z. Contains z m) (sym e) (0, place, refl) in
-          let r : IsPacket st x = k.range m ((k.exactly.1 m).0 one) in
+          let r : IsStorePacket st x = k.range m ((k.exactly.1 m).0 one) in
           decided_by (
             (λ h. (at_next p d pk u x y l').1 (h.0, (k.exactly.1 h.0).0 (contains_from_in k.set h.0 h.1), h.2.1)),
             (λ h.
@@ -190,7 +190,7 @@ module _ (st : Held) (states : List ℕ) (p : Policy) (a : IsAutomaton st states
       decided l = by_set l k.set refl
 
   -- all labels after any records from a packet in range
-  pub known : (n : ℕ) (pk : Packet) (u : List Packet) (x : Packet) → length u ≡ n → IsPacket st pk → Known st p pk u x
+  pub known : (n : ℕ) (pk : Packet) (u : List Packet) (x : Packet) → length u ≡ n → IsStorePacket st pk → Known st p pk u x
   known zero pk [] x e r = first_known pk x r
   known zero pk (b ∷ u) x e r = absurd (omega (arith, e))
   known (suc n) pk [] x e r = absurd (omega (arith, e))

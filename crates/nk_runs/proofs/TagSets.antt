@@ -17,7 +17,7 @@ use Rattle.nk_policy.proofs.ListParts.{last_of_list}
 use Rattle.nk_policy.proofs.LinkStructure.{holds_first, on_link, off_link_at_sources}
 use Rattle.nk_policy.proofs.Parity.{bound_of, dups_below, odd_at, even_at}
 use Rattle.nk_store.specs.declared.node.Out.{Out}
-use Rattle.nk_store.specs.Held.{Held, IsPacket, Grows, AreTidy}
+use Rattle.nk_store.specs.StoreState.{StoreState, IsStorePacket, Grows, AreTidy}
 use Rattle.nk_determ.specs.Sets.{HasEachSetOnce}
 use Rattle.nk_determ.specs.Automaton.{IsAutomaton}
 use Rattle.nk_determ.specs.Pairs.{Node, Named, Under, EachPair, IsPair}
@@ -30,7 +30,7 @@ use Rattle.nk_runs.proofs.Stands.{packet_back}
 use Rattle.nk_runs.proofs.Steps.{some_member}
 use Rattle.nk_runs.proofs.Labelled.{met_in_range, met_labels, labels_met}
 
--- the second dup of a literal isn't the first of another one: else the dups behind it would go on without end
+-- the second dup of a literal isn't the first of another one: else the dups after it would go on without end
 climbs : (p : Policy) → HasDistinct p → has_leaf is_dup p ≡ false → (n : ℕ) (j k : Literal)
     → HoldsLiteral p j → HoldsLiteral p k → k.mark ≡ j.mark + 1 → bound_of p ≤ k.mark + n → ⊥
 climbs p d loose zero j k hj hk e most = let lt = dups_below p k.mark (holds_first p k hk) in omega (arith, lt, most)
@@ -60,14 +60,14 @@ halves (suc i) = by (halves i)
     by (inr r) = inl (r.0 + 1, omega (arith, r.1))
 
 -- what stands under a set is of an entry that names it
-pub under_named : (st : Held) (ps : List (ℕ × ℕ)) (s : ℕ) (x : Packet) → Under st ps s x → Named ps s
+pub under_named : (st : StoreState) (ps : List (ℕ × ℕ)) (s : ℕ) (x : Packet) → Under st ps s x → Named ps s
 under_named st [] s x h = h
 under_named st (q ∷ ps) s x (inl h) = inl h.0
 under_named st (q ∷ ps) s x (inr h) = inr (under_named st ps s x h)
 
 -- under a set that is named stands a packet, where all entries have some
-named_filled : (st : Held) (ps : List (ℕ × ℕ)) (s : ℕ) → Named ps s → EachPair (λ q. IsFilled st q.1) ps
-    → (x : Packet) × IsPacket st x × Under st ps s x
+named_filled : (st : StoreState) (ps : List (ℕ × ℕ)) (s : ℕ) → Named ps s → EachPair (λ q. IsFilled st q.1) ps
+    → (x : Packet) × IsStorePacket st x × Under st ps s x
 named_filled st [] s h e = absurd h
 named_filled st (q ∷ ps) s (inl is) e = (e.0.0, e.0.1, inl (is, e.0.2))
 named_filled st (q ∷ ps) s (inr h) e = let r = named_filled st ps s h e.1 in (r.0, r.1, inr r.2)
@@ -88,13 +88,13 @@ mapped_once f (x ∷ xs) own w = (
   mapped_once f xs (λ y z i j. own y z (inr i) (inr j)) w.1,
 )
 
-module _ (old new : Held) (ss : List (List ℕ)) (states : List ℕ) (set start : ℕ) (bad : List ℕ → List ℕ → List Out) (ls : List (List (ℕ × ℕ))) (p : Policy) (a : IsAutomaton old states 1 p) (d : HasDistinct p) (tidy : AreTidy old) (from : slice_index_or ss set [] ≡ 0 ∷ []) (levels : AreLevels old new ss states set start bad ls false) where
+module _ (old new : StoreState) (ss : List (List ℕ)) (states : List ℕ) (set start : ℕ) (bad : List ℕ → List ℕ → List Out) (ls : List (List (ℕ × ℕ))) (p : Policy) (a : IsAutomaton old states 1 p) (d : HasDistinct p) (tidy : AreTidy old) (from : slice_index_or ss set [] ≡ 0 ∷ []) (levels : AreLevels old new ss states set start bad ls false) where
   -- a shorter name
   abbrev Start : Packet → Type 0
   Start = IsAmong old start
 
   -- where a set is met, from the start set
-  pub sound : (i : ℕ) (n : Node) → i < length ls → IsPacket old n.1 → InLevel new ss ls i n → At old states (0 ∷ []) start i n
+  pub sound : (i : ℕ) (n : Node) → i < length ls → IsStorePacket old n.1 → InLevel new ss ls i n → At old states (0 ∷ []) start i n
   sound i n lt good h = subst (λ s. At old states s start i n) from (levels.exact.sound i n lt good h)
 
   -- and each level that has it
@@ -102,7 +102,7 @@ module _ (old new : Held) (ss : List (List ℕ)) (states : List ℕ) (set start 
       → (j : ℕ) × (j ≤ i) × (j < length ls) × InLevel new ss ls j n
   complete i n h = levels.complete refl i n (subst (λ s. At old states s start i n) (sym from) h)
 
-  -- the records behind a set that is met after the start
+  -- the records after a set that is met after the start
   records_at : (i : ℕ) (n : Node) → At old states (0 ∷ []) start (suc i) n
       → (pk : Packet) × (u : List Packet) × Start pk × (length u ≡ suc i) × IsLabelSet p pk u n.0
   records_at i n h =
@@ -185,7 +185,7 @@ module _ (old new : Held) (ss : List (List ℕ)) (states : List ℕ) (set start 
         let c = complete (suc (2 * m)) (s, at.0) at.1 in
         by at.0 (met_in_range old states start p a d tidy (suc (2 * m)) (s, at.0) at.1) c.0 c.1 c.2 c.3 (halves c.0)
       where
-        by : (x : Packet) → IsPacket old x → (j : ℕ) → j ≤ suc (2 * m) → j < length ls → InLevel new ss ls j (s, x)
+        by : (x : Packet) → IsStorePacket old x → (j : ℕ) → j ≤ suc (2 * m) → j < length ls → InLevel new ss ls j (s, x)
             → ((k : ℕ) × (j ≡ 2 * k)) ⊎ ((k : ℕ) × (j ≡ 2 * k + 1))
             → (i : ℕ) × (k : ℕ) × (k ≤ m) × Named (odd_level ls k) i × (members ss i ≡ s)
         by x good j le lt level (inl even) = absurd (not_even m pk u s x e l even.0 (subst (λ i. At old states (0 ∷ []) start i (s, x)) even.1 (sound j (s, x) lt good level)))

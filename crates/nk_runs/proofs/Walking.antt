@@ -13,19 +13,19 @@ use Rattle.nk_policy.specs.PositionSets.{at_position, IsPosition, last_from, IsN
 use Rattle.nk_policy.proofs.LabelSteps.{at_next}
 use Rattle.nk_policy.proofs.ListParts.{last_of_list}
 use Rattle.nk_policy.proofs.PositionSteps.{gives_from_position, one_set, start_set}
-use Rattle.nk_store.specs.Held.{Held, IsPacket, AreTidy}
+use Rattle.nk_store.specs.StoreState.{StoreState, IsStorePacket, AreTidy}
 use Rattle.nk_determ.specs.States.{StateLeads}
 use Rattle.nk_determ.specs.Automaton.{IsState, IsAutomaton}
-use Rattle.nk_determ.specs.Pairs.{Node, HavePlaces, IsStep}
+use Rattle.nk_determ.specs.Pairs.{Node, AreLabelsBelow, IsStep}
 use Rattle.nk_determ.specs.Breaks.{Walks}
-use Rattle.nk_runs.specs.Walked.{IsMetBehind}
+use Rattle.nk_runs.specs.Walked.{IsMetAfter}
 use Rattle.nk_runs.proofs.Numbers.{dup_within, at_dup}
-use Rattle.nk_runs.proofs.Steps.{Known, some_member, no_member, begins, follows, known, state_at}
+use Rattle.nk_runs.proofs.Steps.{Known, some_member, no_member, begins, follows, known, state_of_dup}
 
 -- what a walk leads to from a packet in range is in range
-pub walk_in_range : (st : Held) (states : List ℕ) (u : List Packet) (m n : Node) → IsPacket st m.1
-    → Walks (IsStep st states) m u n → IsPacket st n.1
-walk_in_range st states [] m n r w = subst (λ (k : Node). IsPacket st k.1) w r
+pub walk_in_range : (st : StoreState) (states : List ℕ) (u : List Packet) (m n : Node) → IsStorePacket st m.1
+    → Walks (IsStep st states) m u n → IsStorePacket st n.1
+walk_in_range st states [] m n r w = subst (λ (k : Node). IsStorePacket st k.1) w r
 walk_in_range st states (y ∷ u) m n r w = walk_in_range st states u (w.0, y) n w.1.packet w.2
 
 -- where no dup has the number 0, label 0 is the start alone
@@ -33,7 +33,7 @@ no_zero : (p : Policy) (b : Bool) → has_dup p 0 ≡ b → ((l : ℕ) → has_d
 no_zero p true e low = absurd (let lt = low 0 e in omega (arith, lt))
 no_zero p false e low = e
 
-module _ (st : Held) (states : List ℕ) (p : Policy) (a : IsAutomaton st states 1 p) (d : HasDistinct p) (tidy : AreTidy st) where
+module _ (st : StoreState) (states : List ℕ) (p : Policy) (a : IsAutomaton st states 1 p) (d : HasDistinct p) (tidy : AreTidy st) where
   -- the dups are numbered from 1 on
   numbered : IsNumbered p
   numbered = record {
@@ -50,9 +50,9 @@ module _ (st : Held) (states : List ℕ) (p : Policy) (a : IsAutomaton st states
       let c = (at_next p d pk g y z b.0).0 b.1 in
       (c.0, c.1)
 
-  -- so there is a label set behind that record, and its packet is in range
-  front_set : (u g : List Packet) (pk y : Packet) (s : List ℕ) → IsPacket st pk → IsLabelSet p pk ((g ++ y ∷ []) ++ u) s
-      → (t : List ℕ) × IsLabelSet p pk (g ++ y ∷ []) t × IsPacket st y
+  -- so there is a label set after that record, and its packet is in range
+  front_set : (u g : List Packet) (pk y : Packet) (s : List ℕ) → IsStorePacket st pk → IsLabelSet p pk ((g ++ y ∷ []) ++ u) s
+      → (t : List ℕ) × IsLabelSet p pk (g ++ y ∷ []) t × IsStorePacket st y
   front_set u g pk y s r h =
       let k : Known st p pk g y = known st states p a d tidy (length g) pk g y refl r in
       let one = some_member s h.0 in
@@ -61,7 +61,7 @@ module _ (st : Held) (states : List ℕ) (p : Policy) (a : IsAutomaton st states
       (k.set, ((λ none. no_member k.set front.0 none there), k.exactly), k.range front.0 front.1)
 
   -- a walk from a label set leads to one
-  walk_on : (u f : List Packet) (pk x : Packet) (s : List ℕ) (n : Node) → IsPacket st x → IsLabelSet p pk (f ++ x ∷ []) s
+  walk_on : (u f : List Packet) (pk x : Packet) (s : List ℕ) (n : Node) → IsStorePacket st x → IsLabelSet p pk (f ++ x ∷ []) s
       → Walks (IsStep st states) (s, x) u n → IsLabelSet p pk ((f ++ x ∷ []) ++ u) n.0 × (n.1 ≡ last_from x u)
   walk_on [] f pk x s n r h w = (
     subst (λ v. IsLabelSet p pk v n.0) (sym (append-nil (f ++ x ∷ [])))
@@ -73,8 +73,8 @@ module _ (st : Held) (states : List ℕ) (p : Policy) (a : IsAutomaton st states
       let k = walk_on u (f ++ x ∷ []) pk y w.0 n w.1.packet b w.2 in
       (subst (λ v. IsLabelSet p pk v n.0) (append_assoc (f ++ x ∷ []) (y ∷ []) u) k.0, k.1)
 
-  -- and each label set behind more records is walked to
-  walk_to : (u f : List Packet) (pk x : Packet) (s : List ℕ) (n : Node) → IsPacket st pk → IsPacket st x
+  -- and each label set after more records is walked to
+  walk_to : (u f : List Packet) (pk x : Packet) (s : List ℕ) (n : Node) → IsStorePacket st pk → IsStorePacket st x
       → IsLabelSet p pk (f ++ x ∷ []) s → IsLabelSet p pk ((f ++ x ∷ []) ++ u) n.0 → n.1 ≡ last_from x u
       → Walks (IsStep st states) (s, x) u n
   walk_to [] f pk x s n b r h k e =
@@ -89,13 +89,13 @@ module _ (st : Held) (states : List ℕ) (p : Policy) (a : IsAutomaton st states
       (t.0, (follows st states p a d tidy pk f x y s t.0 r h.1).1 t.1, walk_to u (f ++ x ∷ []) pk y t.0 n b t.2 t.1 long e)
 
   -- walks from the start are runs, both ways
-  pub walks_met : (pk : Packet) (u : List Packet) (n : Node) → IsPacket st pk
-      → Walks (IsStep st states) (0 ∷ [], pk) u n ↔ IsMetBehind p pk u n
+  pub walks_met : (pk : Packet) (u : List Packet) (n : Node) → IsStorePacket st pk
+      → Walks (IsStep st states) (0 ∷ [], pk) u n ↔ IsMetAfter p pk u n
   walks_met pk [] n r =
-      let begun : IsMetBehind p pk [] (0 ∷ [], pk) = (((λ e. cc), start_set), refl) in
+      let begun : IsMetAfter p pk [] (0 ∷ [], pk) = (((λ e. cc), start_set), refl) in
       let with_packet : List ℕ → Node = λ z. (z, pk) in
       let with_set : Packet → Node = λ z. (n.0, z) in (
-        λ w. subst (λ m. IsMetBehind p pk [] m) w begun,
+        λ w. subst (λ m. IsMetAfter p pk [] m) w begun,
         λ h. ap with_packet (one_set (λ l. l ≡ 0) (0 ∷ []) n.0 start_set h.0.1) ∙ ap with_set (sym h.1),
       )
   walks_met pk (x ∷ u) n r = (
@@ -114,16 +114,16 @@ module _ (st : Held) (states : List ℕ) (p : Policy) (a : IsAutomaton st states
   position_state pk (y ∷ u) (suc l) h =
       let dup = at_dup p pk (y ∷ u) (suc l) h in
       let b = (dup_within p a.labels (suc l) dup).1 in
-      (state_at st states p a d tidy (suc l) dup, omega (arith, b, a.count))
+      (state_of_dup st states p a d tidy (suc l) dup, omega (arith, b, a.count))
 
   -- where a walk leads the members are places among the states
-  pub walk_places : (pk : Packet) (u : List Packet) (n : Node) → IsMetBehind p pk u n → HavePlaces (length states) n.0
+  pub walk_places : (pk : Packet) (u : List Packet) (n : Node) → IsMetAfter p pk u n → AreLabelsBelow (length states) n.0
   walk_places pk u n m =
       all_from_members (λ l. l < length states) n.0
       (λ l i. (position_state pk u l ((m.0.1.1 l).0 (contains_from_in n.0 l i))).1)
 
   -- the histories with these records are the ends of members where the walk leads
-  pub ends_given : (pk : Packet) (u : List Packet) (n : Node) (last : Packet) → IsPacket st pk
+  pub ends_given : (pk : Packet) (u : List Packet) (n : Node) (last : Packet) → IsStorePacket st pk
       → Walks (IsStep st states) (0 ∷ [], pk) u n → Gives p pk u last ↔ StateLeads st states n.0 n.1 last 0
   ends_given pk u n last r w =
       let m = (walks_met pk u n r).0 w in
@@ -140,7 +140,7 @@ module _ (st : Held) (states : List ℕ) (p : Policy) (a : IsAutomaton st states
       )
 
   -- and each history's records are walked
-  pub given_walked : (pk : Packet) (u : List Packet) (last : Packet) → IsPacket st pk → Gives p pk u last
+  pub given_walked : (pk : Packet) (u : List Packet) (last : Packet) → IsStorePacket st pk → Gives p pk u last
       → (n : Node) × Walks (IsStep st states) (0 ∷ [], pk) u n
   given_walked pk [] last r g = ((0 ∷ [], pk), refl)
   given_walked pk (x ∷ u) last r g =
@@ -149,8 +149,8 @@ module _ (st : Held) (states : List ℕ) (p : Policy) (a : IsAutomaton st states
       let n : Node = (s.0, last_from pk (x ∷ u)) in
       (n, (walks_met pk (x ∷ u) n r).1 (s.1, refl))
     where
-      -- a label set behind records after which a run is somewhere
-      all_at : (pk x : Packet) (u : List Packet) → IsPacket st pk → (l : ℕ) → HasRecorded p pk (x ∷ u) l
+      -- a label set after records after which a run is somewhere
+      all_at : (pk x : Packet) (u : List Packet) → IsStorePacket st pk → (l : ℕ) → HasRecorded p pk (x ∷ u) l
           → (s : List ℕ) × IsLabelSet p pk (x ∷ u) s
       all_at pk x u r l h =
           let c = last_of_list x u in

@@ -3,13 +3,13 @@ use Rattle.std.specs.Prelude.{◌≡◌, ℕ, zero, suc, true, List, [], ◌∷�
 use Rattle.nk_field.specs.declared.packet.Packet.{Packet}
 use Rattle.nk_policy.specs.Policy.{Policy}
 use Rattle.nk_policy.specs.Labels.{IsLabelSet}
-use Rattle.nk_store.specs.Held.{Held, IsPacket}
+use Rattle.nk_store.specs.StoreState.{StoreState, IsStorePacket}
 use Rattle.nk_apply.specs.PacketSets.{is_in}
 use Rattle.nk_determ.specs.Pairs.{Node}
 
 -- a packet of the fields, in the set
-abbrev pub IsAmong : Held → ℕ → Packet → Type 0
-IsAmong st x pk = IsPacket st pk × (is_in st x pk ≡ true)
+abbrev pub IsAmong : StoreState → ℕ → Packet → Type 0
+IsAmong st x pk = IsStorePacket st pk × (is_in st x pk ≡ true)
 
 -- After exactly so many records, of which the last is this packet, these are all the labels at which runs from some start
 -- packet can be, and there are some; before the first record the policy is at the start, which has label 0.

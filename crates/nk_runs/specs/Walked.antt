@@ -7,10 +7,10 @@ use Rattle.nk_policy.specs.PositionSets.{IsPosition, last_from}
 use Rattle.nk_determ.specs.Pairs.{Node}
 
 -- the positions at which runs from pk can be that have recorded exactly u, there being one: before the first record the
--- start alone, and behind it the label set
+-- start alone, and after it the label set
 abbrev pub IsPositionSet : Policy → Packet → List Packet → List ℕ → Type 0
 IsPositionSet p pk u s = (s ≢ []) × HasExactly (IsPosition p pk u) s
 
 -- the positions of these runs, at the packet that was recorded last, or at pk before the first record
-abbrev pub IsMetBehind : Policy → Packet → List Packet → Node → Type 0
-IsMetBehind p pk u n = IsPositionSet p pk u n.0 × (n.1 ≡ last_from pk u)
+abbrev pub IsMetAfter : Policy → Packet → List Packet → Node → Type 0
+IsMetAfter p pk u n = IsPositionSet p pk u n.0 × (n.1 ≡ last_from pk u)

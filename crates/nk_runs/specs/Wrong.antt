@@ -4,16 +4,16 @@ use Rattle.nk_field.specs.declared.packet.Packet.{Packet}
 use Rattle.nk_policy.specs.Policy.{Policy}
 use Rattle.nk_policy.specs.Meaning.{Gives}
 use Rattle.nk_store.specs.declared.node.Out.{Out}
-use Rattle.nk_store.specs.Held.{Held, IsPacket}
+use Rattle.nk_store.specs.StoreState.{StoreState, IsStorePacket}
 use Rattle.nk_determ.specs.States.{StateLeads}
-use Rattle.nk_determ.specs.Pairs.{HavePlaces}
+use Rattle.nk_determ.specs.Pairs.{AreLabelsBelow}
 use Rattle.nk_determ.specs.Breaks.{MakesWithTarget}
 
--- of sets of places among the states: the bad finals make, with target 0, exactly the packets at which members' states end and
+-- of sets of places among the states: the violations make, with target 0, exactly the packets at which members' states end and
 -- that the test finds wrong
-abbrev pub AreWrongEnds : Held → List ℕ → (Packet → Bool) → (List ℕ → List ℕ → List Out) → Type 0
+abbrev pub AreWrongEnds : StoreState → List ℕ → (Packet → Bool) → (List ℕ → List ℕ → List Out) → Type 0
 AreWrongEnds st states wrong bad =
-    (set x y : List ℕ) (target : ℕ) → HavePlaces (length states) set → IsPacket st x
+    (set x y : List ℕ) (target : ℕ) → AreLabelsBelow (length states) set → IsStorePacket st x
     → MakesWithTarget (bad set x) x y target ↔ ((target ≡ 0) × StateLeads st states set x y 0 × (wrong y ≡ true))
 
 -- from some start packet the policy has a history that ends wrongly

@@ -11,8 +11,8 @@ use Rattle.nk_compile.specs.Carries.{Carries}
 use Rattle.nk_flight.specs.Flights.{Event, nothing_in_flight, after_events}
 use Rattle.nk_flight.specs.Owed.{flying_from, crossings, left_from, with_crossings, erased_copy}
 use Rattle.nk_flight.specs.Once.{all_erased, LeaveOnce, IsEachOnce}
-use Rattle.nk_flight.proofs.Clauses.{once_in_flight, all_apart, in_kept}
-use Rattle.nk_flight.proofs.Once.{apart_from_doubles, doubles_from_apart}
+use Rattle.nk_flight.proofs.Clauses.{once_in_flight, all_no_dup, in_kept}
+use Rattle.nk_flight.proofs.Once.{no_dup_from_doubles, doubles_from_no_dup}
 use Rattle.nk_flight.proofs.Owing.{eq_true}
 use Rattle.nk_schedules.specs.Schedules.{IsOf, IsEachOnceOf, IsNoOther}
 
@@ -47,7 +47,7 @@ none_else p t pk hs copies each = record {
       let there : In kept m.0 = in_kept (λ d. crossings d == k) hs m.0 m.1 (eq_true k k refl) in
       let here : In (all_erased t kept) h = subst (In (all_erased t kept)) (sym m.2) (in_mapped (erased_copy t) kept m.0 there) in
       ((each k).known h (contains_from_in (all_erased t kept) h here)).0;
-  once = doubles_from_apart (all_erased t hs) (all_apart t hs (λ k. apart_from_doubles (all_erased t (with_crossings k hs)) (each k).once));
+  once = doubles_from_no_dup (all_erased t hs) (all_no_dup t hs (λ k. no_dup_from_doubles (all_erased t (with_crossings k hs)) (each k).once));
 }
 
 -- each of the policy's histories has left once, or is owed by one copy alone

@@ -2,7 +2,7 @@
 use Rattle.std.proofs.Common.{◌≡◌, ◌≢◌, ℕ, true, false, eqb, ◌<◌, ◌≤◌, List, refl, sym, ap, subst, ◌∙◌, arith, get_or, set, get_or-set_same, Option, None, inl, inr}
 use Rattle.std.specs.Prelude.{MatchOption}
 use Rattle.nk_store.specs.Nodes.{child_at, Each}
-use Rattle.nk_store.specs.Held.{Held, IsId, look, top, IsWhole, IsChild, IsCase, IsStill, IsReduced}
+use Rattle.nk_store.specs.StoreState.{StoreState, IsId, look, root_field, IsWhole, IsChild, IsCase, IsStill, IsReduced}
 use Rattle.nk_store.proofs.Children.{each_value}
 use Rattle.nk_store.proofs.Looks.{each_child, joined_some}
 use Rattle.nk_apply.specs.Predicates.{IsPass}
@@ -20,7 +20,7 @@ other_than m n e = λ s. let t : eqb m n ≡ true = grind (arith, nat_tests, s) 
 
 -- at a packet whose field has a value, a set has what the child at the value has
 pub look_at :
-    (st : Held) (s f v : ℕ) (ps : List (ℕ × ℕ)) (pk : List ℕ) → IsCase st s f ps
+    (st : StoreState) (s f v : ℕ) (ps : List (ℕ × ℕ)) (pk : List ℕ) → IsCase st s f ps
     → ((d : ℕ) → IsId st d → IsStill st d) → IsWhole pk
     → look st s (set pk f v) ≡ look st (child_at 0 ps v) pk
 look_at st s f v ps pk c still w =
@@ -31,7 +31,7 @@ look_at st s f v ps pk c still w =
 
 -- the children of a set are sets
 pub case_sets :
-    (st : Held) (s f : ℕ) (ps : List (ℕ × ℕ)) → IsSet st s → IsCase st s f ps
+    (st : StoreState) (s f : ℕ) (ps : List (ℕ × ℕ)) → IsSet st s → IsCase st s f ps
     → ((d : ℕ) → IsId st d → IsStill st d) → Each (IsSet st) ps
 case_sets st s f ps is c still =
     each_value (IsSet st) (get_or st.maxes f 0) 0 0 ps c.parts_ok.rise
@@ -42,9 +42,9 @@ case_sets st s f ps is c still =
 
 -- a diagram that does not depend on fields before one tests none of them
 pub later_by :
-    (st : Held) (d f : ℕ) → IsReduced st d → f ≤ 18
-    → ((j v : ℕ) (pk : List ℕ) → j < f → IsWhole pk → look st d (set pk j v) ≡ look st d pk) → f ≤ top st d
-later_by st d f r h same = elim (leb_tells f (top st d)) [
+    (st : StoreState) (d f : ℕ) → IsReduced st d → f ≤ 18
+    → ((j v : ℕ) (pk : List ℕ) → j < f → IsWhole pk → look st d (set pk j v) ≡ look st d pk) → f ≤ root_field st d
+later_by st d f r h same = elim (leb_tells f (root_field st d)) [
   | inl le ↦ le.1
-  | inr less ↦ let l = less.1 in absurd (r.tests (top st d) (omega (arith, l, h)) refl (λ v pk w. same (top st d) v pk l w))
+  | inr less ↦ let l = less.1 in absurd (r.tests (root_field st d) (omega (arith, l, h)) refl (λ v pk w. same (root_field st d) v pk l w))
 ]

@@ -4,14 +4,14 @@ use Rattle.std.specs.Prelude.{◌||◌, map}
 use Rattle.std.specs.Map.{lookup}
 use Rattle.std.proofs.lemmas.Bool.Decides.{eqb_tells}
 use Rattle.nk_store.specs.Nodes.{child_at, Rises, Each}
-use Rattle.nk_store.specs.Held.{Held, IsId, look, top, IsWhole, Grows, HasLeaves, IsChild, AreParts, IsCase, IsStill, IsReduced}
+use Rattle.nk_store.specs.StoreState.{StoreState, IsId, look, root_field, IsWhole, Grows, HasLeaves, IsChild, AreParts, IsCase, IsStill, IsReduced}
 use Rattle.nk_store.proofs.Looks.{each_child, joined_some}
 use Rattle.nk_store.proofs.Same.{child-first, child-rest}
 use Rattle.nk_apply.specs.Seqs.{no_out}
 use Rattle.nk_apply.specs.Leaves.{merged}
 use Rattle.nk_apply.specs.Unions.{AreIds, unions}
 use Rattle.nk_apply.proofs.Predicates.{whole_set, pass_all}
-use Rattle.nk_sets.specs.PacketSets.{has_out, is_in, IsSet}
+use Rattle.nk_sets.specs.PacketSets.{has_some_out, is_in, IsSet}
 use Rattle.nk_sets.specs.Forgets.{some_value, is_in_for_some, forgotten, IsForgotten, AreForgotten}
 use Rattle.nk_sets.proofs.Cases.{look_at, case_sets, later_by}
 use Rattle.nk_store.proofs.Children.{rest_is}
@@ -54,31 +54,31 @@ found_some P (suc n) v h e = elim (eqb_tells v (suc n)) [
 
 -- what the field's being forgotten gives stays in a store that grew
 pub forgotten_grows :
-    (old new : Held) (f s : ℕ) (pk : List ℕ) → Grows old new → IsId old s
+    (old new : StoreState) (f s : ℕ) (pk : List ℕ) → Grows old new → IsId old s
     → forgotten new f s pk ≡ forgotten old f s pk
 forgotten_grows old new f s pk g i =
     ap (λ b. cond b (no_out ∷ []) [])
     (ap (λ ms. some_value (λ v. is_in new s (set pk f v)) (get_or ms f 0)) g.maxes
-    ∙ some_same (λ v. is_in new s (set pk f v)) (λ v. is_in old s (set pk f v)) (get_or old.maxes f 0) (λ v. ap has_out (g.leaves s (set pk f v) i)))
+    ∙ some_same (λ v. is_in new s (set pk f v)) (λ v. is_in old s (set pk f v)) (get_or old.maxes f 0) (λ v. ap has_some_out (g.leaves s (set pk f v) i)))
 
 -- a set with the field forgotten is one in a store that grew
-pub forgot_grows : (old new : Held) (f s r : ℕ) → Grows old new → IsForgotten old f s r → IsForgotten new f s r
+pub forgot_grows : (old new : StoreState) (f s r : ℕ) → Grows old new → IsForgotten old f s r → IsForgotten new f s r
 forgot_grows old new f s r g k = record {
   set = set_grows old new s g k.set;
   leaves = record {
     id = g.ids r k.leaves.id;
     leaf = λ pk w. g.leaves r pk k.leaves.id ∙ k.leaves.leaf pk w ∙ sym (forgotten_grows old new f s pk g k.set.id);
   };
-  later = let a = g.tops s k.set.id in let b = g.tops r k.leaves.id in let l = k.later in omega (arith, a, b, l);
+  later = let a = g.root_fields s k.set.id in let b = g.root_fields r k.leaves.id in let l = k.later in omega (arith, a, b, l);
 }
 
 -- and so is a table of them
-pub entries_grow : (old new : Held) (f : ℕ) (entries : List (ℕ × ℕ)) → Grows old new → AreForgotten old f entries → AreForgotten new f entries
+pub entries_grow : (old new : StoreState) (f : ℕ) (entries : List (ℕ × ℕ)) → Grows old new → AreForgotten old f entries → AreForgotten new f entries
 entries_grow old new f entries g are s r e = forgot_grows old new f s r g (are s r e)
 
 -- a table with one more entry
 pub entries_put :
-    (st : Held) (f s r : ℕ) (old new : List (ℕ × ℕ)) → AreForgotten st f old → IsForgotten st f s r
+    (st : StoreState) (f s r : ℕ) (old new : List (ℕ × ℕ)) → AreForgotten st f old → IsForgotten st f s r
     → ((q : ℕ) → lookup (eqb q) new ≡ cond (eqb s q) (Some r) (lookup (eqb q) old)) → AreForgotten st f new
 entries_put st f s r old new are one put q z e =
     elim (eqb_tells s q) [
@@ -95,7 +95,7 @@ entries_put st f s r old new are one put q z e =
 
 -- a set that does not depend on the field stays as it is
 pub stays :
-    (st : Held) (f s : ℕ) → IsSet st s → IsStill st s → f < top st s → IsForgotten st f s s
+    (st : StoreState) (f s : ℕ) → IsSet st s → IsStill st s → f < root_field st s → IsForgotten st f s s
 stays st f s set_s still h = record {
   set = set_s;
   leaves = record {
@@ -104,20 +104,20 @@ stays st f s set_s still h = record {
         pass_is (look st s pk) (set_s.predicate pk w)
         ∙ ap (λ b. cond b (no_out ∷ []) [])
         (sym (some_one (is_in st s pk) (get_or st.maxes f 0))
-        ∙ some_same (λ v. is_in st s pk) (λ v. is_in st s (set pk f v)) (get_or st.maxes f 0) (λ v. ap has_out (sym (still.leaf f v pk h))));
+        ∙ some_same (λ v. is_in st s pk) (λ v. is_in st s (set pk f v)) (get_or st.maxes f 0) (λ v. ap has_some_out (sym (still.leaf f v pk h))));
   };
   later = omega arith;
 }
 
 -- the parts that were made of the first parts, before the rest
-abbrev pub Made : Held → ℕ → List (ℕ × ℕ) → List (ℕ × ℕ) → List (ℕ × ℕ) → Type 0
+abbrev pub Made : StoreState → ℕ → List (ℕ × ℕ) → List (ℕ × ℕ) → List (ℕ × ℕ) → Type 0
 Made st f ps [] rest = ps ≡ rest
 Made st f [] (q ∷ qs) rest = ⊥
 Made st f (p ∷ ps) (q ∷ qs) rest = (q.0 ≡ p.0) × IsForgotten st f p.1 q.1 × Made st f ps qs rest
 
 -- one part more
 pub made_push :
-    (st : Held) (f : ℕ) (ps qs : List (ℕ × ℕ)) (p : ℕ × ℕ) (rest : List (ℕ × ℕ)) (q : ℕ × ℕ)
+    (st : StoreState) (f : ℕ) (ps qs : List (ℕ × ℕ)) (p : ℕ × ℕ) (rest : List (ℕ × ℕ)) (q : ℕ × ℕ)
     → Made st f ps qs (p ∷ rest) → q.0 ≡ p.0 → IsForgotten st f p.1 q.1
     → Made st f ps (qs ++ q ∷ []) rest
 made_push st f ps [] p rest q m e k = subst (λ l. Made st f l (q ∷ []) rest) (sym m) (e, k, refl)
@@ -126,7 +126,7 @@ made_push st f (o ∷ ps) (r ∷ qs) p rest q m e k = (m.0, m.1, made_push st f 
 
 -- the parts that were made stay so in a store that grew
 pub made_grows :
-    (old new : Held) (f : ℕ) (ps qs rest : List (ℕ × ℕ)) → Grows old new → Made old f ps qs rest
+    (old new : StoreState) (f : ℕ) (ps qs rest : List (ℕ × ℕ)) → Grows old new → Made old f ps qs rest
     → Made new f ps qs rest
 made_grows old new f ps [] rest g m = m
 made_grows old new f [] (q ∷ qs) rest g m = m
@@ -134,7 +134,7 @@ made_grows old new f (p ∷ ps) (q ∷ qs) rest g m = (m.0, forgot_grows old new
 
 -- they rise as the parts do
 made_rise :
-    (st : Held) (f high low : ℕ) (ps qs : List (ℕ × ℕ)) → Made st f ps qs [] → Rises high low ps → Rises high low qs
+    (st : StoreState) (f high low : ℕ) (ps qs : List (ℕ × ℕ)) → Made st f ps qs [] → Rises high low ps → Rises high low qs
 made_rise st f high low ps [] m r = subst (Rises high low) m r
 made_rise st f high low [] (q ∷ qs) m r = absurd m
 made_rise st f high low (p ∷ ps) (q ∷ qs) m r =
@@ -146,7 +146,7 @@ made_rise st f high low (p ∷ ps) (q ∷ qs) m r =
 
 -- their children test later fields
 made_children :
-    (st : Held) (f g : ℕ) (ps qs : List (ℕ × ℕ)) → Made st f ps qs [] → Each (IsChild st g) ps
+    (st : StoreState) (f g : ℕ) (ps qs : List (ℕ × ℕ)) → Made st f ps qs [] → Each (IsChild st g) ps
     → Each (IsChild st g) qs
 made_children st f g ps [] m e = tt
 made_children st f g [] (q ∷ qs) m e = absurd m
@@ -158,7 +158,7 @@ made_children st f g (p ∷ ps) (q ∷ qs) m e =
 
 -- the child at a value is made of the part's child there
 made_child :
-    (st : Held) (f d e v : ℕ) (ps qs : List (ℕ × ℕ)) → IsForgotten st f d e → Made st f ps qs []
+    (st : StoreState) (f d e v : ℕ) (ps qs : List (ℕ × ℕ)) → IsForgotten st f d e → Made st f ps qs []
     → IsForgotten st f (child_at d ps v) (child_at e qs v)
 made_child st f d e v ps [] k m = subst (λ l. IsForgotten st f (child_at d l v) e) (sym m) k
 made_child st f d e v [] (q ∷ qs) k m = absurd m
@@ -174,7 +174,7 @@ made_child st f d e v (p ∷ ps) (q ∷ qs) k m =
 
 -- with a part there is a child at each value
 made_at :
-    (st : Held) (f v : ℕ) (ps qs : List (ℕ × ℕ)) → 0 < length ps → Made st f ps qs []
+    (st : StoreState) (f v : ℕ) (ps qs : List (ℕ × ℕ)) → 0 < length ps → Made st f ps qs []
     → IsForgotten st f (child_at 0 ps v) (child_at 0 qs v)
 made_at st f v ps [] h m = absurd (omega (arith, h, ap length m))
 made_at st f v [] (q ∷ qs) h m = absurd m
@@ -182,7 +182,7 @@ made_at st f v (p ∷ ps) (q ∷ qs) h m = made_child st f p.1 q.1 v (p ∷ ps) 
 
 -- the parts that were made are those of a node
 pub made_parts :
-    (old st : Held) (f s g : ℕ) (ps qs : List (ℕ × ℕ)) → Grows old st → IsCase old s g ps
+    (old st : StoreState) (f s g : ℕ) (ps qs : List (ℕ × ℕ)) → Grows old st → IsCase old s g ps
     → Made st f ps qs [] → AreParts st g qs
 made_parts old st f s g ps qs grows c m = record {
   field = c.parts_ok.field;
@@ -193,15 +193,15 @@ made_parts old st f s g ps qs grows c m = record {
     grown : (ps : List (ℕ × ℕ)) → Each (IsChild old g) ps → Each (IsChild st g) ps
     grown [] e = tt
     grown (p ∷ ps) e = (
-      record { id = grows.ids p.1 e.0.id; later = subst (λ t. g < t) (sym (grows.tops p.1 e.0.id)) e.0.later },
+      record { id = grows.ids p.1 e.0.id; later = subst (λ t. g < t) (sym (grows.root_fields p.1 e.0.id)) e.0.later },
       grown ps e.1,
     )
 
 -- a set that tests an earlier field, made of its parts with the field forgotten
 pub parts_forgotten :
-    (old st new : Held) (s g f d : ℕ) (ps qs : List (ℕ × ℕ)) → Grows old st → Grows st new → IsSet old s
+    (old st new : StoreState) (s g f d : ℕ) (ps qs : List (ℕ × ℕ)) → Grows old st → Grows st new → IsSet old s
     → IsCase old s g ps → g < f → Made st f ps qs []
-    → HasLeaves new d (λ pk. look st (child_at 0 qs (get_or pk g 0)) pk) → g ≤ top new d
+    → HasLeaves new d (λ pk. look st (child_at 0 qs (get_or pk g 0)) pk) → g ≤ root_field new d
     → IsForgotten new f s d
 parts_forgotten old st new s g f d ps qs a b set_s c before m h later = record {
   set = set_grows st new s b (set_grows old st s a set_s);
@@ -215,7 +215,7 @@ parts_forgotten old st new s g f d ps qs a b set_s c before m h later = record {
         ∙ ap (λ b. cond b (no_out ∷ []) [])
         (ap (λ ms. some_value (λ n. is_in st (child_at 0 ps v) (set pk f n)) (get_or ms f 0)) (sym b.maxes)
         ∙ some_same (λ n. is_in st (child_at 0 ps v) (set pk f n)) (λ n. is_in new s (set pk f n)) (get_or new.maxes f 0)
-        (λ n. ap has_out
+        (λ n. ap has_some_out
         (a.leaves (child_at 0 ps v) (set pk f n) child.id
         ∙ ap (λ j. look old (child_at 0 ps j) (set pk f n)) (sym (get_or-set_other pk f g n 0 (λ e. omega (arith, e, before))))
         ∙ sym (c.leaf (set pk f n))
@@ -223,12 +223,12 @@ parts_forgotten old st new s g f d ps qs a b set_s c before m h later = record {
         ∙ sym (b.leaves s (set pk f n) (a.ids s set_s.id)))));
   };
   later =
-      let t = b.tops s (a.ids s set_s.id) in let u = a.tops s set_s.id in let k = c.top_is in omega (arith, t, u, k, later);
+      let t = b.root_fields s (a.ids s set_s.id) in let u = a.root_fields s set_s.id in let k = c.root_field_is in omega (arith, t, u, k, later);
 }
 
 -- one part more in a loop over the parts
 pub made_more :
-    (st new : Held) (f i : ℕ) (ps qs more : List (ℕ × ℕ)) (p : ℕ × ℕ) (r : ℕ) → Grows st new
+    (st new : StoreState) (f i : ℕ) (ps qs more : List (ℕ × ℕ)) (p : ℕ × ℕ) (r : ℕ) → Grows st new
     → Made st f ps qs (drop i ps) → i < length ps → p ≡ get_or ps i p → IsForgotten new f p.1 r
     → more ≡ qs ++ (p.0, r) ∷ [] → Made new f ps more (drop (i + 1) ps)
 made_more st new f i ps qs more p r g m h e k pushed =
@@ -270,7 +270,7 @@ child_kid d v (p ∷ q ∷ ps) h = by (leb v p.0) (child_kid p.1 v (q ∷ ps) (o
 
 -- a packet of some of the sets is in one of them
 unions_found :
-    (st : Held) (ds : List ℕ) (from n : ℕ) (pk : List ℕ) → has_out (unions st ds from n pk) ≡ true
+    (st : StoreState) (ds : List ℕ) (from n : ℕ) (pk : List ℕ) → has_some_out (unions st ds from n pk) ≡ true
     → (k : ℕ) × (from ≤ k) × (k < from + n) × (is_in st (get_or ds k 0) pk ≡ true)
 unions_found st ds from zero pk e = absurd cc
 unions_found st ds from (suc n) pk e =
@@ -278,31 +278,31 @@ unions_found st ds from (suc n) pk e =
   where
     by :
         (b : Bool) → is_in st (get_or ds from 0) pk ≡ b
-        → (has_out (unions st ds (from + 1) n pk) ≡ true → (k : ℕ) × (from + 1 ≤ k) × (k < from + 1 + n) × (is_in st (get_or ds k 0) pk ≡ true))
-        → b || has_out (unions st ds (from + 1) n pk) ≡ true
+        → (has_some_out (unions st ds (from + 1) n pk) ≡ true → (k : ℕ) × (from + 1 ≤ k) × (k < from + 1 + n) × (is_in st (get_or ds k 0) pk ≡ true))
+        → b || has_some_out (unions st ds (from + 1) n pk) ≡ true
         → (k : ℕ) × (from ≤ k) × (k < from + suc n) × (is_in st (get_or ds k 0) pk ≡ true)
     by true is ih t = (from, omega arith, omega arith, is)
     by false is ih t = let r = ih t in (r.0, omega (arith, r.1), omega (arith, r.2), r.3)
 
 -- a packet of one of the sets is in all of them together
 found_unions :
-    (st : Held) (ds : List ℕ) (from n : ℕ) (pk : List ℕ) (k : ℕ) → from ≤ k → k < from + n
-    → is_in st (get_or ds k 0) pk ≡ true → has_out (unions st ds from n pk) ≡ true
+    (st : StoreState) (ds : List ℕ) (from n : ℕ) (pk : List ℕ) (k : ℕ) → from ≤ k → k < from + n
+    → is_in st (get_or ds k 0) pk ≡ true → has_some_out (unions st ds from n pk) ≡ true
 found_unions st ds from zero pk k l h e = absurd (omega (arith, l, h))
 found_unions st ds from (suc n) pk k l h e =
     merged_out (look st (get_or ds from 0) pk) (unions st ds (from + 1) n pk)
     ∙ elim (eqb_tells k from) [
-      | inl same ↦ ap (λ b. b || has_out (unions st ds (from + 1) n pk)) (subst (λ j. is_in st (get_or ds j 0) pk ≡ true) same.1 e)
+      | inl same ↦ ap (λ b. b || has_some_out (unions st ds (from + 1) n pk)) (subst (λ j. is_in st (get_or ds j 0) pk ≡ true) same.1 e)
       | inr other ↦ let ne = other.1 in by (is_in st (get_or ds from 0) pk) (found_unions st ds (from + 1) n pk k (omega (arith, l, ne)) (omega (arith, h)) e)
     ]
   where
-    by : (b : Bool) → has_out (unions st ds (from + 1) n pk) ≡ true → b || has_out (unions st ds (from + 1) n pk) ≡ true
+    by : (b : Bool) → has_some_out (unions st ds (from + 1) n pk) ≡ true → b || has_some_out (unions st ds (from + 1) n pk) ≡ true
     by true t = refl
     by false t = t
 
 -- sets that have the same at two packets have the same together
 unions_same :
-    (st : Held) (ds : List ℕ) (from n : ℕ) (pk y : List ℕ)
+    (st : StoreState) (ds : List ℕ) (from n : ℕ) (pk y : List ℕ)
     → ((k : ℕ) → from ≤ k → k < from + n → look st (get_or ds k 0) pk ≡ look st (get_or ds k 0) y)
     → unions st ds from n pk ≡ unions st ds from n y
 unions_same st ds from zero pk y e = refl
@@ -310,7 +310,7 @@ unions_same st ds from (suc n) pk y e =
     ap (λ a. merged a (unions st ds (from + 1) n pk)) (e from (omega arith) (omega arith))
     ∙ ap (λ b. merged (look st (get_or ds from 0) y) b) (unions_same st ds (from + 1) n pk y (λ k l h. e k (omega (arith, l)) (omega (arith, h))))
 
-module _ (st : Held) (s f : ℕ) (ps : List (ℕ × ℕ)) (set_s : IsSet st s) (c : IsCase st s f ps) (still : (d : ℕ) → IsId st d → IsStill st d) where
+module _ (st : StoreState) (s f : ℕ) (ps : List (ℕ × ℕ)) (set_s : IsSet st s) (c : IsCase st s f ps) (still : (d : ℕ) → IsId st d → IsStill st d) where
   abbrev kids : List ℕ
   kids = map (λ p. p.1) ps
 
@@ -333,23 +333,23 @@ module _ (st : Held) (s f : ℕ) (ps : List (ℕ × ℕ)) (set_s : IsSet st s) (
   kid_ids k h = (kids_are k h).child.id
 
   -- a packet is in one of them exactly where it is in the set for some value
-  kids_have : (pk : List ℕ) → IsWhole pk → has_out (unions st kids 0 (length kids) pk) ≡ is_in_for_some st f s pk
+  kids_have : (pk : List ℕ) → IsWhole pk → has_some_out (unions st kids 0 (length kids) pk) ≡ is_in_for_some st f s pk
   kids_have pk w =
       both_true _ _
       (λ e.
       let k = unions_found st kids 0 (length kids) pk e in
       let at = kid_at (get_or st.maxes f 0) 0 0 ps k.0 c.parts_ok.rise (omega (arith, k.2)) in
       found_some (λ v. is_in st s (set pk f v)) (get_or st.maxes f 0) at.0 at.2
-      (ap has_out (look_at st s f at.0 ps pk c still w ∙ ap (λ d. look st d pk) at.3) ∙ k.3))
+      (ap has_some_out (look_at st s f at.0 ps pk c still w ∙ ap (λ d. look st d pk) at.3) ∙ k.3))
       (λ e.
       let v = some_found (λ v. is_in st s (set pk f v)) (get_or st.maxes f 0) e in
       let at = child_kid 0 v.0 ps (joined_some ps c.joined) in
       found_unions st kids 0 (length kids) pk at.0 (omega arith) (omega (arith, at.1))
-      (ap has_out (ap (λ d. look st d pk) (sym at.2) ∙ sym (look_at st s f v.0 ps pk c still w)) ∙ v.2))
+      (ap has_some_out (ap (λ d. look st d pk) (sym at.2) ∙ sym (look_at st s f v.0 ps pk c still w)) ∙ v.2))
 
   -- all children together are the set with its field forgotten
   pub here_forgotten :
-      (new : Held) (given : List ℕ) (d : ℕ) → Grows st new → given ≡ kids
+      (new : StoreState) (given : List ℕ) (d : ℕ) → Grows st new → given ≡ kids
       → HasLeaves new d (λ pk. unions st given 0 (length given) pk) → IsReduced new d
       → IsForgotten new f s d
   here_forgotten new given d g is h r =
@@ -365,8 +365,8 @@ module _ (st : Held) (s f : ℕ) (ps : List (ℕ × ℕ)) (set_s : IsSet st s) (
               ∙ sym (forgotten_grows st new f s pk g set_s.id);
         };
         later =
-            let t = g.tops s set_s.id in
-            let u = c.top_is in
+            let t = g.root_fields s set_s.id in
+            let u = c.root_field_is in
             let l = later_by new d f r (let k = c.parts_ok.field in omega (arith, k)) (λ j v pk below w.
             all.leaf (set pk j v) (whole_set pk j v w)
             ∙ unions_same st kids 0 (length kids) (set pk j v) pk (λ k l m.

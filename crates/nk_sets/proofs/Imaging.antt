@@ -7,13 +7,13 @@ use Rattle.std.proofs.lemmas.Grind.{same_number_lists}
 use Rattle.nk_field.specs.Act.{applied}
 use Rattle.nk_store.specs.Leaves.{IsActFrom}
 use Rattle.nk_store.specs.Nodes.{InRange}
-use Rattle.nk_store.specs.Held.{Held, look, IsWhole, Grows, HasLeaves}
+use Rattle.nk_store.specs.StoreState.{StoreState, look, IsWhole, Grows, HasLeaves}
 use Rattle.nk_store.proofs.Same.{set_in_range}
 use Rattle.nk_apply.specs.Leaves.{guarded}
 use Rattle.nk_apply.specs.Seqs.{no_out}
 use Rattle.nk_apply.specs.Predicates.{IsPass, IsPredicate}
 use Rattle.nk_apply.proofs.Predicates.{predicate_by, pass_cond, whole_set, whole_applied}
-use Rattle.nk_sets.specs.PacketSets.{has_out, is_in, IsSet, IsPacketSetOf, IsImage}
+use Rattle.nk_sets.specs.PacketSets.{has_some_out, is_in, IsSet, IsPacketSetOf, IsImage}
 use Rattle.nk_sets.specs.Forgets.{is_in_for_some, forgotten, IsForgotten}
 use Rattle.nk_sets.specs.Images.{Omits, SameBeside, IsFree, are_assigned}
 use Rattle.nk_sets.proofs.SetLemmas.{both_pass, pass_both, guarded_out, predicate_grows}
@@ -26,7 +26,7 @@ pub taken_more :
 taken_more xs i x h e = take_more xs i x h ∙ ap (λ y. take i xs ++ y ∷ []) (sym e)
 
 -- whether there is an out in the packet itself or nothing
-test_out : (b : Bool) → has_out (cond b (no_out ∷ []) []) ≡ b
+test_out : (b : Bool) → has_some_out (cond b (no_out ∷ []) []) ≡ b
 test_out true = refl
 test_out false = refl
 
@@ -41,7 +41,7 @@ omits_push (s ∷ ss) p f o n = (o.0, omits_push ss p f o.1 n)
 
 -- one field more forgotten
 pub free_push :
-    (old st new : Held) (g : List (ℕ × ℕ)) (s r d : ℕ) (p : ℕ × ℕ) → Grows old st → Grows st new → p.0 < 18
+    (old st new : StoreState) (g : List (ℕ × ℕ)) (s r d : ℕ) (p : ℕ × ℕ) → Grows old st → Grows st new → p.0 < 18
     → IsFree old g s st r → IsForgotten new p.0 r d → IsFree old (g ++ p ∷ []) s new d
 free_push old st new g s r d p a b h free k =
     let f = p.0 in
@@ -49,11 +49,11 @@ free_push old st new g s r d p a b h free k =
     record {
       set = record { id = k.leaves.id; predicate = predicate_by new d (forgotten new f r) k.leaves (λ pk w. pass_cond (is_in_for_some new f r pk)) };
       comes = λ y range e.
-          let some = some_found (λ v. is_in new r (set y f v)) (get_or new.maxes f 0) (sym (test_out (is_in_for_some new f r y)) ∙ sym (ap has_out (k.leaves.leaf y range.0)) ∙ e) in
+          let some = some_found (λ v. is_in new r (set y f v)) (get_or new.maxes f 0) (sym (test_out (is_in_for_some new f r y)) ∙ sym (ap has_some_out (k.leaves.leaf y range.0)) ∙ e) in
           let v = some.0 in
           let le = some.1 in
           let in_range = set_in_range old.maxes y f v range (omega (arith, le, high)) in
-          let x = free.comes (set y f v) in_range (ap has_out (sym (b.leaves r (set y f v) free.set.id)) ∙ some.2) in (
+          let x = free.comes (set y f v) in_range (ap has_some_out (sym (b.leaves r (set y f v) free.set.id)) ∙ some.2) in (
             x.0,
             x.1,
             x.2,
@@ -68,13 +68,13 @@ free_push old st new g s r d p a b h free k =
             | inl is ↦ ap (λ k. get_or x k 0) is.1 ∙ sym (ap (λ k. get_or (set y f v) k 0) is.1 ∙ get_or-set_same y f v 0 (let w = ry.0 in omega (arith, w, h)))
             | inr other ↦ same j (omits_push g p j o (λ q. other.1 (sym q))) ∙ sym (get_or-set_other y f j v 0 other.1)
           ]) in
-          ap has_out (k.leaves.leaf y ry.0) ∙ test_out (is_in_for_some new f r y)
+          ap has_some_out (k.leaves.leaf y ry.0) ∙ test_out (is_in_for_some new f r y)
           ∙ found_some (λ n. is_in new r (set y f n)) (get_or new.maxes f 0) v (omega (arith, le, high))
-          (ap has_out (b.leaves r (set y f v) free.set.id) ∙ free.goes x (set y f v) rx in_range e beside);
+          (ap has_some_out (b.leaves r (set y f v) free.set.id) ∙ free.goes x (set y f v) rx in_range e beside);
     }
 
 -- no field forgotten
-pub free_none : (st : Held) (s : ℕ) → IsSet st s → IsFree st [] s st s
+pub free_none : (st : StoreState) (s : ℕ) → IsSet st s → IsFree st [] s st s
 free_none st s is = record {
   set = is;
   comes = λ y range e. (y, range, e, λ f o. refl);
@@ -108,7 +108,7 @@ assigned_more maxes (s ∷ ss) p pk b =
 
 -- the packets of a set that have one value more
 pub assigned_push :
-    (old st s1 new : Held) (g : List (ℕ × ℕ)) (s kept t d : ℕ) (p : ℕ × ℕ) → Grows old st → Grows st s1
+    (old st s1 new : StoreState) (g : List (ℕ × ℕ)) (s kept t d : ℕ) (p : ℕ × ℕ) → Grows old st → Grows st s1
     → IsPacketSetOf st kept (λ pk. are_assigned old.maxes g pk && is_in old s pk)
     → HasLeaves s1 t (λ pk. cond (eqb (min (get_or pk p.0 0) (get_or st.maxes p.0 0)) p.1) (no_out ∷ []) [])
     → HasLeaves new d (λ pk. guarded (look s1 t pk) (look s1 kept pk)) → (IsPredicate s1 kept → IsPredicate new d)
@@ -116,10 +116,10 @@ pub assigned_push :
 assigned_push old st s1 new g s kept t d p a b k test h predicate = record {
   set = record { id = h.id; predicate = predicate (predicate_grows st s1 kept b k.set.id k.set.predicate) };
   at = λ pk w.
-      ap has_out (h.leaf pk w)
+      ap has_some_out (h.leaf pk w)
       ∙ guarded_out (look s1 t pk) (look s1 kept pk)
-      ∙ ap (λ x. x && is_in s1 kept pk) (ap has_out (test.leaf pk w) ∙ test_out _ ∙ ap (λ ms. eqb (min (get_or pk p.0 0) (get_or ms p.0 0)) p.1) a.maxes)
-      ∙ ap (λ x. eqb (min (get_or pk p.0 0) (get_or old.maxes p.0 0)) p.1 && x) (ap has_out (b.leaves kept pk k.set.id) ∙ k.at pk w)
+      ∙ ap (λ x. x && is_in s1 kept pk) (ap has_some_out (test.leaf pk w) ∙ test_out _ ∙ ap (λ ms. eqb (min (get_or pk p.0 0) (get_or ms p.0 0)) p.1) a.maxes)
+      ∙ ap (λ x. eqb (min (get_or pk p.0 0) (get_or old.maxes p.0 0)) p.1 && x) (ap has_some_out (b.leaves kept pk k.set.id) ∙ k.at pk w)
       ∙ sym (assigned_more old.maxes g p pk (is_in old s pk));
 }
 
@@ -177,7 +177,7 @@ applied_assigned maxes low (s ∷ ss) x act w =
 
 -- the fields forgotten, then the values tested: what the act makes of the set
 pub image_is :
-    (old st new : Held) (g : List (ℕ × ℕ)) (s r d : ℕ) → Grows old st → IsActFrom old.maxes 0 g
+    (old st new : StoreState) (g : List (ℕ × ℕ)) (s r d : ℕ) → Grows old st → IsActFrom old.maxes 0 g
     → IsFree old g s st r → IsPacketSetOf new d (λ pk. are_assigned st.maxes g pk && is_in st r pk)
     → IsImage old g s new d
 image_is old st new g s r d a act free made = record {
@@ -209,9 +209,9 @@ act_value maxes low (s ∷ ss) (suc i) p act h e = act_value maxes (s.0 + 1) ss 
 
 -- the packets that an act brings into a set
 pub preimage_is :
-    (old new : Held) (g : List (ℕ × ℕ)) (s r : ℕ) → IsSet old s
+    (old new : StoreState) (g : List (ℕ × ℕ)) (s r : ℕ) → IsSet old s
     → HasLeaves new r (λ pk. look old s (applied g pk)) → IsPacketSetOf new r (λ pk. is_in old s (applied g pk))
 preimage_is old new g s r is h = record {
   set = record { id = h.id; predicate = λ pk w. subst IsPass (sym (h.leaf pk w)) (is.predicate (applied g pk) (whole_applied g pk w)) };
-  at = λ pk w. ap has_out (h.leaf pk w);
+  at = λ pk w. ap has_some_out (h.leaf pk w);
 }

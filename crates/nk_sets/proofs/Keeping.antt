@@ -7,11 +7,11 @@ use Rattle.nk_policy.specs.Policy.{Policy, test, range, seq_of, not_of, no_part,
 use Rattle.nk_policy.specs.Meaning.{Gives, way_of, some_way_of}
 use Rattle.nk_store.specs.declared.node.Out.{Out}
 use Rattle.nk_store.specs.Nodes.{Sound, InRange}
-use Rattle.nk_store.specs.Held.{Held, IsId, IsPacket}
+use Rattle.nk_store.specs.StoreState.{StoreState, IsId, IsStorePacket}
 use Rattle.nk_store.specs.Diagram.{Branches, leaf, case, no_branch, branch, leaf_at, leaf_among, IsReduced, AreReduced, AreTwo}
 use Rattle.nk_store.specs.Intervals.{same_tree, with_most, values_with}
-use Rattle.nk_sets.specs.PacketSets.{has_out, is_in}
-use Rattle.nk_sets.specs.Predicate.{SetTree, SetInterval, same_outs, is_empty_set, is_full_set, parts_of, sum_of_terms, guarded, within, terms_of, conditions_of, else_condition, else_terms, predicate_of, intervals_of}
+use Rattle.nk_sets.specs.PacketSets.{has_some_out, is_in}
+use Rattle.nk_sets.specs.Predicate.{SetTree, SetInterval, same_outs, is_empty_set, is_full_set, parts_of, sum_of_terms, guarded_predicate, within, terms_of, conditions_of, else_condition, else_terms, predicate_of, intervals_of}
 use Rattle.nk_sets.specs.Trees.{set_tree}
 use Rattle.nk_sets.proofs.SetTrees.{same_looks, set_reduced, set_leaves}
 
@@ -26,7 +26,7 @@ SomeKeeps (p ∷ ps) pk = Keeps p pk ⊎ SomeKeeps ps pk
 
 -- the packet has an out at the tree
 abbrev IsAtTree : SetTree → List ℕ → Type 0
-IsAtTree d pk = has_out (leaf_at d [] pk) ≡ true
+IsAtTree d pk = has_some_out (leaf_at d [] pk) ≡ true
 
 -- the parts of a sum, one of which keeps the packet
 parts_keep : (ps : List Policy) (pk : List ℕ) → some_way_of (parts_of ps) (λ l x. x) pk [] pk ↔ SomeKeeps ps pk
@@ -112,7 +112,7 @@ pair_keeps c rest pk P t = (
 -- a guarded predicate keeps what the condition keeps and the child has
 guarded_keeps :
     (c rest : Policy) (child : SetTree) (pk : List ℕ) (P : Type 0) → Tells c pk P
-    → Keeps rest pk ↔ IsAtTree child pk → Keeps (guarded c child rest) pk ↔ (P × IsAtTree child pk)
+    → Keeps rest pk ↔ IsAtTree child pk → Keeps (guarded_predicate c child rest) pk ↔ (P × IsAtTree child pk)
 guarded_keeps c rest child pk P t r = by (is_full_set child) refl
   where
     full : (d : SetTree) → is_full_set d ≡ true → IsAtTree d pk
@@ -224,11 +224,11 @@ terms_keep pk f other d first last exact = by (same_tree other same_outs d) refl
 
     by :
         (b : Bool) → same_tree other same_outs d ≡ b → (n : Bool) → is_empty_set d ≡ n
-        → SomeKeeps (cond b [] (cond n [] (guarded (within f first last) d (predicate_of d) ∷ []))) pk ↔ ((first ≤ slice_index pk f) × (slice_index pk f ≤ last) × ((same_tree other same_outs d ≡ false) × IsAtTree d pk))
+        → SomeKeeps (cond b [] (cond n [] (guarded_predicate (within f first last) d (predicate_of d) ∷ []))) pk ↔ ((first ≤ slice_index pk f) × (slice_index pk f ≤ last) × ((same_tree other same_outs d ≡ false) × IsAtTree d pk))
     by true s n e = ((λ k. absurd k), (λ k. let x : true ≡ false = sym s ∙ k.2.0 in cc))
     by false s true e = ((λ k. absurd k), (λ k. absurd (empty d e k.2.1)))
     by false s false e =
-        let one = one_keeps (guarded (within f first last) d (predicate_of d)) pk in
+        let one = one_keeps (guarded_predicate (within f first last) d (predicate_of d)) pk in
         let both = guarded_keeps (within f first last) (predicate_of d) d pk ((first ≤ slice_index pk f) × (slice_index pk f ≤ last)) (within_tells f first last pk) exact in (
           (λ k. let x = both.0 (one.0 k) in (x.0.0, x.0.1, (s, x.1))),
           (λ k. one.1 (both.1 ((k.0, k.1), k.2.1))),
@@ -296,7 +296,7 @@ module _ (pk : List ℕ) (f most : ℕ) (bs : Branches (List Out)) (rise : Risin
   outside : Keeps (sum_of_terms conditions) pk ↔ (same_tree other.child same_outs there ≡ false)
   outside = ((λ k. conditions_have.0 ((sum_keeps conditions pk).0 k)), (λ e. (sum_keeps conditions pk).1 (conditions_have.1 e)))
 
-  else_keeps : Keeps (guarded (else_condition f other all) other.child other.made) pk ↔ ((¬ (Keeps (sum_of_terms conditions) pk)) × IsAtTree other.child pk)
+  else_keeps : Keeps (guarded_predicate (else_condition f other all) other.child other.made) pk ↔ ((¬ (Keeps (sum_of_terms conditions) pk)) × IsAtTree other.child pk)
   else_keeps = guarded_keeps (else_condition f other all) other.made other.child pk (¬ (Keeps (sum_of_terms conditions) pk)) (not_tells (sum_of_terms conditions) pk) exact
 
   forth : SomeKeeps (flat_map (terms_of f other.child) all ++ else_terms f other all) pk → IsAtTree there pk
@@ -310,7 +310,7 @@ module _ (pk : List ℕ) (f most : ℕ) (bs : Branches (List Out)) (rise : Risin
       by true s x = sym (same_looks other.child there pk s) ∙ x.1
       by false s x = absurd (x.0 (outside.1 s))
 
-      last : (b : Bool) → SomeKeeps (cond b [] (guarded (else_condition f other all) other.child other.made ∷ [])) pk → IsAtTree there pk
+      last : (b : Bool) → SomeKeeps (cond b [] (guarded_predicate (else_condition f other all) other.child other.made ∷ [])) pk → IsAtTree there pk
       last true x = absurd x
       last false (inl a) = by (same_tree other.child same_outs there) refl (else_keeps.0 a)
       last false (inr b) = absurd b
@@ -327,16 +327,16 @@ module _ (pk : List ℕ) (f most : ℕ) (bs : Branches (List Out)) (rise : Risin
       by false s = (append_keeps (flat_map (terms_of f other.child) all) (else_terms f other all) pk).1 (inl (terms_have.1 (s, t)))
       by true s =
           let has : IsAtTree other.child pk = same_looks other.child there pk s ∙ t in
-          let kept : SomeKeeps (guarded (else_condition f other all) other.child other.made ∷ []) pk =
+          let kept : SomeKeeps (guarded_predicate (else_condition f other all) other.child other.made ∷ []) pk =
           inl (else_keeps.1 ((λ k. let x : true ≡ false = sym s ∙ outside.0 k in cc), has)) in
           (append_keeps (flat_map (terms_of f other.child) all) (else_terms f other all) pk).1
-          (inr (subst (λ b. SomeKeeps (cond b [] (guarded (else_condition f other all) other.child other.made ∷ [])) pk) (sym (full other.child (is_empty_set other.child) refl has)) kept))
+          (inr (subst (λ b. SomeKeeps (cond b [] (guarded_predicate (else_condition f other all) other.child other.made ∷ [])) pk) (sym (full other.child (is_empty_set other.child) refl has)) kept))
 
 mutual
   -- the predicate of a reduced tree keeps exactly its packets
   pub tree_exact :
       (maxima : List ℕ) (low : ℕ) (d : SetTree) (pk : List ℕ) → IsReduced d maxima low → InRange maxima pk
-      → Gives (predicate_of d) pk [] pk ↔ (has_out (leaf_at d [] pk) ≡ true)
+      → Gives (predicate_of d) pk [] pk ↔ (has_some_out (leaf_at d [] pk) ≡ true)
   tree_exact maxima low (leaf []) pk r inside = ((λ k. absurd k), (λ e. absurd cc))
   tree_exact maxima low (leaf (o ∷ os)) pk r inside = ((λ k. refl), (λ e. (refl, refl)))
   tree_exact maxima low (case f no_branch) pk r inside = absurd r.1
@@ -350,8 +350,8 @@ mutual
       (each_weaker (IsExact pk) (λ t. ((first last : ℕ) → IsExact pk t)) bs (λ t e first last. e) each.1) in
       let terms = flat_map (terms_of f other.child) all ++ else_terms f other all in
       let leaf_is = among_child (branch end d bs) (slice_index pk f) pk in (
-        (λ k. ap has_out leaf_is ∙ forth pk f (slice_index maxima f) (branch end d bs) rise each (inside.1 f) other exact ((sum_keeps terms pk).0 k)),
-        (λ e. (sum_keeps terms pk).1 (back pk f (slice_index maxima f) (branch end d bs) rise each (inside.1 f) other exact (ap has_out (sym leaf_is) ∙ e))),
+        (λ k. ap has_some_out leaf_is ∙ forth pk f (slice_index maxima f) (branch end d bs) rise each (inside.1 f) other exact ((sum_keeps terms pk).0 k)),
+        (λ e. (sum_keeps terms pk).1 (back pk f (slice_index maxima f) (branch end d bs) rise each (inside.1 f) other exact (ap has_some_out (sym leaf_is) ∙ e))),
       )
 
   -- likewise each child of branches
@@ -363,11 +363,11 @@ mutual
 
 -- the predicate of a set of the store keeps exactly the set's packets
 pub set_exact :
-    (st : Held) (s : ℕ) (p : Policy) (pk : List ℕ) → Sound st.maxes st.nodes → IsId st s → IsPacket st pk
+    (st : StoreState) (s : ℕ) (p : Policy) (pk : List ℕ) → Sound st.maxes st.nodes → IsId st s → IsStorePacket st pk
     → p ≡ predicate_of (set_tree st s) → Gives p pk [] pk ↔ (is_in st s pk ≡ true)
 set_exact st s p pk sound id r e =
     let both = tree_exact st.maxes 0 (set_tree st s) pk (set_reduced st s sound id) r in
     let leaf_is = set_leaves st s pk sound id r in (
-      (λ k. ap has_out (sym leaf_is) ∙ both.0 (subst (λ q. Gives q pk [] pk) e k)),
-      (λ t. subst (λ q. Gives q pk [] pk) (sym e) (both.1 (ap has_out leaf_is ∙ t))),
+      (λ k. ap has_some_out (sym leaf_is) ∙ both.0 (subst (λ q. Gives q pk [] pk) e k)),
+      (λ t. subst (λ q. Gives q pk [] pk) (sym e) (both.1 (ap has_some_out leaf_is ∙ t))),
     )

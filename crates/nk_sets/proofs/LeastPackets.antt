@@ -5,11 +5,11 @@ use Rattle.std.proofs.lemmas.List.{length-set, length-replicate, get_or_past}
 use Rattle.nk_field.specs.Order.{Precedes}
 use Rattle.nk_store.specs.declared.node.Out.{Out}
 use Rattle.nk_store.specs.Nodes.{child_at, Rises}
-use Rattle.nk_store.specs.Held.{Held, IsId, look, top, IsWhole, IsChild, IsCase, IsLeaf, IsStill}
+use Rattle.nk_store.specs.StoreState.{StoreState, IsId, look, root_field, IsWhole, IsChild, IsCase, IsLeaf, IsStill}
 use Rattle.nk_store.proofs.Looks.{each_child, joined_some}
 use Rattle.nk_store.proofs.Same.{child-first, child-rest, set_in_range, zero_in_range}
 use Rattle.nk_apply.proofs.Parts.{child_past}
-use Rattle.nk_sets.specs.PacketSets.{has_out, is_in, IsLeast}
+use Rattle.nk_sets.specs.PacketSets.{has_some_out, is_in, IsLeastPacket}
 use Rattle.nk_sets.proofs.Cases.{look_at}
 
 -- it comes before the other, or it is it
@@ -47,14 +47,14 @@ either_by x y (inr p) k e = before_by x y p k e
 
 -- the zero packet is the least of a leaf with an out
 pub zero_least :
-    (st : Held) (s : ℕ) (outs : List Out) → IsLeaf st s outs → 0 < length outs → IsLeast st s (replicate 18 0)
+    (st : StoreState) (s : ℕ) (outs : List Out) → IsLeaf st s outs → 0 < length outs → IsLeastPacket st s (replicate 18 0)
 zero_least st s outs leaf h = record {
   packet = zero_in_range st.maxes;
-  inside = ap has_out (leaf.leaf (replicate 18 0)) ∙ some outs h;
+  inside = ap has_some_out (leaf.leaf (replicate 18 0)) ∙ some outs h;
   first = λ y r e. precedes_by (replicate 18 0) y (length-replicate {A = ℕ} 18 0 ∙ sym r.0) (λ k same. zero_at k (get_or y k 0));
 }
   where
-    some : (outs : List Out) → 0 < length outs → has_out outs ≡ true
+    some : (outs : List Out) → 0 < length outs → has_some_out outs ≡ true
     some [] h = absurd (omega (arith, h))
     some (o ∷ os) h = refl
 
@@ -65,13 +65,13 @@ zero_least st s outs leaf h = record {
         omega (arith, le, get_or_past {X = ℕ} [] k 0 (omega arith))
 
 -- how far the parts are known to be empty
-pub record Reached (st : Held) (s f : ℕ) (ps : List (ℕ × ℕ)) (from : ℕ) (rest : List (ℕ × ℕ)) : Type 0 where
+pub record Reached (st : StoreState) (s f : ℕ) (ps : List (ℕ × ℕ)) (from : ℕ) (rest : List (ℕ × ℕ)) : Type 0 where
   pub rise : Rises (get_or st.maxes f 0) from rest
   pub at : (v : ℕ) → from ≤ v → v ≤ get_or st.maxes f 0 → child_at 0 ps v ≡ child_at 0 rest v
   pub none : (v : ℕ) (pk : List ℕ) → v < from → IsWhole pk → is_in st (child_at 0 ps v) pk ≡ false
 
 -- at first
-pub reached_none : (st : Held) (s f : ℕ) (ps : List (ℕ × ℕ)) → IsCase st s f ps → Reached st s f ps 0 ps
+pub reached_none : (st : StoreState) (s f : ℕ) (ps : List (ℕ × ℕ)) → IsCase st s f ps → Reached st s f ps 0 ps
 reached_none st s f ps c = record {
   rise = c.parts_ok.rise;
   at = λ v lo hi. refl;
@@ -87,7 +87,7 @@ restart high from v p (q ∷ rest) r h l = refl
 
 -- one part more is empty
 pub reached_more :
-    (st : Held) (s f : ℕ) (ps : List (ℕ × ℕ)) (from : ℕ) (p : ℕ × ℕ) (rest : List (ℕ × ℕ))
+    (st : StoreState) (s f : ℕ) (ps : List (ℕ × ℕ)) (from : ℕ) (p : ℕ × ℕ) (rest : List (ℕ × ℕ))
     → Reached st s f ps from (p ∷ rest) → ((pk : List ℕ) → IsWhole pk → is_in st p.1 pk ≡ false)
     → Reached st s f ps (p.0 + 1) rest
 reached_more st s f ps from p rest r empty = record {
@@ -105,12 +105,12 @@ reached_more st s f ps from p rest r empty = record {
 
 -- where all parts are empty so is the set
 pub reached_all :
-    (st : Held) (s f : ℕ) (ps : List (ℕ × ℕ)) (from : ℕ) → IsCase st s f ps → Reached st s f ps from []
+    (st : StoreState) (s f : ℕ) (ps : List (ℕ × ℕ)) (from : ℕ) → IsCase st s f ps → Reached st s f ps from []
     → (pk : List ℕ) → IsWhole pk → is_in st s pk ≡ false
 reached_all st s f ps from c r pk w =
     let high = get_or st.maxes f 0 in
     let end = r.rise in
-    ap has_out (c.leaf pk)
+    ap has_some_out (c.leaf pk)
     ∙ elim (leb_tells (get_or pk f 0) high) [
       | inl within ↦ let le = within.1 in r.none (get_or pk f 0) pk (omega (arith, le, end)) w
       | inr past ↦ let gt = past.1 in ap (λ k. is_in st k pk) (child_past high 0 0 (get_or pk f 0) ps c.parts_ok.rise (omega (arith, gt))) ∙ r.none high pk (omega (arith, end)) w
@@ -118,25 +118,25 @@ reached_all st s f ps from c r pk w =
 
 -- the least packet of the first part that has one, with the part's least value, is the set's
 pub least_part :
-    (st : Held) (s f : ℕ) (ps : List (ℕ × ℕ)) (from : ℕ) (p : ℕ × ℕ) (rest : List (ℕ × ℕ)) (x : List ℕ)
+    (st : StoreState) (s f : ℕ) (ps : List (ℕ × ℕ)) (from : ℕ) (p : ℕ × ℕ) (rest : List (ℕ × ℕ)) (x : List ℕ)
     → IsCase st s f ps → ((d : ℕ) → IsId st d → IsStill st d) → Reached st s f ps from (p ∷ rest)
-    → IsLeast st p.1 x → ((k : ℕ) → k < top st p.1 → get_or x k 0 ≡ 0) → IsLeast st s (set x f from)
+    → IsLeastPacket st p.1 x → ((k : ℕ) → k < root_field st p.1 → get_or x k 0 ≡ 0) → IsLeastPacket st s (set x f from)
 least_part st s f ps from p rest x c still r least zeros =
     let high = get_or st.maxes f 0 in
     let low = r.rise.0 in
-    let top_value = r.rise.1 in
-    let is : child_at 0 ps from ≡ p.1 = r.at from (omega arith) (omega (arith, low, top_value)) ∙ child-first 0 p rest from low in
+    let root_field_value = r.rise.1 in
+    let is : child_at 0 ps from ≡ p.1 = r.at from (omega arith) (omega (arith, low, root_field_value)) ∙ child-first 0 p rest from low in
     let child : IsChild st f p.1 = subst (IsChild st f) is (each_child (IsChild st f) 0 ps from (joined_some ps c.joined) c.parts_ok.children) in
     let later = child.later in
     let field = c.parts_ok.field in
     let whole = least.packet.0 in
     let value : get_or (set x f from) f 0 ≡ from = get_or-set_same x f from 0 (omega (arith, field, whole)) in
     record {
-      packet = set_in_range st.maxes x f from least.packet (omega (arith, low, top_value));
-      inside = ap has_out (look_at st s f from ps x c still whole ∙ ap (λ k. look st k x) is) ∙ least.inside;
+      packet = set_in_range st.maxes x f from least.packet (omega (arith, low, root_field_value));
+      inside = ap has_some_out (look_at st s f from ps x c still whole ∙ ap (λ k. look st k x) is) ∙ least.inside;
       first = λ y ry e.
           let w = get_or y f 0 in
-          let in_child : is_in st (child_at 0 ps w) y ≡ true = sym (ap has_out (c.leaf y)) ∙ e in
+          let in_child : is_in st (child_at 0 ps w) y ≡ true = sym (ap has_some_out (c.leaf y)) ∙ e in
           let reaches : from ≤ w = elim (leb_tells from w) [
             | inl le ↦ le.1
             | inr less ↦ let no : true ≡ false = sym in_child ∙ r.none w y less.1 ry.0 in absurd cc
@@ -157,7 +157,7 @@ least_part st s f ps from p rest x c still r least zeros =
                   let same_value : from ≡ w = sym value ∙ same f (omega (arith, ne, ge)) in
                   let y' = set y f 0 in
                   let inside : is_in st p.1 y' ≡ true =
-                  ap has_out ((still p.1 child.id).leaf f 0 y later) ∙ ap (λ d. is_in st d y) (sym is ∙ ap (child_at 0 ps) same_value) ∙ in_child in
+                  ap has_some_out ((still p.1 child.id).leaf f 0 y later) ∙ ap (λ d. is_in st d y) (sym is ∙ ap (child_at 0 ps) same_value) ∙ in_child in
                   let le = either_by x y' (least.first y' (set_in_range st.maxes y f 0 ry (omega arith)) inside) k (λ j less. elim (eqb_tells j f) [
                     | inl at ↦
                         ap (λ i. get_or x i 0) at.1 ∙ zeros f (omega (arith, later))

@@ -11,30 +11,30 @@ use Rattle.nk_store.specs.declared.node.Node.{Node}
 use Rattle.nk_store.specs.declared.node.Node.TheVariants.{Leaf, Case}
 use Rattle.nk_store.specs.declared.node.Out.{Out}
 use Rattle.nk_store.specs.Nodes.{is_empty_leaf, Each, Sound}
-use Rattle.nk_store.specs.Held.{Held, IsId, node_of, IsNodeOf}
+use Rattle.nk_store.specs.StoreState.{StoreState, IsId, node_of, IsNodeOf}
 use Rattle.nk_store.specs.Diagram.{leaf, case}
 use Rattle.nk_store.specs.Intervals.{same_tree, with_most, values_with}
 use Rattle.nk_store.specs.ElseChild.{Span, spans, size_of, largest, else_of}
-use Rattle.nk_sets.specs.PacketSets.{has_out, IsSet}
-use Rattle.nk_sets.specs.Predicate.{SetTree, SetInterval, same_outs, is_empty_set, parts_of, sum_of_terms, guarded, within, terms_of, conditions_of, else_terms, predicate_of}
+use Rattle.nk_sets.specs.PacketSets.{has_some_out, IsSet}
+use Rattle.nk_sets.specs.Predicate.{SetTree, SetInterval, same_outs, is_empty_set, parts_of, sum_of_terms, guarded_predicate, within, terms_of, conditions_of, else_terms, predicate_of}
 use Rattle.nk_sets.specs.Trees.{branches_of, set_tree}
 use Rattle.nk_sets.specs.PolicyOf.{interval_at, intervals_at}
 use Rattle.nk_sets.proofs.SetTrees.{set_leaf, set_case, same_is}
 
 -- a leaf is not empty where it has some out
-pub some_counted : (outs : List Out) (n : ℕ) → n ≡ length outs → nat_lt 0 n ≡ has_out outs
+pub some_counted : (outs : List Out) (n : ℕ) → n ≡ length outs → nat_lt 0 n ≡ has_some_out outs
 some_counted [] n e = ap (λ k. nat_lt 0 k) e
 some_counted (o ∷ os) n e = let h : 0 < n = omega (arith, e) in grind (arith, nat_tests, h)
 
 -- the tree of a node that is a choice
 pub case_kind :
-    (st : Held) (c f : ℕ) (ps : List (ℕ × ℕ)) (n : Node) → IsId st c → n ≡ node_of st c → n ≡ Case f ps
+    (st : StoreState) (c f : ℕ) (ps : List (ℕ × ℕ)) (n : Node) → IsId st c → n ≡ node_of st c → n ≡ Case f ps
     → IsNodeOf st c n → set_tree st c ≡ case f (branches_of ps (set_tree st))
 case_kind st c f ps n id at is means = set_case st c f ps id (sym at ∙ is) (subst (IsNodeOf st c) is means).below
 
 -- the tree of a node is that of the empty set exactly where the node is the leaf with no out
 pub empty_leaf_is :
-    (st : Held) (c : ℕ) (n : Node) → IsId st c → n ≡ node_of st c → IsNodeOf st c n
+    (st : StoreState) (c : ℕ) (n : Node) → IsId st c → n ≡ node_of st c → IsNodeOf st c n
     → is_empty_leaf n ≡ is_empty_set (set_tree st c)
 empty_leaf_is st c (Leaf []) id at means = sym (ap is_empty_set (set_leaf st c [] id (sym at)))
 empty_leaf_is st c (Leaf (o ∷ os)) id at means = sym (ap is_empty_set (set_leaf st c (o ∷ os) id (sym at)))
@@ -58,7 +58,7 @@ sum_is (x ∷ y ∷ ys) n = ap sum_of (trees_are (x ∷ y ∷ ys))
 
 -- a step of a loop over parts
 pub part_step :
-    (st : Held) (g : SetInterval → List Policy) (mid more all : List Policy) (p : ℕ × ℕ) (rest whole : List (ℕ × ℕ)) (from : ℕ)
+    (st : StoreState) (g : SetInterval → List Policy) (mid more all : List Policy) (p : ℕ × ℕ) (rest whole : List (ℕ × ℕ)) (from : ℕ)
     → whole ≡ p ∷ rest → mid ++ flat_map g (intervals_at st whole from) ≡ all
     → more ≡ mid ++ g (interval_at st from p.0 p.1)
     → more ++ flat_map g (intervals_at st rest (p.0 + 1)) ≡ all
@@ -70,12 +70,12 @@ part_step st g mid more all p rest whole from split made h =
 
 -- its end
 pub parts_end :
-    (st : Held) (g : SetInterval → List Policy) (mid all : List Policy) (rest : List (ℕ × ℕ)) (from : ℕ)
+    (st : StoreState) (g : SetInterval → List Policy) (mid all : List Policy) (rest : List (ℕ × ℕ)) (from : ℕ)
     → rest ≡ [] → mid ++ flat_map g (intervals_at st rest from) ≡ all → mid ≡ all
 parts_end st g mid all rest from none made =
     sym (append-nil mid) ∙ ap (λ l. mid ++ flat_map g (intervals_at st l from)) (sym none) ∙ made
 
-module _ (st : Held) (sound : Sound st.maxes st.nodes) where
+module _ (st : StoreState) (sound : Sound st.maxes st.nodes) where
   -- in either order
   same_back :
       (c k : ℕ) → IsSet st c → IsSet st k → same_tree (set_tree st c) same_outs (set_tree st k) ≡ eqb k c
@@ -104,7 +104,7 @@ module _ (st : Held) (sound : Sound st.maxes st.nodes) where
       (f other first last c : ℕ) (items : List Policy) → IsSet st other → IsSet st c → eqb c other ≡ true
       → items ≡ items ++ terms_of f (set_tree st other) (interval_at st first last c)
   terms_none f other first last c items g h e =
-      sym (append-nil items) ∙ ap (λ b. items ++ cond b [] (cond (is_empty_set (set_tree st c)) [] (guarded (within f first last) (set_tree st c) (predicate_of (set_tree st c)) ∷ []))) (sym (same_back other c g h ∙ e))
+      sym (append-nil items) ∙ ap (λ b. items ++ cond b [] (cond (is_empty_set (set_tree st c)) [] (guarded_predicate (within f first last) (set_tree st c) (predicate_of (set_tree st c)) ∷ []))) (sym (same_back other c g h ∙ e))
 
   -- an empty one's has none
   pub terms_empty :
@@ -113,19 +113,19 @@ module _ (st : Held) (sound : Sound st.maxes st.nodes) where
       → items ≡ items ++ terms_of f (set_tree st other) (interval_at st first last c)
   terms_empty f other first last c items g h e n =
       sym (append-nil items)
-      ∙ ap (λ b. items ++ cond b [] (guarded (within f first last) (set_tree st c) (predicate_of (set_tree st c)) ∷ [])) (sym n)
-      ∙ ap (λ b. items ++ cond b [] (cond (is_empty_set (set_tree st c)) [] (guarded (within f first last) (set_tree st c) (predicate_of (set_tree st c)) ∷ []))) (sym (same_back other c g h ∙ e))
+      ∙ ap (λ b. items ++ cond b [] (guarded_predicate (within f first last) (set_tree st c) (predicate_of (set_tree st c)) ∷ [])) (sym n)
+      ∙ ap (λ b. items ++ cond b [] (cond (is_empty_set (set_tree st c)) [] (guarded_predicate (within f first last) (set_tree st c) (predicate_of (set_tree st c)) ∷ []))) (sym (same_back other c g h ∙ e))
 
   -- another one's has one
   pub terms_one :
       (f other first last c : ℕ) (items more : List Policy) → IsSet st other → IsSet st c → eqb c other ≡ false
       → is_empty_set (set_tree st c) ≡ false
-      → more ≡ items ++ guarded (within f first last) (set_tree st c) (predicate_of (set_tree st c)) ∷ []
+      → more ≡ items ++ guarded_predicate (within f first last) (set_tree st c) (predicate_of (set_tree st c)) ∷ []
       → more ≡ items ++ terms_of f (set_tree st other) (interval_at st first last c)
   terms_one f other first last c items more g h e n made =
       made
-      ∙ ap (λ b. items ++ cond b [] (guarded (within f first last) (set_tree st c) (predicate_of (set_tree st c)) ∷ [])) (sym n)
-      ∙ ap (λ b. items ++ cond b [] (cond (is_empty_set (set_tree st c)) [] (guarded (within f first last) (set_tree st c) (predicate_of (set_tree st c)) ∷ []))) (sym (same_back other c g h ∙ e))
+      ∙ ap (λ b. items ++ cond b [] (guarded_predicate (within f first last) (set_tree st c) (predicate_of (set_tree st c)) ∷ [])) (sym n)
+      ∙ ap (λ b. items ++ cond b [] (cond (is_empty_set (set_tree st c)) [] (guarded_predicate (within f first last) (set_tree st c) (predicate_of (set_tree st c)) ∷ []))) (sym (same_back other c g h ∙ e))
 
   -- as many values have a tree as have its number
   size_is :
@@ -175,7 +175,7 @@ module _ (st : Held) (sound : Sound st.maxes st.nodes) where
       ap (λ t. term t i.made) c ∙ ap (λ p. term j.child p) m
     where
       term : SetTree → Policy → List Policy
-      term t p = cond (is_empty_set t) [] (guarded (not_of (sum_of_terms (flat_map (conditions_of f t) is))) t p ∷ [])
+      term t p = cond (is_empty_set t) [] (guarded_predicate (not_of (sum_of_terms (flat_map (conditions_of f t) is))) t p ∷ [])
 
   -- the predicate of a choice, by the else-child's number
   pub choice_is :

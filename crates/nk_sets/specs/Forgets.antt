@@ -2,7 +2,7 @@
 use Rattle.std.specs.Prelude.{◌≡◌, ℕ, zero, suc, ◌≤◌, ◌||◌, eqb, Bool, cond, List, [], ◌∷◌, Some, slice_index, slice_set}
 use Rattle.std.specs.Map.{lookup}
 use Rattle.nk_store.specs.declared.node.Out.{Out}
-use Rattle.nk_store.specs.Held.{Held, top, HasLeaves}
+use Rattle.nk_store.specs.StoreState.{StoreState, root_field, HasLeaves}
 use Rattle.nk_apply.specs.Seqs.{no_out}
 use Rattle.nk_sets.specs.PacketSets.{is_in, IsSet}
 
@@ -12,19 +12,19 @@ some_value passes zero = passes 0
 some_value passes (suc high) = passes (suc high) || some_value passes high
 
 -- whether the packet is in the set for some value of the field
-abbrev pub is_in_for_some : Held → ℕ → ℕ → List ℕ → Bool
+abbrev pub is_in_for_some : StoreState → ℕ → ℕ → List ℕ → Bool
 is_in_for_some st f s pk = some_value (λ v. is_in st s (slice_set pk f v)) (slice_index st.maxes f)
 
 -- the packet itself where it is
-abbrev pub forgotten : Held → ℕ → ℕ → List ℕ → List Out
+abbrev pub forgotten : StoreState → ℕ → ℕ → List ℕ → List Out
 forgotten st f s pk = cond (is_in_for_some st f s pk) (no_out ∷ []) []
 
 -- r is the set s with the field forgotten; it tests no field before those of s
-pub record IsForgotten (st : Held) (f s r : ℕ) : Type 0 where
+pub record IsForgotten (st : StoreState) (f s r : ℕ) : Type 0 where
   pub set : IsSet st s
   pub leaves : HasLeaves st r (forgotten st f s)
-  pub later : top st s ≤ top st r
+  pub later : root_field st s ≤ root_field st r
 
 -- each entry of a table leads from a set to it with the field forgotten
-abbrev pub AreForgotten : Held → ℕ → List (ℕ × ℕ) → Type 0
+abbrev pub AreForgotten : StoreState → ℕ → List (ℕ × ℕ) → Type 0
 AreForgotten st f entries = (s r : ℕ) → lookup (eqb s) entries ≡ Some r → IsForgotten st f s r

@@ -1,6 +1,6 @@
 -- The two halves of what an act makes of a set: its fields forgotten, and its values tested.
 use Rattle.std.specs.Prelude.{◌≡◌, ◌≢◌, ℕ, ◌&&◌, eqb, min, Bool, true, List, [], ◌∷◌, slice_index}
-use Rattle.nk_store.specs.Held.{Held, IsPacket}
+use Rattle.nk_store.specs.StoreState.{StoreState, IsStorePacket}
 use Rattle.nk_sets.specs.PacketSets.{is_in, IsSet}
 
 -- the assignments assign the field nothing
@@ -13,13 +13,13 @@ abbrev pub SameBeside : List (ℕ × ℕ) → List ℕ → List ℕ → Type 0
 SameBeside g x y = (f : ℕ) → Omits g f → slice_index x f ≡ slice_index y f
 
 -- the packets of r are those that a packet of s agrees with beside the fields that g assigns
-pub record IsFree (old : Held) (g : List (ℕ × ℕ)) (s : ℕ) (new : Held) (r : ℕ) : Type 0 where
+pub record IsFree (old : StoreState) (g : List (ℕ × ℕ)) (s : ℕ) (new : StoreState) (r : ℕ) : Type 0 where
   pub set : IsSet new r
   pub comes :
-      (y : List ℕ) → IsPacket old y → is_in new r y ≡ true
-      → (x : List ℕ) × IsPacket old x × (is_in old s x ≡ true) × SameBeside g x y
+      (y : List ℕ) → IsStorePacket old y → is_in new r y ≡ true
+      → (x : List ℕ) × IsStorePacket old x × (is_in old s x ≡ true) × SameBeside g x y
   pub goes :
-      (x y : List ℕ) → IsPacket old x → IsPacket old y → is_in old s x ≡ true → SameBeside g x y
+      (x y : List ℕ) → IsStorePacket old x → IsStorePacket old y → is_in old s x ≡ true → SameBeside g x y
       → is_in new r y ≡ true
 
 -- whether a packet has the values that are assigned, a value past the highest counting as it

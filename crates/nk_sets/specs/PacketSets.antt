@@ -1,25 +1,25 @@
 -- Sets of packets by a test, images of sets, and least packets.
-pub use Rattle.nk_apply.specs.PacketSets.{has_out, is_in, IsSet}
+pub use Rattle.nk_apply.specs.PacketSets.{has_some_out, is_in, IsSet}
 use Rattle.std.specs.Prelude.{◌≡◌, ℕ, ◌⊎◌, Bool, true, List}
 use Rattle.nk_field.specs.Act.{applied}
 use Rattle.nk_field.specs.Order.{Precedes}
-use Rattle.nk_store.specs.Held.{Held, IsWhole, IsPacket}
+use Rattle.nk_store.specs.StoreState.{StoreState, IsWhole, IsStorePacket}
 
 -- the packets of the set are those that pass the test
-pub record IsPacketSetOf (st : Held) (s : ℕ) (test : List ℕ → Bool) : Type 0 where
+pub record IsPacketSetOf (st : StoreState) (s : ℕ) (test : List ℕ → Bool) : Type 0 where
   pub set : IsSet st s
   pub at : (pk : List ℕ) → IsWhole pk → is_in st s pk ≡ test pk
 
 -- the packets of r are those that the act g makes of the packets of s
-pub record IsImage (old : Held) (g : List (ℕ × ℕ)) (s : ℕ) (new : Held) (r : ℕ) : Type 0 where
+pub record IsImage (old : StoreState) (g : List (ℕ × ℕ)) (s : ℕ) (new : StoreState) (r : ℕ) : Type 0 where
   pub set : IsSet new r
   pub comes :
-      (y : List ℕ) → IsPacket old y → is_in new r y ≡ true
-      → (x : List ℕ) × IsPacket old x × (is_in old s x ≡ true) × (applied g x ≡ y)
-  pub goes : (x : List ℕ) → IsPacket old x → is_in old s x ≡ true → is_in new r (applied g x) ≡ true
+      (y : List ℕ) → IsStorePacket old y → is_in new r y ≡ true
+      → (x : List ℕ) × IsStorePacket old x × (is_in old s x ≡ true) × (applied g x ≡ y)
+  pub goes : (x : List ℕ) → IsStorePacket old x → is_in old s x ≡ true → is_in new r (applied g x) ≡ true
 
 -- a packet of the set before all others of it, by the first field where they differ
-pub record IsLeast (st : Held) (s : ℕ) (pk : List ℕ) : Type 0 where
-  pub packet : IsPacket st pk
+pub record IsLeastPacket (st : StoreState) (s : ℕ) (pk : List ℕ) : Type 0 where
+  pub packet : IsStorePacket st pk
   pub inside : is_in st s pk ≡ true
-  pub first : (y : List ℕ) → IsPacket st y → is_in st s y ≡ true → (pk ≡ y) ⊎ Precedes pk y
+  pub first : (y : List ℕ) → IsStorePacket st y → is_in st s y ≡ true → (pk ≡ y) ⊎ Precedes pk y

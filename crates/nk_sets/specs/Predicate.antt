@@ -9,11 +9,11 @@ use Rattle.nk_policy.specs.After.{id_policy, drop_policy}
 use Rattle.nk_store.specs.declared.node.Out.{Out}
 use Rattle.nk_store.specs.Diagram.{Diagram, Branches, leaf, case, no_branch, branch}
 use Rattle.nk_store.specs.Intervals.{Interval, same_tree, with_most}
-use Rattle.nk_sets.specs.PacketSets.{has_out}
+use Rattle.nk_sets.specs.PacketSets.{has_some_out}
 
 -- two leaves of sets: both with an out or both without
 abbrev pub same_outs : List Out → List Out → Bool
-same_outs a b = if has_out a then has_out b else not (has_out b)
+same_outs a b = if has_some_out a then has_some_out b else not (has_some_out b)
 
 -- a set's tree
 abbrev pub SetTree : Type 0
@@ -25,12 +25,12 @@ SetInterval = Interval (List Out) Policy
 
 -- the tree of no packet
 abbrev pub is_empty_set : SetTree → Bool
-is_empty_set (leaf outs) = not (has_out outs)
+is_empty_set (leaf outs) = not (has_some_out outs)
 is_empty_set (case f bs) = false
 
 -- the tree of all packets
 abbrev pub is_full_set : SetTree → Bool
-is_full_set (leaf outs) = has_out outs
+is_full_set (leaf outs) = has_some_out outs
 is_full_set (case f bs) = false
 
 -- a list of policies as the parts of a sum or a sequence
@@ -45,8 +45,8 @@ sum_of_terms (p ∷ []) = p
 sum_of_terms (p ∷ q ∷ ps) = sum_of (parts_of (p ∷ q ∷ ps))
 
 -- a condition, and then the child's predicate unless the child is all packets
-abbrev pub guarded : Policy → SetTree → Policy → Policy
-guarded condition child rest = if is_full_set child then condition else seq_of (part condition (part rest no_part))
+abbrev pub guarded_predicate : Policy → SetTree → Policy → Policy
+guarded_predicate condition child rest = if is_full_set child then condition else seq_of (part condition (part rest no_part))
 
 -- the field's value is from the first to the last: a test of one value, or a range of several
 abbrev pub within : ℕ → ℕ → ℕ → Policy
@@ -60,7 +60,7 @@ part_of f i = within f i.first i.last
 abbrev pub terms_of : ℕ → SetTree → SetInterval → List Policy
 terms_of f other i =
     if same_tree other same_outs i.child then []
-    else (if is_empty_set i.child then [] else guarded (part_of f i) i.child i.made ∷ [])
+    else (if is_empty_set i.child then [] else guarded_predicate (part_of f i) i.child i.made ∷ [])
 
 -- the condition of an interval, where it is a part
 abbrev pub conditions_of : ℕ → SetTree → SetInterval → List Policy
@@ -77,7 +77,7 @@ else_condition f other is = not_of (sum_of_terms (parts_outside f other.child is
 -- the term of the else-child, unless that is empty
 abbrev pub else_terms : ℕ → SetInterval → List SetInterval → List Policy
 else_terms f other is =
-    if is_empty_set other.child then [] else guarded (else_condition f other is) other.child other.made ∷ []
+    if is_empty_set other.child then [] else guarded_predicate (else_condition f other is) other.child other.made ∷ []
 
 -- the predicate of a choice with these intervals
 abbrev pub predicate_at : ℕ → List SetInterval → Policy
@@ -89,7 +89,7 @@ predicate_at f (i ∷ is) =
 -- the predicate of a reduced tree
 abbrev mutual
   pub predicate_of : SetTree → Policy
-  predicate_of (leaf outs) = if has_out outs then id_policy else drop_policy
+  predicate_of (leaf outs) = if has_some_out outs then id_policy else drop_policy
   predicate_of (case f bs) = predicate_at f (intervals_of bs 0)
 
   -- the intervals of branches, from a value on

@@ -1,9 +1,9 @@
 //! What a diagram does at the packets of a set.
 ghost use Rattle.std.specs.Prelude.{◌≡◌, ℕ, ◌≤◌, min, IfOk, IfSome, List as Items};
 ghost use Rattle.nk_store.specs.Nodes.{child_at};
-ghost use Rattle.nk_store.specs.Held.{IsId, IsWhole, look, top, Grows, HasLeaves, AreParts};
+ghost use Rattle.nk_store.specs.StoreState.{IsId, IsWhole, look, root_field, Grows, HasLeaves, AreParts};
 ghost use Rattle.nk_apply.specs.Leaves.{guarded};
-ghost use Rattle.nk_apply.specs.Subs.{sub, IsFirst};
+ghost use Rattle.nk_apply.specs.Cofactors.{cofactor, IsFirst};
 ghost use Rattle.nk_sets.specs.Cuts.{IsEnd};
 
 use nk_apply::{first_field, part_near};
@@ -19,7 +19,7 @@ pub fn at_packets(st: &mut Store, s: Id, d: Id) -> Result<Id, AllocError>
     requires diagram { IsId st.old d }
     ensures grows { Grows st.old st.new }
     ensures ok { IfOk result (λ r. HasLeaves st.new r (λ pk. guarded (look st.old s pk) (look st.old d pk))) }
-    ensures later { IfOk result (λ r. min (top st.old s) (top st.old d) ≤ top st.new r) }
+    ensures later { IfOk result (λ r. min (root_field st.old s) (root_field st.old d) ≤ root_field st.new r) }
 {
     if let Some(r) = known_later(st, s, d) {
         return Ok(r);
@@ -34,10 +34,10 @@ pub fn at_packets(st: &mut Store, s: Id, d: Id) -> Result<Id, AllocError>
 fn at_leaf(st: &Store, s: Id, d: Id) -> Id
     requires set { IsId st.now s }
     requires diagram { IsId st.now d }
-    requires left { top st.now s ≡ 18 }
-    requires right { top st.now d ≡ 18 }
+    requires left { root_field st.now s ≡ 18 }
+    requires right { root_field st.now d ≡ 18 }
     ensures leaves { HasLeaves st.now result (λ pk. guarded (look st.now s pk) (look st.now d pk)) }
-    ensures later { 18 ≤ top st.now result }
+    ensures later { 18 ≤ root_field st.now result }
 {
     match st.view(s) {
         Node::Leaf(outs) => { if outs.is_empty() { s } else { d } }
@@ -53,7 +53,7 @@ fn cut_case(st: &mut Store, f: Fid, s: Id, d: Id) -> Result<Id, AllocError>
     requires first { IsFirst st.old s d f }
     ensures grows { Grows st.old st.new }
     ensures ok { IfOk result (λ r. HasLeaves st.new r (λ pk. guarded (look st.old s pk) (look st.old d pk))) }
-    ensures later { IfOk result (λ r. min (top st.old s) (top st.old d) ≤ top st.new r) }
+    ensures later { IfOk result (λ r. min (root_field st.old s) (root_field st.old d) ≤ root_field st.new r) }
 {
     let parts = cut_parts(st, f, s, d)?;
     let r = st.case(f, parts)?;
@@ -66,7 +66,7 @@ fn known_later(st: &Store, s: Id, d: Id) -> Option<Id>
     requires set { IsId st.now s }
     requires diagram { IsId st.now d }
     ensures leaves { IfSome result (λ r. HasLeaves st.now r (λ pk. guarded (look st.now s pk) (look st.now d pk))) }
-    ensures later { IfSome result (λ r. min (top st.now s) (top st.now d) ≤ top st.now r) }
+    ensures later { IfSome result (λ r. min (root_field st.now s) (root_field st.now d) ≤ root_field st.now r) }
 {
     st.laws();
     known(st, s, d)
@@ -96,7 +96,7 @@ fn cut_parts(st: &mut Store, f: Fid, s: Id, d: Id) -> Result<List<(u64, Id)>, Al
     requires first { IsFirst st.old s d f }
     ensures grows { Grows st.old st.new }
     ensures parts { IfOk result (λ ps. AreParts st.new f ps) }
-    ensures ok { IfOk result (λ ps. (v : ℕ) (pk : Items ℕ) → IsWhole pk → look st.new (child_at 0 ps v) pk ≡ guarded (look st.old (sub st.old f v s) pk) (look st.old (sub st.old f v d) pk)) }
+    ensures ok { IfOk result (λ ps. (v : ℕ) (pk : Items ℕ) → IsWhole pk → look st.new (child_at 0 ps v) pk ≡ guarded (look st.old (cofactor st.old f v s) pk) (look st.old (cofactor st.old f v d) pk)) }
 {
     let max = st.max(f);
     let mut parts = List::new(st.alloc());

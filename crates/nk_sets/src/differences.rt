@@ -1,6 +1,6 @@
 //! The difference of two sets.
 ghost use Rattle.std.specs.Prelude.{◌&&◌, not, IfOk};
-ghost use Rattle.nk_store.specs.Held.{IsId, Grows};
+ghost use Rattle.nk_store.specs.StoreState.{IsId, Grows};
 ghost use Rattle.nk_sets.specs.PacketSets.{is_in, IsSet, IsPacketSetOf};
 
 use nk_apply::{both, negate};

@@ -1,6 +1,6 @@
 //! Whether a set has a packet.
 ghost use Rattle.std.specs.Prelude.{◌≡◌, ℕ, List as Items, true, false};
-ghost use Rattle.nk_store.specs.Held.{IsId, IsWhole, IsPacket};
+ghost use Rattle.nk_store.specs.StoreState.{IsId, IsWhole, IsStorePacket};
 ghost use Rattle.nk_sets.specs.PacketSets.{is_in};
 
 use nk_store::{Id, Store};
@@ -9,7 +9,7 @@ use nk_store::{Id, Store};
 pub fn is_empty(st: &Store, s: Id) -> bool
     requires { IsId st.now s }
     ensures yes { result ≡ true → (pk : Items ℕ) → IsWhole pk → is_in st.now s pk ≡ false }
-    ensures no { result ≡ false → (pk : Items ℕ) × IsPacket st.now pk × (is_in st.now s pk ≡ true) }
+    ensures no { result ≡ false → (pk : Items ℕ) × IsStorePacket st.now pk × (is_in st.now s pk ≡ true) }
 {
     let _laws = st.laws();
     st.drops(s)

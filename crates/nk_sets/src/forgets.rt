@@ -1,6 +1,6 @@
 //! Sets with a field forgotten.
 ghost use Rattle.std.specs.Prelude.{◌≡◌, ◌<◌, true, map, IfOk, IfSome, OnOk, MatchOption};
-ghost use Rattle.nk_store.specs.Held.{IsId, IsStill, IsCase, Grows, top};
+ghost use Rattle.nk_store.specs.StoreState.{IsId, IsStill, IsCase, Grows, root_field};
 ghost use Rattle.nk_sets.specs.PacketSets.{IsSet};
 ghost use Rattle.nk_sets.specs.Forgets.{IsForgotten, AreForgotten};
 
@@ -54,7 +54,7 @@ fn forget_once(st: &mut Store, seen: &mut HashMap<Id, Id>, s: Id, f: Fid) -> Res
 /// Whether a set tests neither the field nor one before it.
 fn is_past(st: &Store, s: Id, f: Fid) -> bool
     requires { IsId st.now s }
-    ensures past { result ≡ true → f < top st.now s }
+    ensures past { result ≡ true → f < root_field st.now s }
     ensures still { IsStill st.now s }
 {
     match st.view(s) {
@@ -127,7 +127,7 @@ fn forget_case(
 /// The field that a set tests first, with the set's parts.
 fn choice(st: &Store, s: Id) -> Result<Option<(Fid, List<(u64, Id)>)>, AllocError>
     requires { IsId st.now s }
-    ensures parts { IfOk result (λ o. MatchOption o (top st.now s ≡ 18) (λ x. IsCase st.now s x.0 x.1)) }
+    ensures parts { IfOk result (λ o. MatchOption o (root_field st.now s ≡ 18) (λ x. IsCase st.now s x.0 x.1)) }
     ensures still { IsStill st.now s }
 {
     match st.view(s) {

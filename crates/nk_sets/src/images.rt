@@ -2,7 +2,7 @@
 ghost use Rattle.std.specs.Prelude.{◌&&◌, IfOk};
 ghost use Rattle.nk_field.specs.Act.{applied};
 ghost use Rattle.nk_store.specs.Leaves.{IsActFrom};
-ghost use Rattle.nk_store.specs.Held.{Grows};
+ghost use Rattle.nk_store.specs.StoreState.{Grows};
 ghost use Rattle.nk_sets.specs.PacketSets.{is_in, IsSet, IsPacketSetOf, IsImage};
 ghost use Rattle.nk_sets.specs.Images.{IsFree, are_assigned};
 

@@ -1,7 +1,7 @@
 //! The least packet of a set.
 ghost use Rattle.std.specs.Prelude.{◌≡◌, ◌<◌, ℕ, List as Items, false, slice_index, slice_set, IfSome, IfNone, IsOkAnd, MatchOption};
-ghost use Rattle.nk_store.specs.Held.{IsId, IsWhole, IsCase, top};
-ghost use Rattle.nk_sets.specs.PacketSets.{is_in, IsLeast};
+ghost use Rattle.nk_store.specs.StoreState.{IsId, IsWhole, IsCase, root_field};
+ghost use Rattle.nk_sets.specs.PacketSets.{is_in, IsLeastPacket};
 
 use nk_field::{Fid, Packet};
 use nk_store::{Id, Node, Store};
@@ -12,7 +12,7 @@ use std::alloc::AllocError;
 pub fn least(st: &Store, s: Id) -> Result<Option<Packet>, AllocError>
     requires { IsId st.now s }
     ensures { IsOkAnd result (λ o. MatchOption o
-        ((pk : Items ℕ) → IsWhole pk → is_in st.now s pk ≡ false) (IsLeast st.now s)) }
+        ((pk : Items ℕ) → IsWhole pk → is_in st.now s pk ≡ false) (IsLeastPacket st.now s)) }
 {
     Ok(lowest(st, s))
 }
@@ -21,8 +21,8 @@ pub fn least(st: &Store, s: Id) -> Result<Option<Packet>, AllocError>
 #[cycle(lowest)]
 fn lowest(st: &Store, s: Id) -> Option<Packet>
     requires { IsId st.now s }
-    ensures some { IfSome result (IsLeast st.now s) }
-    ensures zeros { IfSome result (λ x. (k : ℕ) → k < top st.now s → slice_index x k ≡ 0) }
+    ensures some { IfSome result (IsLeastPacket st.now s) }
+    ensures zeros { IfSome result (λ x. (k : ℕ) → k < root_field st.now s → slice_index x k ≡ 0) }
     ensures none { IfNone result ((pk : Items ℕ) → IsWhole pk → is_in st.now s pk ≡ false) }
 {
     match st.view(s) {
@@ -41,8 +41,8 @@ fn lowest(st: &Store, s: Id) -> Option<Packet>
 #[cycle(lowest)]
 fn lowest_part(st: &Store, s: Id, f: Fid, parts: &[(u64, Id)]) -> Option<Packet>
     requires { IsCase st.now s f parts.now }
-    ensures some { IfSome result (IsLeast st.now s) }
-    ensures zeros { IfSome result (λ x. (k : ℕ) → k < top st.now s → slice_index x k ≡ 0) }
+    ensures some { IfSome result (IsLeastPacket st.now s) }
+    ensures zeros { IfSome result (λ x. (k : ℕ) → k < root_field st.now s → slice_index x k ≡ 0) }
     ensures none { IfNone result ((pk : Items ℕ) → IsWhole pk → is_in st.now s pk ≡ false) }
 {
     let _laws = st.laws();

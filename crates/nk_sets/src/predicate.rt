@@ -3,11 +3,11 @@ ghost use Rattle.std.specs.Prelude.{◌≡◌, ◌++◌, map, IfOk, OnOk, slice_
 ghost use Rattle.nk_policy.specs.Policy.{seq_of, part, no_part};
 ghost use Rattle.nk_policy.specs.Tree.{tree_of};
 ghost use Rattle.nk_policy.specs.After.{id_policy, drop_policy};
-ghost use Rattle.nk_store.specs.Held.{IsCase, IsId};
+ghost use Rattle.nk_store.specs.StoreState.{IsCase, IsId};
 ghost use Rattle.nk_store.specs.Nodes.{Each, Rises};
 ghost use Rattle.nk_store.specs.Diagram.{case};
 ghost use Rattle.nk_sets.specs.PacketSets.{IsSet};
-ghost use Rattle.nk_sets.specs.Predicate.{is_empty_set, is_full_set, sum_of_terms, guarded as guarded_by, within as is_within, terms_of, conditions_of, else_condition, else_terms, predicate_of};
+ghost use Rattle.nk_sets.specs.Predicate.{is_empty_set, is_full_set, sum_of_terms, guarded_predicate as guarded_by, within as is_within, terms_of, conditions_of, else_condition, else_terms, predicate_of};
 ghost use Rattle.nk_sets.specs.Trees.{branches_of, set_tree};
 ghost use Rattle.nk_sets.specs.PolicyOf.{IsPolicyOf, interval_at, intervals_at};
 

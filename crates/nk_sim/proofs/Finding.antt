@@ -27,7 +27,7 @@ room_kept xs ys m n size le same before fresh sw =
     ∙ sym (get_or_past xs sw None (omega (arith, size, past))))
     (cases_lt sw m)
 
--- the place of a table is set in front of those of the tables behind it
+-- the place of a table is set in front of those of the tables after it
 pub found_first : (ps qs : List (Option ℕ)) (ts : List Table) (i : ℕ) (d : Table) → i < length ts
     → ((sw : ℕ) → get_or qs sw None ≡ cond ((get_or ts i d).switch == sw) (Some i) (get_or ps sw None))
     → ((sw : ℕ) → found_by ps ts sw ≡ table_of (drop (i + 1) ts) sw)

@@ -107,9 +107,9 @@ module _ (pk : List ℕ) where
       let within : suc c.0 < length (b ∷ bs) = omega (arith, c.1) in
       subst (λ (h : History). (b ≡ h) ⊎ IsLess (found pk b) (found pk h)) c.2 (up 0 (suc c.0) a lt within)) i
 
-  -- those behind it are in order
-  behind_in_order : (b : History) (bs : List History) → AreOrderedFrom pk (b ∷ bs) → AreOrderedFrom pk bs
-  behind_in_order b bs up = λ i j d lt less.
+  -- those after it are in order
+  after_in_order : (b : History) (bs : List History) → AreOrderedFrom pk (b ∷ bs) → AreOrderedFrom pk bs
+  after_in_order b bs up = λ i j d lt less.
       let more : suc i < suc j = omega (arith, lt) in
       let within : suc j < length (b ∷ bs) = omega (arith, less) in
       up (suc i) (suc j) d more within
@@ -125,7 +125,7 @@ module _ (pk : List ℕ) where
       let same : a ≡ b =
       ⊎_elim (λ p. sym p) (λ p. ⊎_elim (λ q. q) (λ q. absurd (less_once (found pk b) (found pk a) p q))
       (first_of_all a b as' up (member b (a ∷ as') back))) (first_of_all b a bs vp (member a (b ∷ bs) there)) in
-      let rest = one_order as' bs (behind_in_order a as' up) (behind_in_order b bs vp) (λ x.
+      let rest = one_order as' bs (after_in_order a as' up) (after_in_order b bs vp) (λ x.
       let h : once_at x a + times x as' ≡ once_at x a + times x bs =
       sym (sum_by-cons (once_at x) a as') ∙ e x ∙ sum_by-cons (once_at x) b bs ∙ ap (λ z. once_at x z + times x bs) (sym same) in
       omega (arith, h)) in

@@ -11,7 +11,7 @@ use Rattle.nk_table.specs.declared.Tables.{Tables}
 use Rattle.nk_table.specs.declared.Bucket.{Bucket}
 use Rattle.nk_table.specs.declared.Exit.{Exit}
 use Rattle.nk_table.specs.declared.Exit.TheVariants.{Back, Port}
-use Rattle.nk_table.specs.Rules.{row_for, groups_of, buckets_of_row, sent, sent_by, sent_for}
+use Rattle.nk_table.specs.Rules.{row_for, groups_at_switch, buckets_of_row, sent, sent_by, sent_for}
 use Rattle.nk_table.specs.Hops.{Copy, crossing, across, leaving, next_of, left_of, moved_to, waiting, left_after}
 use Rattle.nk_sim.specs.Traces.{as_history, histories_after, histories_before}
 
@@ -56,7 +56,7 @@ buckets_long pk (b ∷ bs) =
 pub sent_long : (t : Tables) (n : ℕ) (pk : List ℕ) → length pk ≡ n → All (Long n) (sent_for t pk)
 sent_long t n pk e =
     let sw = slice_index pk 0 in
-    subst (λ m. All (Long m) (sent_for t pk)) e (buckets_long pk (buckets_of_row (groups_of t.tables sw) (row_for t sw pk)))
+    subst (λ m. All (Long m) (sent_for t pk)) e (buckets_long pk (buckets_of_row (groups_at_switch t.tables sw) (row_for t sw pk)))
 
 -- so is it with tag 0
 without_long : (o : Option ℕ) (y : List ℕ) → length (without o y) ≡ length y

@@ -13,8 +13,8 @@ use Rattle.nk_table.specs.declared.Tables.{Tables}
 use Rattle.nk_table.specs.Rules.{sent_for}
 use Rattle.nk_table.specs.Hops.{Copy, next_of, left_of, waiting}
 use Rattle.nk_table.proofs.Crossing.{joined_same, joined_mapped}
-use Rattle.nk_sim.specs.declared.flight.Crossing.{Crossing}
-use Rattle.nk_sim.specs.declared.flight.Flying.{Flying}
+use Rattle.nk_sim.specs.declared.transit.Crossing.{Crossing}
+use Rattle.nk_sim.specs.declared.transit.Flying.{Flying}
 use Rattle.nk_sim.specs.declared.tracing.State.{State}
 use Rattle.nk_sim.specs.declared.tracing.Traced.{Traced}
 use Rattle.nk_sim.specs.Flights.{HaveTrails, copy_of, copies_of, sent_flying, crossed, leaves, left_by, AreCrossed, AreWaiting, IsAt, HaveOneLength, IsSortedFrom}
@@ -50,7 +50,7 @@ sent_copies g t cs k (f ∷ fs) =
     ∙ flat_map-append g (copies_of cs k (sent_flying t f)) (copies_of cs k (flat_map (sent_flying t) fs))
     ∙ (λ i. flat_map g (copies_sent cs k f (sent_for t f.packet) i) ++ sent_copies g t cs k fs i)
 
--- the copies behind the links are those that the copies lead to
+-- the copies after the links are those that the copies lead to
 pub sent_lead : (t : Tables) (cs : List Crossing) (k : ℕ) (fs : List Flying)
     → flat_map (crossed t) (copies_of cs k (flat_map (sent_flying t) fs)) ≡ flat_map (next_of t) (copies_of cs k fs)
 sent_lead t cs k fs =
@@ -73,7 +73,7 @@ waits_first t pk cs fs e = record {
   trails = subst (HaveTrails cs 0) (sym e) (All-cons (Has cs 0) record { last = 0; packet = pk } [] tt (All-nil (Has cs 0)));
 }
 
--- those behind one crossing more
+-- those after one crossing more
 pub waits_next : (t : Tables) (pk : List ℕ) (k : ℕ) (cs ds : List Crossing) (fs sent next : List Flying) → AreWaiting t pk k cs fs
     → sent ≡ flat_map (sent_flying t) fs → (HaveTrails cs k sent → AreCrossed t cs ds k sent next) → AreWaiting t pk (k + 1) ds next
 waits_next t pk k cs ds fs sent next are e cross =

@@ -1,4 +1,4 @@
--- Trails of crossings: more crossings behind them leave them as they are, and one crossing goes on from another.
+-- Trails of crossings: more crossings after them leave them as they are, and one crossing goes on from another.
 use Rattle.std.proofs.Common.{◌≡◌, ◌<◌, ◌+◌, ℕ, zero, suc, Option, None, Some, List, [], ◌∷◌, ◌++◌, length, take, get_or, refl, sym, ap, subst, ◌∙◌, arith, append_assoc, append-nil, length-append}
 use Rattle.std.specs.Prelude.{reverse}
 use Rattle.std.specs.List.{flat_map}
@@ -9,15 +9,15 @@ use Rattle.nk_field.specs.Packet.{erased}
 use Rattle.nk_field.proofs.Lists.{map_joined}
 use Rattle.nk_table.specs.declared.Tables.{Tables}
 use Rattle.nk_table.specs.Hops.{moved_to, crossing}
-use Rattle.nk_sim.specs.declared.flight.Crossing.{Crossing}
-use Rattle.nk_sim.specs.declared.flight.Flying.{Flying}
+use Rattle.nk_sim.specs.declared.transit.Crossing.{Crossing}
+use Rattle.nk_sim.specs.declared.transit.Flying.{Flying}
 use Rattle.nk_sim.specs.Flights.{crossing_at, trail, HasTrail, HaveTrails, copy_of, copies_of, crossed, crossing_by, flying_by, link_of_sent, AreCrossed}
 
 -- the copy's crossings are there
 abbrev pub Has : List Crossing → ℕ → Flying → Type 0
 Has cs k f = HasTrail cs k f.last
 
--- a trail stays where more crossings are held behind
+-- a trail stays where more crossings are held after
 pub trail_more : (cs more : List Crossing) (k i : ℕ) → HasTrail cs k i
     → (trail (cs ++ more) k i ≡ trail cs k i) × HasTrail (cs ++ more) k i
 trail_more cs more zero i h = (refl, tt)
@@ -61,7 +61,7 @@ one_crossed t cs k s (Some to) h =
 pub crossed_step : (t : Tables) (cs ds es : List Crossing) (k : ℕ) (sent next last : List Flying) (s : Flying) → HasTrail cs k s.last
     → AreCrossed t cs ds k sent next → es ≡ ds ++ crossing_by t s (link_of_sent t s) → last ≡ next ++ flying_by (length ds) s (link_of_sent t s)
     → AreCrossed t cs es k (sent ++ s ∷ []) last
-crossed_step t cs ds es k sent next last s has are grown behind =
+crossed_step t cs ds es k sent next last s has are grown following =
     let old = trail_more cs are.more k s.last has in
     let here : HasTrail ds k s.last = subst (λ (l : List Crossing). HasTrail l k s.last) (sym are.grown) old.1 in
     let same : trail ds k s.last ≡ trail cs k s.last = ap (λ (l : List Crossing). trail l k s.last) are.grown ∙ old.0 in
@@ -73,7 +73,7 @@ crossed_step t cs ds es k sent next last s has are grown behind =
       more = are.more ++ c;
       grown = grown ∙ ap (λ (l : List Crossing). l ++ c) are.grown ∙ append_assoc cs are.more c;
       copies =
-          (λ i. copies_of (grown i) (suc k) (behind i))
+          (λ i. copies_of (grown i) (suc k) (following i))
           ∙ map_joined (copy_of (ds ++ c) (suc k)) next f
           ∙ (λ i. (before.0 ∙ are.copies) i ++ (one.0 ∙ ap (λ w. crossing t w s.packet (link_of_sent t s)) same) i)
           ∙ ap (λ l. flat_map (crossed t) (copies_of cs k sent) ++ l) (sym (append-nil (crossed t (copy_of cs k s))))
@@ -81,7 +81,7 @@ crossed_step t cs ds es k sent next last s has are grown behind =
           ∙ ap (flat_map (crossed t)) (sym (map_joined (copy_of cs k) sent (s ∷ [])));
       trails =
           subst (λ (l : List Crossing). HaveTrails l (suc k) last) (sym grown)
-          (subst (HaveTrails (ds ++ c) (suc k)) (sym behind) (All-append (Has (ds ++ c) (suc k)) next f before.1 one.1));
+          (subst (HaveTrails (ds ++ c) (suc k)) (sym following) (All-append (Has (ds ++ c) (suc k)) next f before.1 one.1));
     }
 
 -- the element at a place, one more
@@ -93,9 +93,9 @@ pub crossed_more : (t : Tables) (cs ds es : List Crossing) (k i : ℕ) (all next
     → HaveTrails cs k all → AreCrossed t cs ds k (take i all) next
     → es ≡ ds ++ crossing_by t s (link_of_sent t s) → last ≡ next ++ flying_by (length ds) s (link_of_sent t s)
     → AreCrossed t cs es k (take (i + 1) all) last
-crossed_more t cs ds es k i all next last s less e has are grown behind =
+crossed_more t cs ds es k i all next last s less e has are grown following =
     subst (λ (l : List Flying). AreCrossed t cs es k l last) (sym (taken all i s less e))
-    (crossed_step t cs ds es k (take i all) next last s (subst (Has cs k) (sym e) (has i s less)) are grown behind)
+    (crossed_step t cs ds es k (take i all) next last s (subst (Has cs k) (sym e) (has i s less)) are grown following)
 
 -- joining one element more
 pub joined_more : {X Y : Type 0} (f : X → List Y) (xs : List X) (i : ℕ) (x : X) → i < length xs → x ≡ get_or xs i x

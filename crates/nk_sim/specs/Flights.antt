@@ -8,8 +8,8 @@ use Rattle.nk_topo.specs.Topology.{link_from}
 use Rattle.nk_table.specs.declared.Tables.{Tables}
 use Rattle.nk_table.specs.Rules.{sent_for}
 use Rattle.nk_table.specs.Hops.{Copy, moved_to, across, leaving, waiting}
-use Rattle.nk_sim.specs.declared.flight.Crossing.{Crossing}
-use Rattle.nk_sim.specs.declared.flight.Flying.{Flying}
+use Rattle.nk_sim.specs.declared.transit.Crossing.{Crossing}
+use Rattle.nk_sim.specs.declared.transit.Flying.{Flying}
 use Rattle.nk_sim.specs.declared.tracing.State.{State}
 use Rattle.nk_sim.specs.Traces.{as_history, histories_before, AreOrderedFrom}
 
@@ -59,7 +59,7 @@ abbrev pub crossing_by : Tables → Flying → Option (ℕ × ℕ) → List Cros
 crossing_by t s None = []
 crossing_by t s (Some to) = record { earlier = s.last; before = erased t.fields s.packet; after = erased t.fields (moved_to to s.packet) } ∷ []
 
--- the copy behind it, where the crossing is held at place n
+-- the copy after it, where the crossing is held at place n
 abbrev pub flying_by : ℕ → Flying → Option (ℕ × ℕ) → List Flying
 flying_by n s None = []
 flying_by n s (Some to) = record { last = n; packet = moved_to to s.packet } ∷ []

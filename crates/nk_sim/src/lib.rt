@@ -2,11 +2,11 @@
 #![tactic(auto)]
 
 mod finder;
-mod flight;
 pub mod laws;
 mod links;
 mod sending;
 mod tracing;
+mod transit;
 
 pub use finder::Finder;
 pub use links::{is_located, leaves_at, link_at};

@@ -10,7 +10,7 @@ use nk_field::{Fid, Fields, Packet};
 use nk_table::{Bucket, Exit, Group, Table, Tables, Target, acting_row};
 use std::alloc::{AllocError, Global};
 
-/// What the packet's switch sends for it, in the order of the buckets: the packets as they leave, each behind the port
+/// What the packet's switch sends for it, in the order of the buckets: the packets as they leave, each after the port
 /// where it is sent. A packet whose switch has no table is dropped. The only error is that memory ran out. The switch's
 /// table is looked for from the first on: for many packets there is `emit_by`.
 pub fn emit(alloc: Global, t: &Tables, p: &Packet) -> Result<Vec<Packet>, AllocError>

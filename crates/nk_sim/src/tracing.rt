@@ -5,7 +5,7 @@ ghost use Rattle.nk_sim.specs.Flights.{HaveTrails, IsAt, IsSortedFrom};
 ghost use Rattle.nk_sim.specs.Traces.{IsTrace, histories_after};
 
 use crate::finder::Finder;
-use crate::flight::{Crossing, Flying, cross, leave, send};
+use crate::transit::{Crossing, Flying, cross, leave, send};
 use nk_field::{History, List, Packet};
 use nk_table::Tables;
 use std::alloc::{AllocError, Global};
@@ -77,7 +77,7 @@ fn start(alloc: Global, p: &Packet) -> Result<Vec<Flying>, AllocError>
     Ok(waiting)
 }
 
-/// One crossing more: the histories that leave, and the copies behind the links.
+/// One crossing more: the histories that leave, and the copies after the links.
 fn step(
     alloc: Global,
     finder: &Finder,

@@ -4,11 +4,11 @@ use Rattle.std.proofs.lemmas.Bool.Decides.{leb_tells}
 use Rattle.std.proofs.lemmas.List.{get_or_append_left, get_or_at, get_or-take, get_or-drop, length-take-le, length-drop}
 use Rattle.nk_store.specs.declared.node.Out.{Out}
 use Rattle.nk_store.specs.Leaves.{Strict, Suits}
-use Rattle.nk_store.specs.Held.{Held, IsId, IsWhole, look, Grows, HasLeaves, AreTidy, Agree}
+use Rattle.nk_store.specs.StoreState.{StoreState, IsId, IsWhole, look, Grows, HasLeaves, AreTidy, Agree}
 use Rattle.nk_store.specs.Operations.{has_out, lacking}
 use Rattle.nk_apply.specs.Leaves.{merged}
 use Rattle.nk_apply.specs.Seqs.{seq_leaf}
-use Rattle.nk_apply.specs.Predicates.{Ends}
+use Rattle.nk_apply.specs.Predicates.{HasOnlyFinals}
 use Rattle.nk_apply.specs.Unions.{AreIds, unions}
 use Rattle.nk_apply.proofs.Sorted.{merged_strict}
 use Rattle.nk_apply.proofs.Members.{Has, every_from, merged_left, merged_right, merged_has, strict_same}
@@ -21,7 +21,7 @@ use Rattle.nk_star.proofs.Rounds.{climbs, rounds_end, rounds_strict, rounds_step
 use Rattle.nk_star.proofs.Leads.{AllSuit, steps_range}
 
 -- leaves together are one where the leaves are
-unions_alike : (old new : Held) (ds es : List ℕ) (f g n : ℕ) (pk : List ℕ) →
+unions_alike : (old new : StoreState) (ds es : List ℕ) (f g n : ℕ) (pk : List ℕ) →
     ((k : ℕ) → k < n → look new (get_or ds (k + f) 0) pk ≡ look old (get_or es (k + g) 0) pk) →
     unions new ds f n pk ≡ unions old es g n pk
 unions_alike old new ds es f g zero pk h = refl
@@ -35,21 +35,21 @@ unions_alike old new ds es f g (suc n) pk h =
     ap (λ m. look new (get_or ds m 0) pk) e ∙ h (suc k) (omega (arith, l)) ∙ ap (λ m. look old (get_or es m 0) pk) i))
 
 -- leaves together stay in a store that grew
-pub unions_on : (old new : Held) (ds : List ℕ) (pk : List ℕ) → Grows old new → AreIds old ds →
+pub unions_on : (old new : StoreState) (ds : List ℕ) (pk : List ℕ) → Grows old new → AreIds old ds →
     unions new ds 0 (length ds) pk ≡ unions old ds 0 (length ds) pk
 unions_on old new ds pk g ids = unions_alike old new ds ds 0 0 (length ds) pk (λ k l.
     let e : k + 0 ≡ k = omega arith in
     subst (λ m. look new (get_or ds m 0) pk ≡ look old (get_or ds m 0) pk) (sym e) (g.leaves (get_or ds k 0) pk (ids k l)))
 
 -- one more at the end
-pub unions_more : (st : Held) (ds : List ℕ) (n : ℕ) (pk : List ℕ) → AreTidy st →
+pub unions_more : (st : StoreState) (ds : List ℕ) (n : ℕ) (pk : List ℕ) → AreTidy st →
     unions st ds 0 (n + 1) pk ≡ merged (unions st ds 0 n pk) (look st (get_or ds n 0) pk)
 unions_more st ds n pk t =
     let z : 0 + n ≡ n = omega arith in
     sym (unions_halves st ds 0 n 1 pk t) ∙ ap (λ m. merged (unions st ds 0 n pk) (unions st ds m 1 pk)) z ∙ ap (λ y. merged (unions st ds 0 n pk) y) (merged-nil (look st (get_or ds n 0) pk))
 
 -- leaves together ascend
-unions_strict : (st : Held) (ds : List ℕ) (from n : ℕ) (pk : List ℕ) → AreTidy st → Strict (unions st ds from n pk)
+unions_strict : (st : StoreState) (ds : List ℕ) (from n : ℕ) (pk : List ℕ) → AreTidy st → Strict (unions st ds from n pk)
 unions_strict st ds from zero pk t = tt
 unions_strict st ds from (suc n) pk t =
     merged_strict (look st (get_or ds from 0) pk) (unions st ds (from + 1) n pk) ((t (get_or ds from 0)).sorted pk) (unions_strict st ds (from + 1) n pk t)
@@ -112,14 +112,14 @@ lacking_enough L M s t u = strict_same (merged L (lacking M L)) (merged L M) (me
     ]
 
 -- a first diagram alone
-pub together_one : (st : Held) (d : ℕ) (F : List ℕ → List Out) → HasLeaves st d F → AreTogether st (d ∷ []) F
+pub together_one : (st : StoreState) (d : ℕ) (F : List ℕ → List Out) → HasLeaves st d F → AreTogether st (d ∷ []) F
 together_one st d F h = record {
   ids = λ k l. let e : 0 ≡ k = omega (arith, l) in subst (λ j. IsId st (get_or (d ∷ []) j 0)) e h.id;
   leaf = λ pk w. merged-nil (look st d pk) ∙ h.leaf pk w;
 }
 
 -- diagrams stay together in a store that grew
-pub together_on : (old new : Held) (ds : List ℕ) (F : List ℕ → List Out) → Grows old new → AreTogether old ds F →
+pub together_on : (old new : StoreState) (ds : List ℕ) (F : List ℕ → List Out) → Grows old new → AreTogether old ds F →
     AreTogether new ds F
 together_on old new ds F g h = record {
   ids = λ k l. g.ids (get_or ds k 0) (h.ids k l);
@@ -127,7 +127,7 @@ together_on old new ds F g h = record {
 }
 
 -- the first of these diagrams, and the others put together with a new one
-pub put_together : (old s2 : Held) (ds ls : List ℕ) (kept last new : ℕ) → Grows old s2 → AreTidy old →
+pub put_together : (old s2 : StoreState) (ds ls : List ℕ) (kept last new : ℕ) → Grows old s2 → AreTidy old →
     AreTidy s2 → AreIds old ds → kept ≤ length ds → ls ≡ take kept ds ++ last ∷ [] →
     HasLeaves s2 last (λ pk. merged (unions old (drop kept ds) 0 (length (drop kept ds)) pk) (look old new pk)) →
     AreTogether s2 ls (λ pk. merged (unions old ds 0 (length ds) pk) (look old new pk))
@@ -184,7 +184,7 @@ put_together old s2 ds ls kept last new h t u ids few is gl =
         ∙ ap (λ x. merged x (look old new pk)) (ap (λ m. merged A (unions old ds m (length ds - kept) pk)) (sym z) ∙ unions_halves old ds 0 kept (length ds - kept) pk t ∙ ap (λ m. unions old ds 0 m pk) n)
 
 -- one diagram more before those that are put together with a new one already
-pub one_before : (old st on : Held) (ds : List ℕ) (d one all more k : ℕ) → Grows old st → AreTidy old → AreIds old ds → k < length ds →
+pub one_before : (old st on : StoreState) (ds : List ℕ) (d one all more k : ℕ) → Grows old st → AreTidy old → AreIds old ds → k < length ds →
     one ≡ get_or ds k 0 → HasLeaves st all (λ pk. merged (unions old ds (k + 1) (length ds - (k + 1)) pk) (look old d pk)) →
     HasLeaves on more (λ pk. merged (look st one pk) (look st all pk)) →
     HasLeaves on more (λ pk. merged (unions old ds k (length ds - k) pk) (look old d pk))
@@ -201,7 +201,7 @@ one_before old st on ds d one all more k g t ids l is h gl = record {
 }
 
 -- what a further copy makes of the outs that the last round added, and that no round has
-pub record IsAdded (st : Held) (new : ℕ) (D : List ℕ → List Out) (n : ℕ) : Type 0 where
+pub record IsAdded (st : StoreState) (new : ℕ) (D : List ℕ → List Out) (n : ℕ) : Type 0 where
   pub id : IsId st new
   pub made : List ℕ → List Out
   pub sorted : (pk : List ℕ) → Strict (made pk)
@@ -209,7 +209,7 @@ pub record IsAdded (st : Held) (new : ℕ) (D : List ℕ → List Out) (n : ℕ)
   pub leaf : (pk : List ℕ) → IsWhole pk → look st new pk ≡ lacking (made pk) (rounds D n pk)
 
 -- it is what the diagrams of all rounds lack
-pub added_of : (old s0 s1 s2 : Held) (d fresh more new n : ℕ) (ds all : List ℕ) → all ≡ ds → Grows old s0 → IsId old d → Grows s0 s1 →
+pub added_of : (old s0 s1 s2 : StoreState) (d fresh more new n : ℕ) (ds all : List ℕ) → all ≡ ds → Grows old s0 → IsId old d → Grows s0 s1 →
     AreTogether s0 ds (λ pk. rounds (look old d) n pk) → IsFresh s0 fresh (look old d) n →
     HasLeaves s1 more (λ pk. seq_leaf (look s0 fresh pk) (look s0 d) pk) →
     HasLeaves s2 new (λ pk. lacking (look s1 more pk) (unions s1 all 0 (length all) pk)) → IsAdded s2 new (look old d) n
@@ -227,7 +227,7 @@ added_of old s0 s1 s2 d fresh more new n ds all same g id h together gf gm gn = 
 }
 
 -- with it the rounds are those of one copy more
-pub added_round : (st : Held) (new : ℕ) (D : List ℕ → List Out) (n : ℕ) → AreTidy st → IsAdded st new D n → (pk : List ℕ) → IsWhole pk →
+pub added_round : (st : StoreState) (new : ℕ) (D : List ℕ → List Out) (n : ℕ) → AreTidy st → IsAdded st new D n → (pk : List ℕ) → IsWhole pk →
     merged (rounds D n pk) (look st new pk) ≡ rounds D (suc n) pk
 added_round st new D n t a pk w =
     ap (λ x. merged (rounds D n pk) x) (a.leaf pk w)
@@ -235,7 +235,7 @@ added_round st new D n t a pk w =
     ∙ a.round pk w
 
 -- and it is enough to make the next ones
-pub added_fresh : (st on : Held) (new : ℕ) (D : List ℕ → List Out) (n : ℕ) → Grows st on → IsAdded st new D n → IsFresh on new D (suc n)
+pub added_fresh : (st on : StoreState) (new : ℕ) (D : List ℕ → List Out) (n : ℕ) → Grows st on → IsAdded st new D n → IsFresh on new D (suc n)
 added_fresh st on new D n g a = record {
   id = g.ids new a.id;
   enough = λ pk w.
@@ -244,7 +244,7 @@ added_fresh st on new D n g a = record {
 }
 
 -- where nothing was added, the rounds are all
-pub added_last : (st on : Held) (new nothing r n : ℕ) (D : List ℕ → List Out) → IsAdded st new D n → HasLeaves st nothing (λ pk. []) →
+pub added_last : (st on : StoreState) (new nothing r n : ℕ) (D : List ℕ → List Out) → IsAdded st new D n → HasLeaves st nothing (λ pk. []) →
     new ≡ nothing → AreTidy st → HasLeaves on r (λ pk. rounds D n pk) → IsLastRound on r D
 added_last st on new nothing r n D a z e t h = record {
   count = n;
@@ -254,7 +254,7 @@ added_last st on new nothing r n D a z e t h = record {
 }
 
 -- where something was added, there were fewer rounds than acts
-pub added_below : (st : Held) (new nothing n : ℕ) (D : List ℕ → List Out) → Ends D → AllSuit st.maxes D → IsAdded st new D n →
+pub added_below : (st : StoreState) (new nothing n : ℕ) (D : List ℕ → List Out) → HasOnlyFinals D → AllSuit st.maxes D → IsAdded st new D n →
     HasLeaves st nothing (λ pk. []) → (Agree st new nothing → ⊥) → n < room st.maxes
 added_below st new nothing n D z suits a bare other = elim (leb_tells (room st.maxes) n) [
   | inr less ↦ less.1
@@ -275,7 +275,7 @@ added_below st new nothing n D z suits a bare other = elim (leb_tells (room st.m
         subst (λ xs. Has xs o) (a.round pk w ∙ still pk w full) (merged_right o (rounds D n pk) (a.made pk) h))
 
 -- what is left after one diagram more
-pub less_more : (old st new : Held) (ds : List ℕ) (d rest one less k : ℕ) → Grows old st → AreTidy old → AreIds old ds → k < length ds →
+pub less_more : (old st new : StoreState) (ds : List ℕ) (d rest one less k : ℕ) → Grows old st → AreTidy old → AreIds old ds → k < length ds →
     one ≡ get_or ds k 0 → HasLeaves st rest (λ pk. lacking (look old d pk) (unions old ds 0 k pk)) →
     HasLeaves new less (λ pk. lacking (look st rest pk) (look st one pk)) →
     HasLeaves new less (λ pk. lacking (look old d pk) (unions old ds 0 (k + 1) pk))
@@ -289,7 +289,7 @@ less_more old st new ds d rest one less k g t ids l is h gl = record {
 }
 
 -- the diagrams of one round more
-pub added_more : (st on : Held) (new : ℕ) (ds all ls : List ℕ) (n : ℕ) (D : List ℕ → List Out) → all ≡ ds → AreTidy st → IsAdded st new D n →
+pub added_more : (st on : StoreState) (new : ℕ) (ds all ls : List ℕ) (n : ℕ) (D : List ℕ → List Out) → all ≡ ds → AreTidy st → IsAdded st new D n →
     AreTogether st ds (λ pk. rounds D n pk) → AreTogether on ls (λ pk. merged (unions st all 0 (length all) pk) (look st new pk)) →
     AreTogether on ls (λ pk. rounds D (suc n) pk)
 added_more st on new ds all ls n D same t a h k = record {

@@ -8,7 +8,7 @@ use Rattle.std.specs.declared.cmp.Ordering.{Ordering}
 use Rattle.std.specs.declared.cmp.Ordering.TheVariants.{Less, Equal, Greater}
 use Rattle.nk_store.specs.declared.node.Out.{Out}
 use Rattle.nk_store.specs.Leaves.{out_cmp, Every, Strict}
-use Rattle.nk_store.specs.Held.{Held, IsId, look, HasLeaves}
+use Rattle.nk_store.specs.StoreState.{StoreState, IsId, look, HasLeaves}
 use Rattle.nk_store.proofs.NodeEq.{out_decides}
 use Rattle.nk_algebra.proofs.Acts.{every_at}
 use Rattle.nk_apply.proofs.Sorted.{out_order}
@@ -80,12 +80,12 @@ lacking_none [] = refl
 lacking_none (x ∷ xs) = ap (λ zs. x ∷ zs) (lacking_none xs)
 
 -- a diagram that drops each packet has no out that another one lacks
-pub missing_left : (st : Held) (a b : ℕ) → IsId st a → ((pk : List ℕ) → look st a pk ≡ []) →
+pub missing_left : (st : StoreState) (a b : ℕ) → IsId st a → ((pk : List ℕ) → look st a pk ≡ []) →
     HasLeaves st a (λ pk. lacking (look st a pk) (look st b pk))
 missing_left st a b ia e = record { id = ia; leaf = λ pk w. e pk ∙ sym (ap (λ xs. lacking xs (look st b pk)) (e pk)) }
 
 -- a diagram that drops each packet lacks each out
-pub missing_right : (st : Held) (a b : ℕ) → IsId st a → ((pk : List ℕ) → look st b pk ≡ []) →
+pub missing_right : (st : StoreState) (a b : ℕ) → IsId st a → ((pk : List ℕ) → look st b pk ≡ []) →
     HasLeaves st a (λ pk. lacking (look st a pk) (look st b pk))
 missing_right st a b ia e = record { id = ia; leaf = λ pk w. sym (ap (λ ys. lacking (look st a pk) ys) (e pk) ∙ lacking_none (look st a pk)) }
 
@@ -145,8 +145,8 @@ searched_none xs o i h = by (has_out xs o) refl
     no k =
         let c = has_contains xs o k in
         elim (leb_tells i c.0) [
-          | inl behind ↦
-              let g : out_cmp o o ≡ Greater = subst (λ z. out_cmp z o ≡ Greater) c.2 (h.1 c.0 o behind.1 c.1) in
+          | inl following ↦
+              let g : out_cmp o o ≡ Greater = subst (λ z. out_cmp z o ≡ Greater) c.2 (h.1 c.0 o following.1 c.1) in
               not_before_itself o (out_order.antisymm o o ∙ ap ordering_reverse g)
           | inr front ↦ not_before_itself o (subst (λ z. out_cmp z o ≡ Less) c.2 (h.0 c.0 o (omega arith) front.1))
         ]

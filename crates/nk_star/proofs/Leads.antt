@@ -5,9 +5,9 @@ use Rattle.nk_field.proofs.Thens.{then_applied}
 use Rattle.nk_store.specs.declared.node.Out.{Out}
 use Rattle.nk_store.specs.Leaves.{Every, Suits, IsActFrom}
 use Rattle.nk_store.specs.Nodes.{InRange}
-use Rattle.nk_store.specs.Held.{Held, IsId, IsWhole, IsPacket, look, Grows, AreTidy}
+use Rattle.nk_store.specs.StoreState.{StoreState, IsId, IsWhole, IsStorePacket, look, Grows, AreTidy}
 use Rattle.nk_store.proofs.Same.{set_in_range}
-use Rattle.nk_apply.specs.Predicates.{Ends}
+use Rattle.nk_apply.specs.Predicates.{HasOnlyFinals}
 use Rattle.nk_algebra.proofs.Acts.{then_acts}
 use Rattle.nk_apply.proofs.Members.{contains_has, every_has}
 use Rattle.nk_star.specs.Steps.{Steps, IsLastRound}
@@ -76,11 +76,11 @@ lead_steps maxes D (suc n) pk y suits l =
     (act_then h k, (h, k, before.1, c, refl), r.2.2 ∙ ap (λ z. applied k z) before.2 ∙ sym (steps_applied maxes D n pk h k suits before.1 c))
 
 -- the outs of a diagram in an earlier store suit the highest values
-pub suits_before : (old st : Held) (d : ℕ) → Grows old st → IsId old d → AreTidy st → AllSuit st.maxes (look old d)
+pub suits_before : (old st : StoreState) (d : ℕ) → Grows old st → IsId old d → AreTidy st → AllSuit st.maxes (look old d)
 suits_before old st d g id tidy = λ p. subst (Every (Suits st.maxes)) (g.leaves d p id) ((tidy d).suits p)
 
 -- the last round makes of a packet what steps lead to
-pub last_leads : (old st : Held) (d r : ℕ) → Grows old st → IsId old d → AreTidy st → Ends (look old d) →
+pub last_leads : (old st : StoreState) (d r : ℕ) → Grows old st → IsId old d → AreTidy st → HasOnlyFinals (look old d) →
     IsLastRound st r (look old d) → (pk y : List ℕ) → IsWhole pk →
     Makes (look st r) pk y ↔ ((n : ℕ) × Leads (look old d) n pk y)
 last_leads old st d r grown id tidy z last pk y w = (
@@ -100,8 +100,8 @@ applied_in_range maxes low (s ∷ ss) x act r =
     applied_in_range maxes (s.0 + 1) ss (set x s.0 s.1) act.3 (set_in_range maxes x s.0 s.1 r act.2)
 
 -- what a diagram makes of a packet of the fields is one too
-pub made_in_range : (st : Held) → AreTidy st → (d : ℕ) (pk y : List ℕ) → IsPacket st pk → Makes (look st d) pk y →
-    IsPacket st y
+pub made_in_range : (st : StoreState) → AreTidy st → (d : ℕ) (pk y : List ℕ) → IsStorePacket st pk → Makes (look st d) pk y →
+    IsStorePacket st y
 made_in_range st tidy d pk y p m =
     subst (InRange st.maxes) (sym m.2)
     (applied_in_range st.maxes 0 m.0 pk (out_range st.maxes (look st d) pk m.0 (λ q. (tidy d).suits q) m.1) p)

@@ -7,10 +7,10 @@ use Rattle.nk_store.specs.declared.node.Out.{Out}
 use Rattle.nk_store.specs.declared.node.Node.{Node}
 use Rattle.nk_store.specs.declared.node.Node.TheVariants.{Leaf, Case}
 use Rattle.nk_store.specs.Leaves.{Every, Strict}
-use Rattle.nk_store.specs.Held.{Held, IsId, IsWhole, look, top, Grows, HasLeaves, IsNodeOf, IsStill, IsReduced}
+use Rattle.nk_store.specs.StoreState.{StoreState, IsId, IsWhole, look, root_field, Grows, HasLeaves, IsNodeOf, IsStill, IsReduced}
 use Rattle.nk_apply.specs.Leaves.{merged}
 use Rattle.nk_apply.specs.Seqs.{no_out, out_after, prefixed, seq_leaf}
-use Rattle.nk_apply.specs.Predicates.{IsPass, Ends}
+use Rattle.nk_apply.specs.Predicates.{IsPass, HasOnlyFinals}
 use Rattle.nk_apply.proofs.Sorted.{merged_strict, prefixed_strict}
 use Rattle.nk_apply.proofs.Members.{Has, has_contains, contains_has, every_has, merged_left, merged_right, merged_has, merged_grows, strict_same, gathered_strict, seq_leaf_is, seq_leaf_has, has_seq_leaf}
 use Rattle.nk_apply.proofs.Predicates.{whole_applied, pass_seq, ends_merged, ends_seq}
@@ -36,7 +36,7 @@ climbs D pk (suc n) = elim (climbs D pk n) [
 ]
 
 -- the outs of each round go to target 0
-pub rounds_end : (D : List ℕ → List Out) (n : ℕ) (pk : List ℕ) → Ends D → IsWhole pk →
+pub rounds_end : (D : List ℕ → List Out) (n : ℕ) (pk : List ℕ) → HasOnlyFinals D → IsWhole pk →
     Every (λ o. o.target ≡ 0) (rounds D n pk)
 rounds_end D zero pk z w = (refl, tt)
 rounds_end D (suc n) pk z w =
@@ -52,7 +52,7 @@ rounds_strict D zero pk = (tt, tt)
 rounds_strict D (suc n) pk = merged_strict (rounds D n pk) (seq_leaf (rounds D n pk) D pk) (rounds_strict D n pk) (seq_strict (rounds D n pk) D pk)
 
 -- what the rounds have, some number of copies make
-pub rounds_step : (D : List ℕ → List Out) (n : ℕ) (pk : List ℕ) (o : Out) → Ends D → IsWhole pk →
+pub rounds_step : (D : List ℕ → List Out) (n : ℕ) (pk : List ℕ) (o : Out) → HasOnlyFinals D → IsWhole pk →
     Has (rounds D n pk) o → (m : ℕ) × Steps D m pk o.act
 rounds_step D zero pk o z w (inl e) = (0, ap (λ (x : Out). x.act) (sym e))
 rounds_step D zero pk o z w (inr h) = absurd h
@@ -83,7 +83,7 @@ rounds_all D n pk same (suc m) g s =
     (subst (λ xs. Has xs (record { act = act_then s.0 s.1; target = 0 })) same (merged_right (record { act = act_then s.0 s.1; target = 0 }) L (seq_leaf L D pk) made))
 
 -- the outs of the last round are those that some number of copies make
-pub last_steps : (st : Held) (r : ℕ) (D : List ℕ → List Out) → Ends D → IsLastRound st r D → (pk : List ℕ)
+pub last_steps : (st : StoreState) (r : ℕ) (D : List ℕ → List Out) → HasOnlyFinals D → IsLastRound st r D → (pk : List ℕ)
     (g : List (ℕ × ℕ)) → IsWhole pk →
     Contains (look st r pk) (record { act = g; target = 0 }) ↔ ((m : ℕ) × Steps D m pk g)
 last_steps st r D z last pk g w = (
@@ -92,11 +92,11 @@ last_steps st r D z last pk g w = (
 )
 
 -- the outs of the last round go to target 0
-pub last_ends : (st : Held) (r : ℕ) (D : List ℕ → List Out) → Ends D → IsLastRound st r D → Ends (look st r)
+pub last_ends : (st : StoreState) (r : ℕ) (D : List ℕ → List Out) → HasOnlyFinals D → IsLastRound st r D → HasOnlyFinals (look st r)
 last_ends st r D z last = λ pk w. subst (Every (λ o. o.target ≡ 0)) (sym (last.leaves.leaf pk w)) (rounds_end D last.count pk z w)
 
 -- what one more copy makes, it makes after the outs of this diagram, or it is there after n copies
-pub record IsFresh (st : Held) (fresh : ℕ) (D : List ℕ → List Out) (n : ℕ) : Type 0 where
+pub record IsFresh (st : StoreState) (fresh : ℕ) (D : List ℕ → List Out) (n : ℕ) : Type 0 where
   pub id : IsId st fresh
   pub enough : (pk : List ℕ) → IsWhole pk → merged (rounds D n pk) (seq_leaf (look st fresh pk) D pk) ≡ rounds D (suc n) pk
 
@@ -142,11 +142,11 @@ fresh_enough D pk L M N s round e =
     ]
 
 -- leaves stay in a store that grew
-pub leaves_on : (old new : Held) (d : ℕ) (F : List ℕ → List Out) → Grows old new → HasLeaves old d F → HasLeaves new d F
+pub leaves_on : (old new : StoreState) (d : ℕ) (F : List ℕ → List Out) → Grows old new → HasLeaves old d F → HasLeaves new d F
 leaves_on old new d F g k = record { id = g.ids d k.id; leaf = λ pk w. g.leaves d pk k.id ∙ k.leaf pk w }
 
 -- the measure falls
-pub room_falls : (st new : Held) (n m : ℕ) → new.maxes ≡ st.maxes → m ≡ n + 1 → n < room new.maxes →
+pub room_falls : (st new : StoreState) (n m : ℕ) → new.maxes ≡ st.maxes → m ≡ n + 1 → n < room new.maxes →
     room new.maxes - m < room st.maxes - n
 room_falls st new n m e is h = let k : room new.maxes ≡ room st.maxes = ap (λ ms. room ms) e in omega (arith, k, is, h)
 
@@ -162,7 +162,7 @@ rounds_pass D (suc n) pk w p =
     beside (y ∷ ys) q = ap (λ z. merged (no_out ∷ []) (z ∷ ys)) q.0 ∙ ap (λ zs. merged (no_out ∷ []) (no_out ∷ zs)) q.1
 
 -- the last round of a predicate is the packet itself
-pub last_pass : (st : Held) (r : ℕ) (D : List ℕ → List Out) → IsLastRound st r D →
+pub last_pass : (st : StoreState) (r : ℕ) (D : List ℕ → List Out) → IsLastRound st r D →
     ((p : List ℕ) → IsWhole p → IsPass (D p)) → HasLeaves st r (λ pk. no_out ∷ [])
 last_pass st r D last p = record { id = last.leaves.id; leaf = λ pk w. last.leaves.leaf pk w ∙ rounds_pass D last.count pk w p }
 
@@ -192,21 +192,21 @@ rounds_still D f v (suc n) pk still =
     ∙ ap (λ y. merged (rounds D n pk) y) (seq_still D f v pk still (rounds D n pk))
 
 -- a diagram tests one of the eighteen fields or none
-top_bound : (st : Held) (d : ℕ) (n : Node) → IsNodeOf st d n → top st d ≤ 18
-top_bound st d (Leaf outs) k = omega (arith, k.top_is)
-top_bound st d (Case f ps) k = omega (arith, k.top_is, k.parts_ok.field)
+root_field_bound : (st : StoreState) (d : ℕ) (n : Node) → IsNodeOf st d n → root_field st d ≤ 18
+root_field_bound st d (Leaf outs) k = omega (arith, k.root_field_is)
+root_field_bound st d (Case f ps) k = omega (arith, k.root_field_is, k.parts_ok.field)
 
 -- the last round tests no field before the diagram does
-pub last_later : (old st : Held) (d r : ℕ) (n : Node) → Grows old st → IsId old d → IsNodeOf st d n → IsStill st d →
-    IsReduced st r → IsLastRound st r (look old d) → top old d ≤ top st r
+pub last_later : (old st : StoreState) (d r : ℕ) (n : Node) → Grows old st → IsId old d → IsNodeOf st d n → IsStill st d →
+    IsReduced st r → IsLastRound st r (look old d) → root_field old d ≤ root_field st r
 last_later old st d r n g id node at reduced last =
-    let f = top st r in
-    let most : top st d ≤ 18 = top_bound st d n node in
-    let tops : top st d ≡ top old d = g.tops d id in
-    elim (leb_tells (top old d) f) [
+    let f = root_field st r in
+    let most : root_field st d ≤ 18 = root_field_bound st d n node in
+    let root_fields : root_field st d ≡ root_field old d = g.root_fields d id in
+    elim (leb_tells (root_field old d) f) [
       | inl ok ↦ ok.1
-      | inr less ↦ absurd (reduced.tests f (omega (arith, less.1, most, tops)) refl (λ v pk w.
+      | inr less ↦ absurd (reduced.tests f (omega (arith, less.1, most, root_fields)) refl (λ v pk w.
           last.leaves.leaf (set pk f v) (length-set pk f v ∙ w)
-          ∙ rounds_still (look old d) f v last.count pk (λ u p. sym (g.leaves d (set p f u) id) ∙ at.leaf f u p (omega (arith, less.1, tops)) ∙ g.leaves d p id)
+          ∙ rounds_still (look old d) f v last.count pk (λ u p. sym (g.leaves d (set p f u) id) ∙ at.leaf f u p (omega (arith, less.1, root_fields)) ∙ g.leaves d p id)
           ∙ sym (last.leaves.leaf pk w)))
     ]

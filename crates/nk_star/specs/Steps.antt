@@ -2,7 +2,7 @@
 use Rattle.std.specs.Prelude.{◌≡◌, ℕ, zero, suc, List, [], ◌∷◌, length, Contains}
 use Rattle.nk_field.specs.Act.{applied, act_then}
 use Rattle.nk_store.specs.declared.node.Out.{Out}
-use Rattle.nk_store.specs.Held.{Held, IsWhole, HasLeaves}
+use Rattle.nk_store.specs.StoreState.{StoreState, IsWhole, HasLeaves}
 use Rattle.nk_apply.specs.Leaves.{merged}
 use Rattle.nk_apply.specs.Unions.{AreIds, unions}
 use Rattle.nk_apply.specs.Seqs.{no_out, seq_leaf}
@@ -18,12 +18,12 @@ rounds D zero pk = no_out ∷ []
 rounds D (suc n) pk = merged (rounds D n pk) (seq_leaf (rounds D n pk) D pk)
 
 -- r has what at most so many copies make, and one more copy makes nothing else
-pub record IsLastRound (st : Held) (r : ℕ) (D : List ℕ → List Out) : Type 0 where
+pub record IsLastRound (st : StoreState) (r : ℕ) (D : List ℕ → List Out) : Type 0 where
   pub count : ℕ
   pub leaves : HasLeaves st r (λ pk. rounds D count pk)
   pub still : (pk : List ℕ) → IsWhole pk → rounds D (suc count) pk ≡ rounds D count pk
 
 -- these diagrams have all together the leaf F at each packet
-pub record AreTogether (st : Held) (ds : List ℕ) (F : List ℕ → List Out) : Type 0 where
+pub record AreTogether (st : StoreState) (ds : List ℕ) (F : List ℕ → List Out) : Type 0 where
   pub ids : AreIds st ds
   pub leaf : (pk : List ℕ) → IsWhole pk → unions st ds 0 (length ds) pk ≡ F pk

@@ -1,7 +1,7 @@
 //! The outs of a diagram that another one lacks.
 ghost use Rattle.std.specs.Prelude.{◌≡◌, IfOk, IfSome};
 ghost use Rattle.nk_store.specs.Leaves.{Strict};
-ghost use Rattle.nk_store.specs.Held.{IsId, look, Grows, HasLeaves};
+ghost use Rattle.nk_store.specs.StoreState.{IsId, look, Grows, HasLeaves};
 ghost use Rattle.nk_store.specs.Operations.{has_out, lacking};
 
 use nk_algebra::{Join, merge};

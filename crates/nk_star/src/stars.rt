@@ -1,11 +1,11 @@
 //! The star of a diagram.
 ghost use Rattle.std.specs.Prelude.{ℕ, ◌≤◌, ◌↔◌, [], ◌∷◌, IfOk, List as Items, length, Contains};
-ghost use Rattle.nk_store.specs.Held.{IsId, IsWhole, IsPacket, look, top, Grows, HasLeaves};
+ghost use Rattle.nk_store.specs.StoreState.{IsId, IsWhole, IsStorePacket, look, root_field, Grows, HasLeaves};
 ghost use Rattle.nk_store.specs.Operations.{lacking};
 ghost use Rattle.nk_apply.specs.Leaves.{merged};
 ghost use Rattle.nk_apply.specs.Seqs.{no_out};
 ghost use Rattle.nk_apply.specs.Unions.{AreIds, unions};
-ghost use Rattle.nk_apply.specs.Predicates.{IsPredicate, Ends};
+ghost use Rattle.nk_apply.specs.Predicates.{IsPredicate, HasOnlyFinals};
 ghost use Rattle.nk_star.specs.Steps.{Steps, IsLastRound, AreTogether};
 ghost use Rattle.nk_star.specs.Leading.{Makes, Leads};
 
@@ -19,16 +19,16 @@ use std::alloc::AllocError;
 /// outs have target 0, and so have those of the answer. The only error is that memory ran out.
 pub fn star(st: &mut Store, d: Id) -> Result<Id, AllocError>
     requires id { IsId st.old d }
-    requires ends { Ends (look st.old d) }
+    requires ends { HasOnlyFinals (look st.old d) }
     ensures grows { Grows st.old st.new }
     ensures id { IfOk result (λ r. IsId st.new r) }
-    ensures ends { IfOk result (λ r. Ends (look st.new r)) }
+    ensures ends { IfOk result (λ r. HasOnlyFinals (look st.new r)) }
     ensures steps { IfOk result (λ r. (pk : Items ℕ) (g : Items (ℕ × ℕ)) → IsWhole pk →
         Contains (look st.new r pk) (record { act = g; target = 0 }) ↔ ((n : ℕ) × Steps (look st.old d) n pk g)) }
     ensures leads { IfOk result (λ r. (pk y : Items ℕ) → IsWhole pk →
         Makes (look st.new r) pk y ↔ ((n : ℕ) × Leads (look st.old d) n pk y)) }
     ensures predicate { IfOk result (λ r. IsPredicate st.old d → HasLeaves st.new r (λ pk. no_out ∷ [])) }
-    ensures later { IfOk result (λ r. top st.old d ≤ top st.new r) }
+    ensures later { IfOk result (λ r. root_field st.old d ≤ root_field st.new r) }
 {
     let all = last_round(st, d)?;
     st.laws();
@@ -40,7 +40,7 @@ pub fn star(st: &mut Store, d: Id) -> Result<Id, AllocError>
 /// at the end: so an out is copied once for each time that the number of rounds doubles, and not once for each round.
 fn last_round(st: &mut Store, d: Id) -> Result<Id, AllocError>
     requires id { IsId st.old d }
-    requires ends { Ends (look st.old d) }
+    requires ends { HasOnlyFinals (look st.old d) }
     ensures grows { Grows st.old st.new }
     ensures ok { IfOk result (λ r. IsLastRound st.new r (look st.old d)) }
 {
@@ -91,9 +91,9 @@ fn put_to(st: &mut Store, all: &[Id], new: Id, n: usize) -> Result<List<Id>, All
     ensures ok { IfOk result (λ r. AreTogether st.new r (λ pk. merged (unions st.old all.now 0 (length all.now) pk) (look st.old new pk))) }
 {
     let kept = (n.count_ones() as usize).min(all.len());
-    let (first, behind) = all.split_at(kept);
+    let (first, following) = all.split_at(kept);
     st.laws();
-    let last = from_the_last(st, behind, new)?;
+    let last = from_the_last(st, following, new)?;
     st.laws();
     let mut next = List::from_vec(Vec::from_slice(st.alloc(), first)?);
     next.push(last)?;
@@ -120,7 +120,7 @@ fn from_the_last(st: &mut Store, ds: &[Id], d: Id) -> Result<Id, AllocError>
 
 /// States a law, and does nothing: what a diagram makes of a packet of the fields is a packet of the fields too.
 pub fn laws(st: &Store)
-    ensures { (d : ℕ) (pk y : Items ℕ) → IsPacket st.now pk → Makes (look st.now d) pk y → IsPacket st.now y }
+    ensures { (d : ℕ) (pk y : Items ℕ) → IsStorePacket st.now pk → Makes (look st.now d) pk y → IsStorePacket st.now y }
 {
     st.laws();
 }

@@ -5,7 +5,7 @@ use Rattle.nk_store.specs.declared.node.Node.{Node}
 use Rattle.nk_store.specs.declared.node.Node.TheVariants.{Leaf, Case}
 use Rattle.nk_store.specs.declared.node.Out.{Out}
 use Rattle.nk_store.specs.Leaves.{Strict, Every, Suits}
-use Rattle.nk_store.specs.Nodes.{child_at, node_at, node_look, look_in, node_top, top_in, Each, IsLater, Joined, Fits, Sound}
+use Rattle.nk_store.specs.Nodes.{child_at, node_at, node_look, look_in, field_of_node, root_field_in, Each, TestsLater, Joined, Fits, Sound}
 
 -- the test of two numbers, the first one less
 pub eqb_below : (i n : ℕ) → i < n → eqb i n ≡ false
@@ -35,9 +35,9 @@ pub look-new : (n : Node) (older : List Node) (pk : List ℕ) →
 look-new n older pk = rw (eqb_same (length older)) refl
 
 -- a newer node leaves the first field of an older number
-pub top-old : (n : Node) (older : List Node) (i : ℕ) → i < length older →
-    top_in (n ∷ older) i ≡ top_in older i
-top-old n older i h = ap node_top (node_at-old n older i h)
+pub root_field-old : (n : Node) (older : List Node) (i : ℕ) → i < length older →
+    root_field_in (n ∷ older) i ≡ root_field_in older i
+root_field-old n older i h = ap field_of_node (node_at-old n older i h)
 
 -- what holds of each child holds of the one at a value
 pub each_at : (P : ℕ → Type 0) (d : ℕ) (ps : List (ℕ × ℕ)) (v : ℕ) → P d → Each P ps → P (child_at d ps v)
@@ -58,8 +58,8 @@ each_weaker P Q [] f e = tt
 each_weaker P Q (p ∷ ps) f e = (f p.1 e.0, each_weaker P Q ps f e.1)
 
 -- a newer node leaves which children are later
-pub later-old : (n : Node) (older : List Node) (f c : ℕ) → IsLater older f c → IsLater (n ∷ older) f c
-later-old n older f c h = (omega (arith, h.0), rw (top-old n older c h.0) h.1)
+pub later-old : (n : Node) (older : List Node) (f c : ℕ) → TestsLater older f c → TestsLater (n ∷ older) f c
+later-old n older f c h = (omega (arith, h.0), rw (root_field-old n older c h.0) h.1)
 
 -- a node with children has some
 pub joined_some : (ps : List (ℕ × ℕ)) → Joined ps → 0 < length ps
@@ -68,8 +68,8 @@ joined_some (p ∷ ps) h = omega arith
 
 -- a node that is there, and tests fields after f alone, by those made before it
 pub child_later : (maxes : List ℕ) (older : List Node) (f : ℕ) (ps : List (ℕ × ℕ)) (v : ℕ) →
-    Fits maxes older (Case f ps) → IsLater older f (child_at 0 ps v)
-child_later maxes older f ps v h = each_child (IsLater older f) 0 ps v (joined_some ps h.3) h.2
+    Fits maxes older (Case f ps) → TestsLater older f (child_at 0 ps v)
+child_later maxes older f ps v h = each_child (TestsLater older f) 0 ps v (joined_some ps h.3) h.2
 
 -- what holds of the node of a number: its children came before it, so also hold of all the nodes
 pub fits_at : (maxes : List ℕ) (ns : List Node) (i : ℕ) (f : ℕ) (ps : List (ℕ × ℕ)) → Sound maxes ns →
@@ -80,13 +80,13 @@ fits_at maxes (n ∷ older) i f ps s h e =
       | inl same ↦
           let e' : n ≡ Case f ps = sym (node_at-new n older) ∙ ap (λ k. node_at (n ∷ older) k) (sym same.1) ∙ e in
           let fits : Fits maxes older (Case f ps) = subst (λ m. Fits maxes older m) e' s.0 in (
-            (fits.0, fits.1, each_weaker (IsLater older f) (IsLater (n ∷ older) f) ps (later-old n older f) fits.2, fits.3),
-            each_weaker (IsLater older f) (λ c. c < i) ps (λ c l. omega (arith, l.0, same.1)) fits.2,
+            (fits.0, fits.1, each_weaker (TestsLater older f) (TestsLater (n ∷ older) f) ps (later-old n older f) fits.2, fits.3),
+            each_weaker (TestsLater older f) (λ c. c < i) ps (λ c l. omega (arith, l.0, same.1)) fits.2,
           )
       | inr other ↦
           let below : i < length older = omega (arith, other.1) in
           let rest = fits_at maxes older i f ps s.2 below (sym (node_at-old n older i below) ∙ e) in
-          ((rest.0.0, rest.0.1, each_weaker (IsLater older f) (IsLater (n ∷ older) f) ps (later-old n older f) rest.0.2, rest.0.3), rest.1)
+          ((rest.0.0, rest.0.1, each_weaker (TestsLater older f) (TestsLater (n ∷ older) f) ps (later-old n older f) rest.0.2, rest.0.3), rest.1)
     ]
 
 -- a leaf's outs are what its number gives each packet
@@ -126,31 +126,31 @@ look_case maxes (n ∷ older) i f ps pk s h e =
 
 -- a node's leaf does not depend on a field before the one that it tests, if its children's don't
 node_same : (maxes : List ℕ) (older : List Node) (n : Node) (f v : ℕ) (pk : List ℕ) →
-    ((c : ℕ) → f < top_in older c → c < length older → look_in older c (set pk f v) ≡ look_in older c pk) →
-    Fits maxes older n → f < node_top n →
+    ((c : ℕ) → f < root_field_in older c → c < length older → look_in older c (set pk f v) ≡ look_in older c pk) →
+    Fits maxes older n → f < field_of_node n →
     node_look n (λ c. look_in older c (set pk f v)) (set pk f v) ≡ node_look n (λ c. look_in older c pk) pk
 node_same maxes older (Leaf outs) f v pk ih fits t = refl
 node_same maxes older (Case g ps) f v pk ih fits t =
     let ne : g ≢ f = omega arith in
     let e : get_or (set pk f v) g 0 ≡ get_or pk g 0 = get_or-set_other pk f g v 0 ne in
     let c = child_at 0 ps (get_or pk g 0) in
-    let later : IsLater older g c = child_later maxes older g ps (get_or pk g 0) fits in
+    let later : TestsLater older g c = child_later maxes older g ps (get_or pk g 0) fits in
     ap (λ w. look_in older (child_at 0 ps w) (set pk f v)) e ∙ ih c (omega (arith, later.1)) later.0
 
 -- a leaf depends on no field before the one that the node tests
 pub look_same : (maxes : List ℕ) (ns : List Node) (i f v : ℕ) (pk : List ℕ) → Sound maxes ns → i < length ns →
-    f < top_in ns i → look_in ns i (set pk f v) ≡ look_in ns i pk
+    f < root_field_in ns i → look_in ns i (set pk f v) ≡ look_in ns i pk
 look_same maxes [] i f v pk s h t = absurd (omega arith)
 look_same maxes (n ∷ older) i f v pk s h t =
     elim (eqb_tells i (length older)) [
       | inl same ↦
-          let t' : f < node_top n = subst (λ m. f < node_top m) (node_at-new n older) (subst (λ k. f < top_in (n ∷ older) k) same.1 t) in
+          let t' : f < field_of_node n = subst (λ m. f < field_of_node m) (node_at-new n older) (subst (λ k. f < root_field_in (n ∷ older) k) same.1 t) in
           ap (λ k. look_in (n ∷ older) k (set pk f v)) same.1 ∙ look-new n older (set pk f v)
           ∙ node_same maxes older n f v pk (λ c g b. look_same maxes older c f v pk s.2 b g) s.0 t'
           ∙ sym (look-new n older pk) ∙ ap (λ k. look_in (n ∷ older) k pk) (sym same.1)
       | inr other ↦
           let below : i < length older = omega (arith, other.1) in
-          let t' : f < top_in older i = subst (λ m. f < m) (top-old n older i below) t in
+          let t' : f < root_field_in older i = subst (λ m. f < m) (root_field-old n older i below) t in
           look-old n older i (set pk f v) below ∙ look_same maxes older i f v pk s.2 below t' ∙ sym (look-old n older i pk below)
     ]
 

@@ -47,7 +47,7 @@ every_member P xs o e h = at xs e h.0 h.1 h.2
 first_member : (x : Out) (xs : List Out) → Contains (x ∷ xs) x
 first_member x xs = (0, omega arith, refl)
 
--- a member stays one behind another out
+-- a member stays one after another out
 later_member : (x o : Out) (xs : List Out) → Contains xs o → Contains (x ∷ xs) o
 later_member x o xs h = (suc h.0, omega (arith, h.1), h.2)
 

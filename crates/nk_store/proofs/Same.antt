@@ -4,7 +4,7 @@ use Rattle.std.proofs.lemmas.Bool.Decides.{nat_tests, eqb_tells, leb_tells}
 use Rattle.std.proofs.lemmas.List.{length-set, length-replicate, get_or-replicate, get_or_past}
 use Rattle.nk_store.specs.declared.node.Node.{Node}
 use Rattle.nk_store.specs.declared.node.Node.TheVariants.{Leaf, Case}
-use Rattle.nk_store.specs.Nodes.{child_at, node_at, look_in, node_top, top_in, Rises, Differ, Joined, Sound, InRange}
+use Rattle.nk_store.specs.Nodes.{child_at, node_at, look_in, field_of_node, root_field_in, Rises, Differ, Joined, Sound, InRange}
 use Rattle.nk_store.proofs.Looks.{node_at-old, node_at-new, look_leaf, look_case, look_same, fits_at, child_later, joined_some, each_child}
 
 -- the first part's child, at a value up to its end
@@ -124,7 +124,7 @@ look_child maxes ns i f v ps pk s h e l =
 -- a choice by f does not give the same as a number that does not depend on f
 pub choice_depends : (maxes : List ℕ) (ns : List Node) (i j f : ℕ) (ps : List (ℕ × ℕ)) → Sound maxes ns →
     ((c k : ℕ) → c < i → k < i → AgreeIn maxes ns c k → c ≡ k) → i < length ns → j < length ns →
-    node_at ns i ≡ Case f ps → f < top_in ns j → AgreeIn maxes ns i j → ⊥
+    node_at ns i ≡ Case f ps → f < root_field_in ns j → AgreeIn maxes ns i j → ⊥
 choice_depends maxes ns i j f ps s ih h k e t agree =
     let both = fits_at maxes ns i f ps s h e in
     let some = joined_some ps both.0.3 in
@@ -182,15 +182,15 @@ same_by_nodes maxes ns i j (Leaf a) (Leaf b) s ih jh both h k e d agree =
     let same : a ≡ b = sym (look_leaf ns i a z h e) ∙ agree z (zero_in_range maxes) ∙ look_leaf ns j b z k d in
     node_once maxes ns i j s h k (e ∙ ap (λ x. Leaf x) same ∙ sym d)
 same_by_nodes maxes ns i j (Leaf a) (Case g qs) s ih jh both h k e d agree =
-    let t : g < top_in ns i = subst (λ n. g < node_top n) (sym e) (fits_at maxes ns j g qs s k d).0.0 in
+    let t : g < root_field_in ns i = subst (λ n. g < field_of_node n) (sym e) (fits_at maxes ns j g qs s k d).0.0 in
     absurd (choice_depends maxes ns j i g qs s jh k h d t (λ pk r. sym (agree pk r)))
 same_by_nodes maxes ns i j (Case f ps) (Leaf b) s ih jh both h k e d agree =
-    let t : f < top_in ns j = subst (λ n. f < node_top n) (sym d) (fits_at maxes ns i f ps s h e).0.0 in
+    let t : f < root_field_in ns j = subst (λ n. f < field_of_node n) (sym d) (fits_at maxes ns i f ps s h e).0.0 in
     absurd (choice_depends maxes ns i j f ps s ih h k e t agree)
 same_by_nodes maxes ns i j (Case f ps) (Case g qs) s ih jh both h k e d agree =
     elim (order f g) [
-      | inl less ↦ absurd (choice_depends maxes ns i j f ps s ih h k e (subst (λ n. f < node_top n) (sym d) less) agree)
-      | inr (inl more) ↦ absurd (choice_depends maxes ns j i g qs s jh k h d (subst (λ n. g < node_top n) (sym e) more) (λ pk r. sym (agree pk r)))
+      | inl less ↦ absurd (choice_depends maxes ns i j f ps s ih h k e (subst (λ n. f < field_of_node n) (sym d) less) agree)
+      | inr (inl more) ↦ absurd (choice_depends maxes ns j i g qs s jh k h d (subst (λ n. g < field_of_node n) (sym e) more) (λ pk r. sym (agree pk r)))
       | inr (inr same) ↦
           let parts : ps ≡ qs = choices_agree maxes ns i j f ps qs s both h k e (subst (λ x. node_at ns j ≡ Case x qs) (sym same) d) agree in
           node_once maxes ns i j s h k (e ∙ ap (λ x. Case f x) parts ∙ ap (λ x. Case x qs) same ∙ sym d)

@@ -8,7 +8,7 @@ use Rattle.indexmap.specs.IndexSet.{insert_key}
 use Rattle.nk_store.specs.declared.node.Node.{Node}
 use Rattle.nk_store.specs.declared.node.Node.TheVariants.{Leaf}
 use Rattle.nk_store.specs.Nodes.{Fits, IsAbsent, Sound}
-use Rattle.nk_store.specs.Held.{Held, HasFields, IsId, node_of, Grows}
+use Rattle.nk_store.specs.StoreState.{StoreState, HasFields, IsId, node_of, Grows}
 use Rattle.nk_store.specs.contracts.node.NodePartialEq.TheImpl.{ghosts}
 use Rattle.nk_store.proofs.NodeEq.{node_eq_decides}
 use Rattle.nk_store.proofs.Stores.{with_nodes, node_reversed, pushed_reversed, grows_pushed, grows_same}
@@ -44,14 +44,14 @@ put_sound maxes xs ys n (stays e) s f = subst (λ zs. Sound maxes (reverse zs)) 
 put_sound maxes xs ys n (comes e a) s f = subst (Sound maxes) (sym (pushed_reversed xs ys n e)) (f, a, s)
 
 -- putting a node lets the store grow
-pub put_grows : (st base : Held) (xs ys : List Node) (n : Node) → Put xs ys n →
+pub put_grows : (st base : StoreState) (xs ys : List Node) (n : Node) → Put xs ys n →
     with_nodes base (reverse xs) ≡ st → Grows st (with_nodes base (reverse ys))
 put_grows st base xs ys n (stays e) v =
-    subst (λ (s : Held). Grows st s) (sym v ∙ ap (λ zs. with_nodes base (reverse zs)) (sym e)) (grows_same st)
+    subst (λ (s : StoreState). Grows st s) (sym v ∙ ap (λ zs. with_nodes base (reverse zs)) (sym e)) (grows_same st)
 put_grows st base xs ys n (comes e a) v = grows_pushed st base xs ys n v e
 
 -- the node at a place of the table
-pub placed : (base : Held) (ys : List Node) (i : ℕ) (k n : Node) → slice_get ys i ≡ Some k →
+pub placed : (base : StoreState) (ys : List Node) (i : ℕ) (k n : Node) → slice_get ys i ≡ Some k →
     ghosts.eq n k ≡ true →
     IsId (with_nodes base (reverse ys)) i × (node_of (with_nodes base (reverse ys)) i ≡ n)
 unfolding IsId node_of
@@ -65,6 +65,6 @@ placed base ys i k n at same =
     inside zs j m e = grind (arith, slice_get_cases zs j, e)
 
 -- what a store keeps of its fields is the same whatever its nodes
-pub fields_kept : (base : Held) (ns ms : List Node) → HasFields (with_nodes base ns) →
+pub fields_kept : (base : StoreState) (ns ms : List Node) → HasFields (with_nodes base ns) →
     HasFields (with_nodes base ms)
 fields_kept base ns ms h = record { places = h.places; few = h.few; two = h.two; past = h.past; tag_past_port = h.tag_past_port }

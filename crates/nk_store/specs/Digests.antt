@@ -8,7 +8,7 @@ use Rattle.nk_store.specs.declared.operation.Operation.{Operation}
 use Rattle.nk_store.specs.declared.operation.Operation.TheVariants.{Union, Both, Negate, Missing, Seq, Split}
 use Rattle.nk_store.specs.declared.operation.Key.{Key}
 
--- the odd number behind twice another one
+-- the odd number after twice another one
 abbrev pub odd : ℕ → ℕ
 odd n = ((n * 2) % 2 ^ 64 + 1) % 2 ^ 64
 

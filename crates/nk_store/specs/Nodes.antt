@@ -32,13 +32,13 @@ look_in [] i pk = []
 look_in (n ∷ older) i pk = cond (eqb i (length older)) (node_look n (λ c. look_in older c pk) pk) (look_in older i pk)
 
 -- the field that a node tests; past all fields for a leaf
-abbrev pub node_top : Node → ℕ
-node_top (Leaf outs) = 18
-node_top (Case f parts) = f
+abbrev pub field_of_node : Node → ℕ
+field_of_node (Leaf outs) = 18
+field_of_node (Case f parts) = f
 
 -- the field that number i tests; past all fields for a leaf
-abbrev pub top_in : List Node → ℕ → ℕ
-top_in ns i = node_top (node_at ns i)
+abbrev pub root_field_in : List Node → ℕ → ℕ
+root_field_in ns i = field_of_node (node_at ns i)
 
 -- ends rise strictly above low, and the last one is the highest value
 abbrev pub Rises : ℕ → ℕ → List (ℕ × ℕ) → Type 0
@@ -51,8 +51,8 @@ Each P [] = Unit {0}
 Each P (p ∷ ps) = P p.1 × Each P ps
 
 -- a node that is there, and tests fields after f alone
-abbrev pub IsLater : List Node → ℕ → ℕ → Type 0
-IsLater ns f c = (c < length ns) × (f < top_in ns c)
+abbrev pub TestsLater : List Node → ℕ → ℕ → Type 0
+TestsLater ns f c = (c < length ns) × (f < root_field_in ns c)
 
 -- no part has the child of the part before it
 abbrev pub Differ : ℕ → List (ℕ × ℕ) → Type 0
@@ -67,7 +67,7 @@ Joined (p ∷ ps) = (0 < length ps) × Differ p.1 ps
 -- what holds of a node over those that were made before it
 abbrev pub Fits : List ℕ → List Node → Node → Type 0
 Fits maxes older (Leaf outs) = Strict outs × Every (Suits maxes) outs
-Fits maxes older (Case f parts) = (f < 18) × Rises (slice_index maxes f) 0 parts × Each (IsLater older f) parts × Joined parts
+Fits maxes older (Case f parts) = (f < 18) × Rises (slice_index maxes f) 0 parts × Each (TestsLater older f) parts × Joined parts
 
 -- none of the nodes is this one
 abbrev pub IsAbsent : Node → List Node → Type 0

@@ -82,7 +82,7 @@ fn factor(a: u64, b: u64) -> u64
     )
 }
 
-/// The odd number behind twice another one.
+/// The odd number after twice another one.
 fn odd(n: u64) -> u64
     ensures { result ≡ odd n }
 {

@@ -3,7 +3,7 @@ ghost use Rattle.std.specs.Prelude.{◌≡◌, ℕ, ◌+◌, ◌-◌, ◌<◌, �
 ghost use Rattle.std.specs.Map.{lookup};
 ghost use Rattle.nk_store.specs.Nodes.{child_at, is_empty_leaf, Fits, Sound};
 ghost use Rattle.nk_store.specs.Leaves.{Strict, Every, Suits};
-ghost use Rattle.nk_store.specs.Held.{IsId, node_of, look, top, Grows, HasLeaves, AreParts, IsNodeOf, IsStill, IsReduced, AreTidy, Agree, IsCanonical, IsOver, HasFields, recalled};
+ghost use Rattle.nk_store.specs.StoreState.{IsId, node_of, look, root_field, Grows, HasLeaves, AreParts, IsNodeOf, IsStill, IsReduced, AreTidy, Agree, IsCanonical, IsOver, HasFields, recalled};
 ghost use Rattle.nk_store.specs.declared.operation.Key.{Key};
 ghost use Rattle.nk_store.specs.Keys.{key_eq, key_of};
 ghost use Rattle.nk_store.specs.KeptAnswers.{keeping};
@@ -33,9 +33,9 @@ pub(crate) struct NodeTable {
 impl Model for NodeTable {
     ghost use Rattle.std.specs.Prelude.{reverse};
     ghost use Rattle.nk_store.specs.Nodes.{Sound};
-    ghost use Rattle.nk_store.specs.Held.{Held, HasFields};
+    ghost use Rattle.nk_store.specs.StoreState.{StoreState, HasFields};
 
-    ghost Value = { Held };
+    ghost Value = { StoreState };
 
     ghost view = { λ s. record { nodes = reverse s.nodes.keys; maxes = s.maxes; width = s.width; tag = s.tag; kept = s.answers } };
 
@@ -156,7 +156,7 @@ impl NodeTable {
         ensures grows { Grows self.old self.new }
         ensures kept { self.new.kept ≡ self.old.kept }
         ensures ok { IfOk result (λ d. HasLeaves self.new d (λ pk. outs)) }
-        ensures later { IfOk result (λ d. top self.new d ≡ 18) }
+        ensures later { IfOk result (λ d. root_field self.new d ≡ 18) }
     {
         self.place(Node::Leaf(outs))
     }
@@ -175,7 +175,7 @@ impl NodeTable {
         ensures kept { self.new.kept ≡ self.old.kept }
         ensures ok { IfOk result (λ d. HasLeaves self.new d
             (λ pk. look self.old (child_at 0 parts (slice_index pk field)) pk)) }
-        ensures later { IfOk result (λ d. field ≤ top self.new d) }
+        ensures later { IfOk result (λ d. field ≤ root_field self.new d) }
     {
         self.choice(field, parts)
     }
@@ -187,7 +187,7 @@ impl NodeTable {
         ensures kept { self.new.kept ≡ self.old.kept }
         ensures ok { IfOk result (λ d. HasLeaves self.new d
             (λ pk. look self.old (child_at 0 parts (slice_index pk field)) pk)) }
-        ensures later { IfOk result (λ d. field ≤ top self.new d) }
+        ensures later { IfOk result (λ d. field ≤ root_field self.new d) }
     {
         let kept = in_whole(*self.nodes.allocator(), parts)?;
         if kept.len() == 1 {
@@ -206,7 +206,7 @@ impl NodeTable {
     }
 
     /// The answer that is kept of an operation on two diagrams.
-    #[tactic(auto, unfolding(crate::specs::Held::recalled))]
+    #[tactic(auto, unfolding(crate::specs::StoreState::recalled))]
     pub(crate) fn recall(&self, operation: Operation, a: Id, b: Id) -> Option<Id>
         ensures { result ≡ recalled self.now operation a b }
     {

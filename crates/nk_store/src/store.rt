@@ -4,9 +4,9 @@ ghost use Rattle.nk_store.specs.declared.node.Out.{Out};
 ghost use Rattle.nk_store.specs.Nodes.{child_at, is_empty_leaf, Sound};
 ghost use Rattle.std.specs.declared.cmp.Ordering.TheVariants.{Less};
 ghost use Rattle.nk_store.specs.Leaves.{out_cmp, Strict, Every, Suits, AreOrdered};
-ghost use Rattle.nk_store.specs.Held.{IsId, node_of, look, top, Grows, HasLeaves, AreParts, IsNodeOf, IsStill, IsReduced, AreTidy, Agree, IsCanonical, IsOver, HasFields, recalled};
+ghost use Rattle.nk_store.specs.StoreState.{IsId, node_of, look, root_field, Grows, HasLeaves, AreParts, IsNodeOf, IsStill, IsReduced, AreTidy, Agree, IsCanonical, IsOver, HasFields, recalled};
 ghost use Rattle.nk_store.specs.Keys.{key_of};
-ghost use Rattle.nk_store.specs.KeptAnswers.{IsAnswer, keeping, passing};
+ghost use Rattle.nk_store.specs.KeptAnswers.{IsKeptAnswer, keeping, passing};
 ghost use Rattle.nk_store.specs.declared.operation.Operation.{Operation};
 
 use crate::node::{Id, Node, Out};
@@ -36,11 +36,11 @@ impl Drop for Store {
 }
 
 impl Model for Store {
-    ghost use Rattle.nk_store.specs.Held.{Held};
+    ghost use Rattle.nk_store.specs.StoreState.{StoreState};
     ghost use Rattle.std.specs.Prelude.{[], ◌∷◌};
     ghost use Rattle.nk_store.specs.KeptAnswers.{AreAnswers, IsKeptLeaf, passing};
 
-    ghost Value = { Held };
+    ghost Value = { StoreState };
 
     ghost view = { λ s. s.table };
 
@@ -95,7 +95,7 @@ impl Store {
         ensures still { (d : ℕ) → IsId self.now d → IsStill self.now d }
         ensures reduced { (d : ℕ) → IsId self.now d → IsReduced self.now d }
         ensures tidy { AreTidy self.now }
-        ensures answers { (operation : Operation) (a b d : ℕ) → recalled self.now operation a b ≡ Some d → IsAnswer self.now operation a b d }
+        ensures answers { (operation : Operation) (a b d : ℕ) → recalled self.now operation a b ≡ Some d → IsKeptAnswer self.now operation a b d }
     {
         self.table.laws();
     }
@@ -146,7 +146,7 @@ impl Store {
         ensures grows { Grows self.old self.new }
         ensures kept { self.new.kept ≡ self.old.kept }
         ensures ok { IfOk result (λ d. (r : Items Out) × AreOrdered outs r × HasLeaves self.new d (λ pk. r)) }
-        ensures later { IfOk result (λ d. top self.new d ≡ 18) }
+        ensures later { IfOk result (λ d. root_field self.new d ≡ 18) }
     {
         self.leaf_in_order(in_order(outs))
     }
@@ -158,7 +158,7 @@ impl Store {
         ensures grows { Grows self.old self.new }
         ensures kept { self.new.kept ≡ self.old.kept }
         ensures ok { IfOk result (λ d. HasLeaves self.new d (λ pk. outs)) }
-        ensures later { IfOk result (λ d. top self.new d ≡ 18) }
+        ensures later { IfOk result (λ d. root_field self.new d ≡ 18) }
     {
         self.table.leaf_in_order(outs)
     }
@@ -168,7 +168,7 @@ impl Store {
         ensures grows { Grows self.old self.new }
         ensures kept { self.new.kept ≡ self.old.kept }
         ensures ok { IfOk result (λ d. HasLeaves self.new d (λ pk. [])) }
-        ensures later { IfOk result (λ d. top self.new d ≡ 18) }
+        ensures later { IfOk result (λ d. root_field self.new d ≡ 18) }
     {
         if let Some(d) = self.empty {
             return Ok(d);
@@ -183,7 +183,7 @@ impl Store {
         ensures grows { Grows self.old self.new }
         ensures kept { self.new.kept ≡ self.old.kept }
         ensures ok { IfOk result (λ d. HasLeaves self.new d (λ pk. passing ∷ [])) }
-        ensures later { IfOk result (λ d. top self.new d ≡ 18) }
+        ensures later { IfOk result (λ d. root_field self.new d ≡ 18) }
     {
         if let Some(d) = self.identity {
             return Ok(d);
@@ -213,7 +213,7 @@ impl Store {
         ensures kept { self.new.kept ≡ self.old.kept }
         ensures ok { IfOk result (λ d. HasLeaves self.new d
             (λ pk. look self.old (child_at 0 parts (slice_index pk field)) pk)) }
-        ensures later { IfOk result (λ d. field ≤ top self.new d) }
+        ensures later { IfOk result (λ d. field ≤ root_field self.new d) }
     {
         self.table.case(field, parts)
     }
@@ -229,7 +229,7 @@ impl Store {
     /// diagrams. An operation on one diagram has it twice.
     pub fn recall(&self, operation: Operation, a: Id, b: Id) -> Option<Id>
         ensures is { result ≡ recalled self.now operation a b }
-        ensures answer { IfSome result (λ d. IsAnswer self.now operation a b d) }
+        ensures answer { IfSome result (λ d. IsKeptAnswer self.now operation a b d) }
     {
         self.table.recall(operation, a, b)
     }
@@ -237,7 +237,7 @@ impl Store {
     /// Keeps the answer of an operation on two diagrams: the kept answers are then the old ones and that one. The
     /// diagrams stay as they are; where memory runs out, the kept answers do too.
     pub fn keep(&mut self, operation: Operation, a: Id, b: Id, d: Id) -> Result<(), AllocError>
-        requires { IsAnswer self.old operation a b d }
+        requires { IsKeptAnswer self.old operation a b d }
         ensures ok { OnOk result (self.new ≡ keeping self.old operation a b d) }
         ensures kept { OnOk result (recalled self.new operation a b ≡ Some d) }
         ensures others { OnOk result ((o : Operation) (x y : ℕ) → (key_of o x y ≡ key_of operation a b → ⊥) → recalled self.new o x y ≡ recalled self.old o x y) }

@@ -5,8 +5,8 @@ use Rattle.std.proofs.lemmas.List.{set-set}
 use Rattle.nk_field.proofs.Ascending.{all_from_members, members_from_all}
 use Rattle.nk_store.specs.Nodes.{InRange}
 use Rattle.nk_store.specs.Diagram.{IsReduced, leaf_at}
-use Rattle.nk_store.specs.Held.{Held, IsPacket, look, Grows, AreTidy}
-use Rattle.nk_apply.specs.PacketSets.{has_out, is_in}
+use Rattle.nk_store.specs.StoreState.{StoreState, IsStorePacket, look, Grows, AreTidy}
+use Rattle.nk_apply.specs.PacketSets.{has_some_out, is_in}
 use Rattle.nk_apply.specs.Unions.{AreIds}
 use Rattle.nk_determ.specs.Sets.{SetsGrow, HasEachSetOnce, HasAscendingSets}
 use Rattle.nk_table.specs.declared.Table.{Table}
@@ -21,7 +21,7 @@ use Rattle.nk_switches.specs.declared.stop.SwitchStates.{SwitchStates}
 use Rattle.nk_switches.specs.Matched.{Matched}
 use Rattle.nk_switches.specs.States.{IsStateAtSwitch}
 use Rattle.nk_switches.specs.Tagged.{members_of, LeadsWith, SendsBy, IsTagTable}
-use Rattle.nk_switches.specs.Made.{TagTree, rows_of_trees, IsTagAt, HasPlaces, IsPrintableState, ArePrintableStates, IsTreeBy, IsTableBy}
+use Rattle.nk_switches.specs.Made.{TagTree, rows_of_trees, IsTagAt, HasLabelsBelow, IsPrintableState, ArePrintableStates, IsTreeBy, IsTableBy}
 use Rattle.nk_switches.specs.Classed.{class_of, acting_tag, LeadsTo, numbered_target, IsTagWithin, IsActingAt, IsClassAt, IsClassStop, IsClassTreeAt, IsClassTableAt, HaveActing, HaveClasses, IsActingState, IsClassState, AreClassStates}
 use Rattle.nk_switches.proofs.Fronting.{acting_id}
 use Rattle.nk_switches.proofs.Growing.{declared_same, leads_grown, stay_grown, members_kept, sets_longer}
@@ -44,14 +44,14 @@ either_has P true x y p q = p
 either_has P false x y p q = q
 
 -- a class's tags in the beginning have their places
-pub class_places : (st : Held) (ss : List (List ℕ)) (states tags : List ℕ) (tag sw : ℕ) (h : ClassHere) → IsClassAt st ss states tags tag sw h → HaveActing st ss (length states) tags h
+pub class_places : (st : StoreState) (ss : List (List ℕ)) (states tags : List ℕ) (tag sw : ℕ) (h : ClassHere) → IsClassAt st ss states tags tag sw h → HaveActing st ss (length states) tags h
 class_places st ss states tags tag sw h k = record {
   acting = λ i d lt. let a = k.acting i d lt in record { packets = a.packets; has = record { within = a.at.within; places = a.at.places } };
   other = record { within = k.other.within; places = k.other.places };
 }
 
 -- so have a switch's
-pub stop_classes : (st : Held) (ss : List (List ℕ)) (states tags : List ℕ) (tag : ℕ) (s : ClassStop) → IsClassStop st ss states tags tag s → HaveClasses st ss (length states) tags s
+pub stop_classes : (st : StoreState) (ss : List (List ℕ)) (states tags : List ℕ) (tag : ℕ) (s : ClassStop) → IsClassStop st ss states tags tag s → HaveClasses st ss (length states) tags s
 stop_classes st ss states tags tag s k i d lt = class_places st ss states tags tag s.switch (get_or s.classes i d) (k i d lt)
 
 -- the number of a target by its tag
@@ -81,14 +81,14 @@ tags_within count ss tags classes table items is many same =
     at (Some t) k e =
         ⊎_elim (λ z. omega (arith, z.1)) (λ i. omega (arith, i.1, i.3, many)) (is.only k t e)
 
-module _ (first st : Held) (old ss : List (List ℕ)) (states tags classes : List ℕ) (tag : ℕ) (g : Grows first st) (grew : SetsGrow old ss) (ids : AreIds first states)
+module _ (first st : StoreState) (old ss : List (List ℕ)) (states tags classes : List ℕ) (tag : ℕ) (g : Grows first st) (grew : SetsGrow old ss) (ids : AreIds first states)
     (known : All (λ s. s < length old) tags) (differ : HasEachSetOnce ss) (ascend : HasAscendingSets ss) where
   -- the set state of a tag's states, by the sets of the beginning
-  of_state : (sw t d : ℕ) → HasPlaces ss (length states) tags t → IsStateAtSwitch st ss states (members_of ss tags t) sw d → IsStateAtSwitch st ss states (members_of old tags t) sw d
+  of_state : (sw t d : ℕ) → HasLabelsBelow ss (length states) tags t → IsStateAtSwitch st ss states (members_of ss tags t) sw d → IsStateAtSwitch st ss states (members_of old tags t) sw d
   of_state sw t d has k = subst (λ m. IsStateAtSwitch st ss states m sw d) (members_kept old ss tags t grew known has.within) k
 
   -- a tag's diagram can be printed
-  tag_printable : 2 ≤ tag → AreTidy st → (sw t d : ℕ) → IsTagAt first old states tags tag sw t → HasPlaces ss (length states) tags t → IsStateAtSwitch st ss states (members_of ss tags t) sw d → IsPrintable st tag sw d
+  tag_printable : 2 ≤ tag → AreTidy st → (sw t d : ℕ) → IsTagAt first old states tags tag sw t → HasLabelsBelow ss (length states) tags t → IsStateAtSwitch st ss states (members_of ss tags t) sw d → IsPrintable st tag sw d
   tag_printable past tidy sw t d at has k =
       state_printable st ss states (members_of old tags t) tag sw d past tidy differ ascend (of_state sw t d has k)
       (stay_grown first st states (members_of old tags t) g ids at.places tag sw at.stay)
@@ -117,7 +117,7 @@ module _ (first st : Held) (old ss : List (List ℕ)) (states tags classes : Lis
             ∙ sym (k.5.leaf pk p.0);
       }
     where
-      whole : (pk : List ℕ) (n : ℕ) → IsPacket st pk → length (slice_set pk tag n) ≡ 18
+      whole : (pk : List ℕ) (n : ℕ) → IsStorePacket st pk → length (slice_set pk tag n) ≡ 18
       whole pk n p = length-set pk tag n ∙ p.0
 
   -- a stop's diagrams can be printed
@@ -151,7 +151,7 @@ module _ (first st : Held) (old ss : List (List ℕ)) (states tags classes : Lis
   acting_same : (sw : ℕ) (acting : List ActingTag) (other : ℕ) (pk : List ℕ) → All (IsActingAt first old states tags tag sw) acting → acting_tag st tag acting other pk ≡ acting_tag first tag acting other pk
   acting_same sw [] other pk all = refl
   acting_same sw (a ∷ more) other pk all =
-      ap (λ os. cond (has_out os) a.tag (acting_tag st tag more other pk)) (g.leaves a.packets (slice_set pk tag 0) (all_first (IsActingAt first old states tags tag sw) a more all).packets)
+      ap (λ os. cond (has_some_out os) a.tag (acting_tag st tag more other pk)) (g.leaves a.packets (slice_set pk tag 0) (all_first (IsActingAt first old states tags tag sw) a more all).packets)
       ∙ ap (λ n. cond (is_in first a.packets (slice_set pk tag 0)) a.tag n) (acting_same sw more other pk (all_rest (IsActingAt first old states tags tag sw) a more all))
 
   module _ (by_tag : List (Option ℕ)) (is : IsTagTable (length tags) ss tags by_tag) where
@@ -160,8 +160,8 @@ module _ (first st : Held) (old ss : List (List ℕ)) (states tags classes : Lis
     table = map (numbered_target classes) by_tag
 
     -- where a tag's diagram sends by them, its states lead
-    one_sends : (sw t d : ℕ) → IsTagAt first old states tags tag sw t → HasPlaces ss (length states) tags t → IsStateAtSwitch st ss states (members_of ss tags t) sw d →
-        (pk y : List ℕ) (c : ℕ) → IsPacket st pk → slice_index pk 0 ≡ sw → SendsBy st table d pk y c ↔ LeadsTo first old states tags classes (members_of old tags t) pk y c
+    one_sends : (sw t d : ℕ) → IsTagAt first old states tags tag sw t → HasLabelsBelow ss (length states) tags t → IsStateAtSwitch st ss states (members_of ss tags t) sw d →
+        (pk y : List ℕ) (c : ℕ) → IsStorePacket st pk → slice_index pk 0 ≡ sw → SendsBy st table d pk y c ↔ LeadsTo first old states tags classes (members_of old tags t) pk y c
     one_sends sw t d at has k pk y c p here =
         let state = of_state sw t d has k in
         let members = members_of old tags t in (
@@ -189,7 +189,7 @@ module _ (first st : Held) (old ss : List (List ℕ)) (states tags classes : Lis
 
     -- so with a class's diagram and the tag that acts
     acting_sends : (sw : ℕ) (acting : List ActingTag) (other d : ℕ) → All (IsActingAt first old states tags tag sw) acting → IsTagAt first old states tags tag sw other →
-        IsActingState st ss states tags tag sw acting other d → (pk y : List ℕ) (c : ℕ) → IsPacket st pk → slice_index pk 0 ≡ sw →
+        IsActingState st ss states tags tag sw acting other d → (pk y : List ℕ) (c : ℕ) → IsStorePacket st pk → slice_index pk 0 ≡ sw →
         SendsBy st table d pk y c ↔ LeadsTo first old states tags classes (members_of old tags (acting_tag st tag acting other pk)) pk y c
     acting_sends sw [] other d all at k pk y c p here = one_sends sw other d at k.0 k.1 pk y c p here
     acting_sends sw (a ∷ more) other d all at k pk y c p here =
@@ -205,7 +205,7 @@ module _ (first st : Held) (old ss : List (List ℕ)) (states tags classes : Lis
       reduced = subst (λ m. IsReduced e.tree m 1) (declared_same first st g) t.reduced;
       tag_free = t.tag_free;
       leaves = λ pk p here.
-          let q : IsPacket st pk = subst (λ m. InRange m pk) (sym g.maxes) p in
+          let q : IsStorePacket st pk = subst (λ m. InRange m pk) (sym g.maxes) p in
           subst (λ u. AreBuckets first.width tag (λ y c. LeadsTo first old states tags classes (members_of old tags u) pk y c) pk (leaf_at e.tree [] pk)) (acting_same sw h.acting h.other pk at.acting)
           (subst (λ w. AreBuckets w tag (λ y c. LeadsTo first old states tags classes (members_of old tags (acting_tag st tag h.acting h.other pk)) pk y c) pk (leaf_at e.tree [] pk)) g.width
           (buckets_same st.width tag (λ y c. SendsBy st table x.diagram pk y c) (λ y c. LeadsTo first old states tags classes (members_of old tags (acting_tag st tag h.acting h.other pk)) pk y c) pk (leaf_at e.tree [] pk)

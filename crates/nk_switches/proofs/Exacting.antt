@@ -4,7 +4,7 @@ use Rattle.std.specs.Prelude.{slice_index, slice_set}
 use Rattle.std.proofs.lemmas.List.{set_comm}
 use Rattle.nk_field.specs.Act.{applied}
 use Rattle.nk_store.specs.Leaves.{IsActFrom}
-use Rattle.nk_store.specs.Held.{IsWhole}
+use Rattle.nk_store.specs.StoreState.{IsWhole}
 use Rattle.nk_apply.proofs.Members.{Has}
 use Rattle.nk_determ.specs.Exact.{IsExact}
 use Rattle.nk_determ.proofs.Laws.{applied_keeps}

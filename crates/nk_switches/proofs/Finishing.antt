@@ -5,7 +5,7 @@ use Rattle.nk_field.proofs.Lists.{In, in_mapped}
 use Rattle.nk_field.proofs.Ascending.{all_from_members, members_from_all}
 use Rattle.nk_store.specs.Nodes.{InRange}
 use Rattle.nk_store.specs.Diagram.{IsReduced, leaf_at}
-use Rattle.nk_store.specs.Held.{Held, IsPacket, Grows, AreTidy}
+use Rattle.nk_store.specs.StoreState.{StoreState, IsStorePacket, Grows, AreTidy}
 use Rattle.nk_apply.specs.Unions.{AreIds}
 use Rattle.nk_determ.specs.Sets.{SetsGrow, HasEachSetOnce, HasAscendingSets}
 use Rattle.nk_table.specs.declared.Table.{Table}
@@ -17,7 +17,7 @@ use Rattle.nk_switches.specs.declared.stop.SwitchStates.{SwitchStates}
 use Rattle.nk_switches.specs.Matched.{Matched}
 use Rattle.nk_switches.specs.States.{IsStateAtSwitch}
 use Rattle.nk_switches.specs.Tagged.{members_of, LeadsWith, SendsBy, IsTagTable}
-use Rattle.nk_switches.specs.Made.{TagTree, rows_of_trees, IsTagAt, IsStop, IsTagTree, IsTableAt, IsTagState, AreStatesAt, IsPrintableState, ArePrintableStates, IsTreeBy, IsTableBy, TagsHavePlaces}
+use Rattle.nk_switches.specs.Made.{TagTree, rows_of_trees, IsTagAt, IsStop, IsTagTree, IsTableAt, IsTagState, AreStatesAt, IsPrintableState, ArePrintableStates, IsTreeBy, IsTableBy, TagsHaveLabelsBelow}
 use Rattle.nk_switches.proofs.Growing.{declared_same, leads_grown, stay_grown, members_kept, sets_longer}
 use Rattle.nk_switches.proofs.Matching.{of_second, matched_maps, matched_with, matched_through}
 use Rattle.nk_switches.proofs.Printing.{state_printable}
@@ -25,10 +25,10 @@ use Rattle.nk_switches.proofs.Tagging.{sends_leads, leads_sends}
 use Rattle.nk_switches.proofs.Trees.{buckets_same}
 
 -- the places of a stop's states
-pub stop_places : (st : Held) (ss : List (List ℕ)) (states tags : List ℕ) (tag : ℕ) (s : Stop) → IsStop st ss states tags tag s → TagsHavePlaces ss (length states) tags s
+pub stop_places : (st : StoreState) (ss : List (List ℕ)) (states tags : List ℕ) (tag : ℕ) (s : Stop) → IsStop st ss states tags tag s → TagsHaveLabelsBelow ss (length states) tags s
 stop_places st ss states tags tag s h k d lt = let a = h k d lt in record { within = a.within; places = a.places }
 
-module _ (first st : Held) (old ss : List (List ℕ)) (states tags : List ℕ) (tag : ℕ) (g : Grows first st) (grew : SetsGrow old ss) (ids : AreIds first states)
+module _ (first st : StoreState) (old ss : List (List ℕ)) (states tags : List ℕ) (tag : ℕ) (g : Grows first st) (grew : SetsGrow old ss) (ids : AreIds first states)
     (known : All (λ s. s < length old) tags) (differ : HasEachSetOnce ss) (ascend : HasAscendingSets ss) where
   -- what is known of a tag of a stop
   of_tag : (s : Stop) (tag_states : SwitchStates) → IsStop first old states tags tag s → AreStatesAt st ss states tags s tag_states → (e : TagState) → In tag_states.tag_states e →
@@ -69,7 +69,7 @@ module _ (first st : Held) (old ss : List (List ℕ)) (states tags : List ℕ) (
       reduced = subst (λ m. IsReduced e.tree m 1) (declared_same first st g) t.reduced;
       tag_free = t.tag_free;
       leaves = λ pk p here.
-          let q : IsPacket st pk = subst (λ m. InRange m pk) (sym g.maxes) p in
+          let q : IsStorePacket st pk = subst (λ m. InRange m pk) (sym g.maxes) p in
           let state = of_state sw x k in
           let members = members_of old tags x.tag in
           subst (λ u. AreBuckets first.width tag (λ y n. LeadsWith first old states tags (members_of old tags u) pk y n) pk (leaf_at e.tree [] pk)) (sym t.tag_is)

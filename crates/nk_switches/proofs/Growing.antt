@@ -5,7 +5,7 @@ use Rattle.std.specs.List.{Contains}
 use Rattle.std.proofs.lemmas.List.{get_or_append_left}
 use Rattle.nk_store.specs.Nodes.{InRange}
 use Rattle.nk_store.specs.Leaves.{Every}
-use Rattle.nk_store.specs.Held.{Held, IsId, IsPacket, Grows}
+use Rattle.nk_store.specs.StoreState.{StoreState, IsId, IsStorePacket, Grows}
 use Rattle.nk_apply.specs.Unions.{AreIds}
 use Rattle.nk_determ.specs.Exact.{IsExact, Sends}
 use Rattle.nk_determ.specs.Sets.{SetsGrow}
@@ -25,7 +25,7 @@ all_at {X} P xs items k x all same lt at =
     subst P (sym (at ∙ ap (λ (l : List X). get_or l k x) same)) (all k x (subst (λ (l : List X). k < length l) same lt))
 
 -- a diagram sends what it sent
-pub sends_grown : (st new : Held) (d : ℕ) (pk y : List ℕ) (t : ℕ) → Grows st new → IsId st d → Sends st d pk y t ↔ Sends new d pk y t
+pub sends_grown : (st new : StoreState) (d : ℕ) (pk y : List ℕ) (t : ℕ) → Grows st new → IsId st d → Sends st d pk y t ↔ Sends new d pk y t
 sends_grown st new d pk y t g id = (
   λ s. (s.0, subst (λ os. Contains os (record { act = s.0; target = t })) (sym (g.leaves d pk id)) s.1, s.2),
   λ s. (s.0, subst (λ os. Contains os (record { act = s.0; target = t })) (g.leaves d pk id) s.1, s.2),
@@ -63,7 +63,7 @@ pub places_kept : (ss more : List (List ℕ)) (tags : List ℕ) (count t : ℕ) 
     All (λ l. l < count) (members_of ss tags t) → All (λ l. l < count) (members_of more tags t)
 places_kept ss more tags count t g known lt h = subst (All (λ l. l < count)) (sym (members_kept ss more tags t g known lt)) h
 
-module _ (st new : Held) (states members : List ℕ) (g : Grows st new) (ids : AreIds st states) (inside : All (λ l. l < length states) members) where
+module _ (st new : StoreState) (states members : List ℕ) (g : Grows st new) (ids : AreIds st states) (inside : All (λ l. l < length states) members) where
   -- states lead where they led
   pub leads_grown : (pk y : List ℕ) (t : ℕ) → StateLeads st states members pk y t ↔ StateLeads new states members pk y t
   leads_grown pk y t = (
@@ -72,7 +72,7 @@ module _ (st new : Held) (states members : List ℕ) (g : Grows st new) (ids : A
   )
 
   -- a packet of the later store is one of the earlier
-  before : (pk : List ℕ) → IsPacket new pk → IsPacket st pk
+  before : (pk : List ℕ) → IsStorePacket new pk → IsStorePacket st pk
   before pk p = subst (λ m. InRange m pk) g.maxes p
 
   -- a state stays the state
@@ -112,7 +112,7 @@ module _ (st new : Held) (states members : List ℕ) (g : Grows st new) (ids : A
   }
 
 -- what can be printed can be printed later
-pub printable_grown : (st new : Held) (tag sw : ℕ) (e : TagState) → Grows st new → IsPrintableState st tag sw e → IsPrintableState new tag sw e
+pub printable_grown : (st new : StoreState) (tag sw : ℕ) (e : TagState) → Grows st new → IsPrintableState st tag sw e → IsPrintableState new tag sw e
 printable_grown st new tag sw e g k = record {
   id = g.ids e.diagram k.id;
   printable = record {
@@ -123,9 +123,9 @@ printable_grown st new tag sw e g k = record {
   };
 }
   where
-    back : (pk : List ℕ) → IsPacket new pk → IsPacket st pk
+    back : (pk : List ℕ) → IsStorePacket new pk → IsStorePacket st pk
     back pk p = subst (λ m. InRange m pk) g.maxes p
 
 -- the declared fields keep their largest values
-pub declared_same : (old new : Held) → Grows old new → take new.width new.maxes ≡ take old.width old.maxes
+pub declared_same : (old new : StoreState) → Grows old new → take new.width new.maxes ≡ take old.width old.maxes
 declared_same old new g = ap (λ n. take n new.maxes) g.width ∙ ap (take old.width) g.maxes

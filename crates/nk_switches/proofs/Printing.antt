@@ -7,7 +7,7 @@ use Rattle.nk_field.proofs.Lists.{in_from_contains, contains_from_in}
 use Rattle.nk_field.proofs.Ascending.{rising_from, one_list}
 use Rattle.nk_store.specs.declared.node.Out.{Out}
 use Rattle.nk_store.specs.Leaves.{IsActFrom, Suits}
-use Rattle.nk_store.specs.Held.{Held, look, IsPacket, AreTidy}
+use Rattle.nk_store.specs.StoreState.{StoreState, look, IsStorePacket, AreTidy}
 use Rattle.nk_store.proofs.Same.{set_in_range}
 use Rattle.nk_apply.proofs.Members.{Has, contains_has, has_contains, every_has, strict_same}
 use Rattle.nk_determ.specs.Exact.{IsExact, Sends}
@@ -35,10 +35,10 @@ one_set ss i j differ ascend a b f g =
 set_back : (pk : List ℕ) (f v : ℕ) → slice_set (slice_set pk f v) f (slice_index pk f) ≡ pk
 set_back pk f v = set-set pk f v (slice_index pk f) ∙ set-get_or pk f 0
 
-module _ (st : Held) (ss : List (List ℕ)) (states members : List ℕ) (tag sw d : ℕ) (past : 2 ≤ tag) (tidy : AreTidy st) (differ : HasEachSetOnce ss) (ascend : HasAscendingSets ss)
+module _ (st : StoreState) (ss : List (List ℕ)) (states members : List ℕ) (tag sw d : ℕ) (past : 2 ≤ tag) (tidy : AreTidy st) (differ : HasEachSetOnce ss) (ascend : HasAscendingSets ss)
     (state : IsStateAtSwitch st ss states members sw d) (stay : StayAt st tag sw states members) where
   -- at a packet of the switch some state leads where the diagram sends
-  leads_there : (pk y : List ℕ) (t : ℕ) → IsPacket st pk → slice_index pk 0 ≡ sw → Sends st d pk y t → (l : ℕ) × StateLeads st states members pk y l
+  leads_there : (pk y : List ℕ) (t : ℕ) → IsStorePacket st pk → slice_index pk 0 ≡ sw → Sends st d pk y t → (l : ℕ) × StateLeads st states members pk y l
   leads_there pk y zero p here s = (0, (state.ends pk y p here).0 s)
   leads_there pk y (suc i) p here s =
       let next : suc i ≡ i + 1 = omega arith in
@@ -47,7 +47,7 @@ module _ (st : Held) (ss : List (List ℕ)) (states members : List ℕ) (tag sw 
       (m.0, ((l.every m.0).0 m.1).1)
 
   -- it keeps the switch and the tag
-  keeps : (pk y : List ℕ) (t : ℕ) → IsPacket st pk → slice_index pk 0 ≡ sw → Sends st d pk y t → (slice_index y 0 ≡ sw) × (slice_index y tag ≡ slice_index pk tag)
+  keeps : (pk y : List ℕ) (t : ℕ) → IsStorePacket st pk → slice_index pk 0 ≡ sw → Sends st d pk y t → (slice_index y 0 ≡ sw) × (slice_index y tag ≡ slice_index pk tag)
   keeps pk y t p here s = let l = leads_there pk y t p here s in stay.keeps pk y l.0 p here l.1
 
   -- another tag leaves the switch
@@ -55,7 +55,7 @@ module _ (st : Held) (ss : List (List ℕ)) (states members : List ℕ) (tag sw 
   here_too pk v here = let ne : 0 ≢ tag = λ e. omega (arith, past, e) in get_or-set_other pk tag 0 v 0 ne ∙ here
 
   -- states lead alike from packets that differ in the tag alone
-  back : (pk y : List ℕ) (l v : ℕ) → IsPacket st pk → slice_index pk 0 ≡ sw → v ≤ slice_index st.maxes tag → slice_index y tag ≡ slice_index pk tag →
+  back : (pk y : List ℕ) (l v : ℕ) → IsStorePacket st pk → slice_index pk 0 ≡ sw → v ≤ slice_index st.maxes tag → slice_index y tag ≡ slice_index pk tag →
       StateLeads st states members (slice_set pk tag v) (slice_set y tag v) l → StateLeads st states members pk y l
   back pk y l v p here le same r =
       let again = stay.free (slice_set pk tag v) (slice_set y tag v) l (slice_index pk tag) (set_in_range st.maxes pk tag v p le) (here_too pk v here) (p.1 tag) r in
@@ -64,7 +64,7 @@ module _ (st : Held) (ss : List (List ℕ)) (states members : List ℕ) (tag sw 
       (subst (λ x. StateLeads st states members x (slice_set (slice_set y tag v) tag (slice_index pk tag)) l) (set_back pk tag v) again)
 
   -- and so does the diagram
-  stays : (pk y : List ℕ) (t v : ℕ) → IsPacket st pk → slice_index pk 0 ≡ sw → v ≤ slice_index st.maxes tag → Sends st d pk y t →
+  stays : (pk y : List ℕ) (t v : ℕ) → IsStorePacket st pk → slice_index pk 0 ≡ sw → v ≤ slice_index st.maxes tag → Sends st d pk y t →
       Sends st d (slice_set pk tag v) (slice_set y tag v) t
   stays pk y zero v p here le s =
       (state.ends (slice_set pk tag v) (slice_set y tag v) (set_in_range st.maxes pk tag v p le) (here_too pk v here)).1
@@ -89,14 +89,14 @@ module _ (st : Held) (ss : List (List ℕ)) (states members : List ℕ) (tag sw 
   suits : (pk : List ℕ) (o : Out) → Has (look st d pk) o → IsActFrom st.maxes 0 o.act
   suits pk o h = every_has (Suits st.maxes) (look st d pk) o ((tidy d).suits pk) h
 
-  exact_there : (pk : List ℕ) (o : Out) → IsPacket st pk → Has (look st d pk) o → IsExact pk o.act
+  exact_there : (pk : List ℕ) (o : Out) → IsStorePacket st pk → Has (look st d pk) o → IsExact pk o.act
   exact_there pk o p h = every_has (λ (x : Out). IsExact pk x.act) (look st d pk) o (state.exact pk p) h
 
   -- an out stands in the leaf of each packet that differs in the tag alone
-  out_stays : (pk : List ℕ) (v : ℕ) (o : Out) → IsPacket st pk → slice_index pk 0 ≡ sw → v ≤ slice_index st.maxes tag → Has (look st d pk) o →
+  out_stays : (pk : List ℕ) (v : ℕ) (o : Out) → IsStorePacket st pk → slice_index pk 0 ≡ sw → v ≤ slice_index st.maxes tag → Has (look st d pk) o →
       Has (look st d (slice_set pk tag v)) o
   out_stays pk v o p here le h =
-      let there : IsPacket st (slice_set pk tag v) = set_in_range st.maxes pk tag v p le in
+      let there : IsStorePacket st (slice_set pk tag v) = set_in_range st.maxes pk tag v p le in
       let exact = exact_there pk o p h in
       let sent : Sends st d pk (applied o.act pk) o.target = (o.act, has_contains (look st d pk) o h, refl) in
       let miss : Misses tag o.act = keeping_misses st.maxes pk tag o.act p.0 (suits pk o h) exact (keeps pk (applied o.act pk) o.target p here sent).1 in
@@ -112,10 +112,10 @@ module _ (st : Held) (ss : List (List ℕ)) (states members : List ℕ) (tag sw 
       subst (λ g. Has (look st d (slice_set pk tag v)) (record { act = g; target = o.target })) (sym one) has
 
   -- so the leaf is the same
-  leaf_stays : (pk : List ℕ) (v : ℕ) → IsPacket st pk → slice_index pk 0 ≡ sw → v ≤ slice_index st.maxes tag →
+  leaf_stays : (pk : List ℕ) (v : ℕ) → IsStorePacket st pk → slice_index pk 0 ≡ sw → v ≤ slice_index st.maxes tag →
       look st d (slice_set pk tag v) ≡ look st d pk
   leaf_stays pk v p here le =
-      let there : IsPacket st (slice_set pk tag v) = set_in_range st.maxes pk tag v p le in
+      let there : IsStorePacket st (slice_set pk tag v) = set_in_range st.maxes pk tag v p le in
       strict_same (look st d (slice_set pk tag v)) (look st d pk) ((tidy d).sorted (slice_set pk tag v)) ((tidy d).sorted pk)
       (λ o h. subst (λ z. Has (look st d z) o) (set_back pk tag v) (out_stays (slice_set pk tag v) (slice_index pk tag) o there (here_too pk v here) (p.1 tag) h))
       (λ o h. out_stays pk v o p here le h)

@@ -3,7 +3,7 @@ use Rattle.std.proofs.Common.{◌≡◌, ℕ, ◌+◌, ◌<◌, List, [], ◌∷
 use Rattle.std.specs.Prelude.{All, map}
 use Rattle.std.proofs.lemmas.List.{map-append, take_more}
 use Rattle.std.proofs.lemmas.List.Elements.{All-push}
-use Rattle.nk_store.specs.Held.{Held, Grows}
+use Rattle.nk_store.specs.StoreState.{StoreState, Grows}
 use Rattle.nk_apply.specs.Unions.{AreIds}
 use Rattle.nk_determ.specs.Sets.{SetsGrow}
 use Rattle.nk_switches.specs.declared.stop.Stop.{Stop}
@@ -12,24 +12,24 @@ use Rattle.nk_switches.specs.declared.stop.SwitchStates.{SwitchStates}
 use Rattle.nk_switches.specs.Matched.{Matched}
 use Rattle.nk_switches.specs.States.{IsStateAtSwitch}
 use Rattle.nk_switches.specs.Tagged.{members_of}
-use Rattle.nk_switches.specs.Made.{HasPlaces, TagsHavePlaces, IsTagState, AreStatesAt}
+use Rattle.nk_switches.specs.Made.{HasLabelsBelow, TagsHaveLabelsBelow, IsTagState, AreStatesAt}
 use Rattle.nk_switches.proofs.Growing.{members_kept, places_kept, state_grown}
 use Rattle.nk_switches.proofs.Matching.{matched_push, matched_weaker}
 
 -- states of an earlier store are states of a later one
-pub ids_kept : (st new : Held) (states : List ℕ) → Grows st new → AreIds st states → AreIds new states
+pub ids_kept : (st new : StoreState) (states : List ℕ) → Grows st new → AreIds st states → AreIds new states
 ids_kept st new states g ids k lt = g.ids (get_or states k 0) (ids k lt)
 
 -- places stay
-pub has_places : (ss more : List (List ℕ)) (tags : List ℕ) (count t : ℕ) → SetsGrow ss more → All (λ s. s < length ss) tags → HasPlaces ss count tags t → HasPlaces more count tags t
+pub has_places : (ss more : List (List ℕ)) (tags : List ℕ) (count t : ℕ) → SetsGrow ss more → All (λ s. s < length ss) tags → HasLabelsBelow ss count tags t → HasLabelsBelow more count tags t
 has_places ss more tags count t g known h = record { within = h.within; places = places_kept ss more tags count t g known h.within h.places }
 
 -- of each switch
-pub have_places : (ss more : List (List ℕ)) (tags : List ℕ) (count : ℕ) (s : Stop) → SetsGrow ss more → All (λ s. s < length ss) tags → TagsHavePlaces ss count tags s → TagsHavePlaces more count tags s
+pub have_places : (ss more : List (List ℕ)) (tags : List ℕ) (count : ℕ) (s : Stop) → SetsGrow ss more → All (λ s. s < length ss) tags → TagsHaveLabelsBelow ss count tags s → TagsHaveLabelsBelow more count tags s
 have_places ss more tags count s g known h k d lt = has_places ss more tags count (get_or s.tags k d) g known (h k d lt)
 
 -- a tag's diagram is one in a later store
-pub tag_state_grown : (st new : Held) (ss more : List (List ℕ)) (states tags : List ℕ) (sw : ℕ) (e : TagState) → Grows st new → SetsGrow ss more → AreIds st states →
+pub tag_state_grown : (st new : StoreState) (ss more : List (List ℕ)) (states tags : List ℕ) (sw : ℕ) (e : TagState) → Grows st new → SetsGrow ss more → AreIds st states →
     All (λ s. s < length ss) tags → IsTagState st ss states tags sw e → IsTagState new more states tags sw e
 tag_state_grown st new ss more states tags sw e g s ids known k = record {
   within = k.within;
@@ -40,14 +40,14 @@ tag_state_grown st new ss more states tags sw e g s ids known k = record {
 }
 
 -- the diagrams of some tags
-pub record AreSoFar (st : Held) (ss : List (List ℕ)) (states tags : List ℕ) (sw : ℕ) (ts : List ℕ) (tag_states : List TagState) : Type 0 where
+pub record AreSoFar (st : StoreState) (ss : List (List ℕ)) (states tags : List ℕ) (sw : ℕ) (ts : List ℕ) (tag_states : List TagState) : Type 0 where
   pub tags_are : map (λ (e : TagState). e.tag) tag_states ≡ ts
   pub each : All (IsTagState st ss states tags sw) tag_states
 
 -- one more
-pub states_more : (st new : Held) (ss more : List (List ℕ)) (states tags : List ℕ) (sw : ℕ) (ts : List ℕ) (i t d : ℕ) (tag_states longer : List TagState) →
+pub states_more : (st new : StoreState) (ss more : List (List ℕ)) (states tags : List ℕ) (sw : ℕ) (ts : List ℕ) (i t d : ℕ) (tag_states longer : List TagState) →
     Grows st new → SetsGrow ss more → AreIds st states → All (λ s. s < length ss) tags → i < length ts → t ≡ get_or ts i t →
-    longer ≡ tag_states ++ (record { tag = t; diagram = d }) ∷ [] → HasPlaces ss (length states) tags t → IsStateAtSwitch new more states (members_of ss tags t) sw d →
+    longer ≡ tag_states ++ (record { tag = t; diagram = d }) ∷ [] → HasLabelsBelow ss (length states) tags t → IsStateAtSwitch new more states (members_of ss tags t) sw d →
     AreSoFar st ss states tags sw (take i ts) tag_states → AreSoFar new more states tags sw (take (i + 1) ts) longer
 states_more st new ss more states tags sw ts i t d tag_states longer g s ids known lt at is has state k = record {
   tags_are =
@@ -68,7 +68,7 @@ states_more st new ss more states tags sw ts i t d tag_states longer g s ids kno
 }
 
 -- the diagrams of a switch in a later store
-pub states_grown : (st new : Held) (ss more : List (List ℕ)) (states tags : List ℕ) (s : Stop) (tag_states : SwitchStates) → Grows st new → SetsGrow ss more → AreIds st states →
+pub states_grown : (st new : StoreState) (ss more : List (List ℕ)) (states tags : List ℕ) (s : Stop) (tag_states : SwitchStates) → Grows st new → SetsGrow ss more → AreIds st states →
     All (λ s. s < length ss) tags → AreStatesAt st ss states tags s tag_states → AreStatesAt new more states tags s tag_states
 states_grown st new ss more states tags s tag_states g grew ids known k = record {
   switch = k.switch;
@@ -77,7 +77,7 @@ states_grown st new ss more states tags s tag_states g grew ids known k = record
 }
 
 -- one more switch
-pub all_more : (st new : Held) (ss more : List (List ℕ)) (states tags : List ℕ) (stops : List Stop) (i : ℕ) (s : Stop) (tag_states : SwitchStates) (all longer : List SwitchStates) →
+pub all_more : (st new : StoreState) (ss more : List (List ℕ)) (states tags : List ℕ) (stops : List Stop) (i : ℕ) (s : Stop) (tag_states : SwitchStates) (all longer : List SwitchStates) →
     Grows st new → SetsGrow ss more → AreIds st states → All (λ s. s < length ss) tags → i < length stops → s ≡ get_or stops i s → longer ≡ all ++ tag_states ∷ [] →
     AreStatesAt new more states tags s tag_states → Matched (AreStatesAt st ss states tags) (take i stops) all → Matched (AreStatesAt new more states tags) (take (i + 1) stops) longer
 all_more st new ss more states tags stops i s tag_states all longer g grew ids known lt at is one m =

@@ -1,7 +1,7 @@
 -- The tags of targets: one tag more in the table, and where a state sends by the table.
 use Rattle.std.proofs.Common.{◌≡◌, ℕ, zero, suc, ◌+◌, ◌<◌, ◌≤◌, ⊎_elim, Option, Some, None, List, [], length, sym, ap, subst, ◌∙◌, arith, get_or}
 use Rattle.std.specs.Prelude.{slice_index, Contains, All}
-use Rattle.nk_store.specs.Held.{Held, IsPacket}
+use Rattle.nk_store.specs.StoreState.{StoreState, IsStorePacket}
 use Rattle.nk_determ.specs.Exact.{Sends}
 use Rattle.nk_determ.specs.Sets.{HasEachSetOnce, HasAscendingSets, SetsGrow}
 use Rattle.nk_switches.specs.States.{IsStateAtSwitch}
@@ -17,7 +17,7 @@ same_some a b e = cc
 pub once_kept : (ss more : List (List ℕ)) (tags : List ℕ) → SetsGrow ss more → All (λ s. s < length ss) tags → AreOnce ss tags → AreOnce more tags
 once_kept ss more tags g known once i j a b some e = once i j a b (λ none. some (tag_set_kept ss more tags i g known a ∙ none)) e
 
-module _ (st : Held) (first ss : List (List ℕ)) (states tags members : List ℕ) (sw d : ℕ) (table : List (Option ℕ)) (differ : HasEachSetOnce ss) (ascend : HasAscendingSets ss)
+module _ (st : StoreState) (first ss : List (List ℕ)) (states tags members : List ℕ) (sw d : ℕ) (table : List (Option ℕ)) (differ : HasEachSetOnce ss) (ascend : HasAscendingSets ss)
     (grew : SetsGrow first ss) (known : All (λ s. s < length first) tags) (more : length first ≤ length ss)
     (is : IsTagTable (length tags) ss tags table) (state : IsStateAtSwitch st ss states members sw d) where
   -- a tag's set is the one of the beginning
@@ -25,7 +25,7 @@ module _ (st : Held) (first ss : List (List ℕ)) (states tags members : List �
   same_set i lt = tag_set_kept first ss tags i grew known lt
 
   -- where the table sends is where the states lead with a tag
-  pub sends_leads : (pk y : List ℕ) (t : ℕ) → IsPacket st pk → slice_index pk 0 ≡ sw → SendsBy st table d pk y t → LeadsWith st first states tags members pk y t
+  pub sends_leads : (pk y : List ℕ) (t : ℕ) → IsStorePacket st pk → slice_index pk 0 ≡ sw → SendsBy st table d pk y t → LeadsWith st first states tags members pk y t
   sends_leads pk y t p here s =
       ⊎_elim
       (λ z. subst (λ n. LeadsWith st first states tags members pk y n) (sym z.1) ((state.ends pk y p here).0 (subst (λ u. Sends st d pk y u) z.0 s.1)))
@@ -40,7 +40,7 @@ module _ (st : Held) (first ss : List (List ℕ)) (states tags members : List �
       ))
       (is.only s.0 t s.2)
 
-  pub leads_sends : (pk y : List ℕ) (t : ℕ) → IsPacket st pk → slice_index pk 0 ≡ sw → LeadsWith st first states tags members pk y t → SendsBy st table d pk y t
+  pub leads_sends : (pk y : List ℕ) (t : ℕ) → IsStorePacket st pk → slice_index pk 0 ≡ sw → LeadsWith st first states tags members pk y t → SendsBy st table d pk y t
   leads_sends pk y zero p here h = (0, (state.ends pk y p here).1 h, is.zero_is)
   leads_sends pk y (suc t) p here h =
       let same = same_set t h.0 in

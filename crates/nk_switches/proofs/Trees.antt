@@ -7,7 +7,7 @@ use Rattle.nk_field.proofs.Ascending.{members_from_all}
 use Rattle.nk_store.specs.declared.node.Out.{Out}
 use Rattle.nk_store.specs.Nodes.{InRange}
 use Rattle.nk_store.specs.Diagram.{IsReduced, leaf_at}
-use Rattle.nk_store.specs.Held.{Held, IsPacket, look, Grows, HasLeaves}
+use Rattle.nk_store.specs.StoreState.{StoreState, IsStorePacket, look, Grows, HasLeaves}
 use Rattle.nk_apply.proofs.Members.{Has, contains_has, has_contains, gathered_has, has_gathered}
 use Rattle.nk_determ.specs.Exact.{Sends}
 use Rattle.nk_determ.specs.Targets.{option_out, out_by_table, retargeted}
@@ -43,12 +43,12 @@ option_has a None o h = absurd h
 option_has a (Some t) o (inl e) = (t, refl, e)
 option_has a (Some t) o (inr h) = absurd h
 
-module _ (st new : Held) (table : List (Option ℕ)) (d r : ℕ) (g : Grows st new) (h : HasLeaves new r (λ pk. retargeted table (look st d pk))) where
-  before : (pk : List ℕ) → IsPacket new pk → IsPacket st pk
+module _ (st new : StoreState) (table : List (Option ℕ)) (d r : ℕ) (g : Grows st new) (h : HasLeaves new r (λ pk. retargeted table (look st d pk))) where
+  before : (pk : List ℕ) → IsStorePacket new pk → IsStorePacket st pk
   before pk p = subst (λ m. InRange m pk) g.maxes p
 
   -- what the new diagram sends is sent by the table
-  out_from : (pk : List ℕ) → IsPacket new pk → (a : List (ℕ × ℕ)) (t : ℕ) → Contains (look new r pk) (record { act = a; target = t }) →
+  out_from : (pk : List ℕ) → IsStorePacket new pk → (a : List (ℕ × ℕ)) (t : ℕ) → Contains (look new r pk) (record { act = a; target = t }) →
       (u : ℕ) × Contains (look st d pk) (record { act = a; target = u }) × (get_or table u None ≡ Some t)
   out_from pk p a t c =
       let m = has_gathered (out_by_table table) (look st d pk) (record { act = a; target = t }) (subst (λ os. Has os (record { act = a; target = t })) (h.leaf pk p.0) (contains_has (look new r pk) (record { act = a; target = t }) c)) in
@@ -59,14 +59,14 @@ module _ (st new : Held) (table : List (Option ℕ)) (d r : ℕ) (g : Grows st n
       (m.0.target, has_contains (look st d pk) (record { act = a; target = m.0.target }) there, o.1 ∙ ap Some to)
 
   -- and the other way round
-  out_to : (pk : List ℕ) → IsPacket new pk → (a : List (ℕ × ℕ)) (u t : ℕ) → Contains (look st d pk) (record { act = a; target = u }) → get_or table u None ≡ Some t →
+  out_to : (pk : List ℕ) → IsStorePacket new pk → (a : List (ℕ × ℕ)) (u t : ℕ) → Contains (look st d pk) (record { act = a; target = u }) → get_or table u None ≡ Some t →
       Contains (look new r pk) (record { act = a; target = t })
   out_to pk p a u t c e =
       let made : Has (option_out a (get_or table u None)) (record { act = a; target = t }) = subst (λ q. Has (option_out a q) (record { act = a; target = t })) (sym e) (inl refl) in
       let all = gathered_has (out_by_table table) (look st d pk) (record { act = a; target = u }) (record { act = a; target = t }) (contains_has (look st d pk) (record { act = a; target = u }) c) made in
       has_contains (look new r pk) (record { act = a; target = t }) (subst (λ os. Has os (record { act = a; target = t })) (sym (h.leaf pk p.0)) all)
 
-  pub retarget_sends : (pk y : List ℕ) (t : ℕ) → IsPacket new pk → Sends new r pk y t ↔ SendsBy st table d pk y t
+  pub retarget_sends : (pk y : List ℕ) (t : ℕ) → IsStorePacket new pk → Sends new r pk y t ↔ SendsBy st table d pk y t
   retarget_sends pk y t p = (
     λ s. let o = out_from pk p s.0 t s.1 in (o.0, (s.0, o.1, s.2), o.2),
     λ s. (s.1.0, out_to pk p s.1.0 s.0 t s.1.1 s.2, s.1.2),
@@ -81,7 +81,7 @@ module _ (st new : Held) (table : List (Option ℕ)) (d r : ℕ) (g : Grows st n
         h.leaf (set pk tag n) (whole pk n p) ∙ ap (retargeted table) (k.free pk n (before pk p) here (subst (λ m. n ≤ get_or m tag 0) g.maxes le)) ∙ sym (h.leaf pk p.0);
   }
     where
-      whole : (pk : List ℕ) (n : ℕ) → IsPacket new pk → length (set pk tag n) ≡ 18
+      whole : (pk : List ℕ) (n : ℕ) → IsStorePacket new pk → length (set pk tag n) ≡ 18
       whole pk n p = length-set pk tag n ∙ p.0
 
   -- its rows are those of the tree by the table
@@ -94,14 +94,14 @@ module _ (st new : Held) (table : List (Option ℕ)) (d r : ℕ) (g : Grows st n
       reduced = subst (λ m. IsReduced k.tree m 1) (declared_same st new g) k.reduced;
       tag_free = k.tag_free;
       leaves = λ pk p here.
-          let q : IsPacket new pk = subst (λ m. InRange m pk) (sym g.maxes) p in
+          let q : IsStorePacket new pk = subst (λ m. InRange m pk) (sym g.maxes) p in
           subst (λ n. AreBuckets n tag (λ y u. SendsBy st table d pk y u) pk (leaf_at k.tree [] pk)) g.width
           (buckets_same new.width tag (λ y u. Sends new r pk y u) (λ y u. SendsBy st table d pk y u) pk (leaf_at k.tree [] pk) (λ y u. retarget_sends pk y u q) (k.leaves pk q here));
     },
     k.rows_are ∙ ap (λ m. rows_for m tag t k.tree) (declared_same st new g),
   )
 
-module _ (st cur : Held) (table : List (Option ℕ)) (tag sw : ℕ) (g : Grows st cur) where
+module _ (st cur : StoreState) (table : List (Option ℕ)) (tag sw : ℕ) (g : Grows st cur) where
   -- a tree by a later store is one by the earlier
   pub tree_back : (s : TagState) (e : TagTree) → IsPrintableState st tag sw s → IsTreeBy cur table tag sw s e → IsTreeBy st table tag sw s e
   tree_back s e k t = record {
@@ -109,7 +109,7 @@ module _ (st cur : Held) (table : List (Option ℕ)) (tag sw : ℕ) (g : Grows s
     reduced = subst (λ m. IsReduced e.tree m 1) (declared_same st cur g) t.reduced;
     tag_free = t.tag_free;
     leaves = λ pk p here.
-        let q : IsPacket cur pk = subst (λ m. InRange m pk) (sym g.maxes) p in
+        let q : IsStorePacket cur pk = subst (λ m. InRange m pk) (sym g.maxes) p in
         subst (λ n. AreBuckets n tag (λ y u. SendsBy st table s.diagram pk y u) pk (leaf_at e.tree [] pk)) g.width
         (buckets_same cur.width tag (λ y u. SendsBy cur table s.diagram pk y u) (λ y u. SendsBy st table s.diagram pk y u) pk (leaf_at e.tree [] pk) (same pk) (t.leaves pk q here));
   }
@@ -135,7 +135,7 @@ module _ (st cur : Held) (table : List (Option ℕ)) (tag sw : ℕ) (g : Grows s
       )
 
 -- a table of a later store is one of the earlier
-pub table_back : (st cur : Held) (table : List (Option ℕ)) (tag : ℕ) (s : SwitchStates) (t : Table) → Grows st cur → ArePrintableStates st tag s → IsTableBy cur table tag s t → IsTableBy st table tag s t
+pub table_back : (st cur : StoreState) (table : List (Option ℕ)) (tag : ℕ) (s : SwitchStates) (t : Table) → Grows st cur → ArePrintableStates st tag s → IsTableBy cur table tag s t → IsTableBy st table tag s t
 table_back st cur table tag s t g all k = record {
   switch = k.switch;
   trees = k.trees;
@@ -146,22 +146,22 @@ table_back st cur table tag s t g all k = record {
 }
 
 -- states that can be printed can be printed later
-pub printables_grown : (st cur : Held) (tag : ℕ) (s : SwitchStates) → Grows st cur → ArePrintableStates st tag s → ArePrintableStates cur tag s
+pub printables_grown : (st cur : StoreState) (tag : ℕ) (s : SwitchStates) → Grows st cur → ArePrintableStates st tag s → ArePrintableStates cur tag s
 printables_grown st cur tag s g all k d lt = printable_grown st cur tag s.switch (get_or s.tag_states k d) g (all k d lt)
 
 -- the frame of a store that grew
-pub frame_grown : (st cur : Held) (tag : ℕ) → Grows st cur → IsFrame st st.width tag → IsFrame cur cur.width tag
+pub frame_grown : (st cur : StoreState) (tag : ℕ) → Grows st cur → IsFrame st st.width tag → IsFrame cur cur.width tag
 frame_grown st cur tag g f = record {
   past_port = f.past_port;
   declared = subst (λ n. tag < n) (sym g.width) f.declared;
   few = subst (λ n. n ≤ 18) (sym g.width) f.few;
   switches = ap (λ m. get_or m 0 0) g.maxes ∙ f.switches;
   ports = ap (λ m. get_or m 1 0) g.maxes ∙ f.ports;
-  behind = λ k le. ap (λ m. get_or m k 0) g.maxes ∙ f.behind k (subst (λ n. n ≤ k) g.width le);
+  following = λ k le. ap (λ m. get_or m k 0) g.maxes ∙ f.following k (subst (λ n. n ≤ k) g.width le);
 }
 
 -- one more switch's table
-pub tables_more : (st cur : Held) (table : List (Option ℕ)) (tag : ℕ) (all : List SwitchStates) (i : ℕ) (s : SwitchStates) (t : Table) (ts more : List Table) → Grows st cur →
+pub tables_more : (st cur : StoreState) (table : List (Option ℕ)) (tag : ℕ) (all : List SwitchStates) (i : ℕ) (s : SwitchStates) (t : Table) (ts more : List Table) → Grows st cur →
     i < length all → s ≡ get_or all i s → more ≡ ts ++ t ∷ [] → ArePrintableStates st tag s → IsTableBy cur table tag s t →
     Matched (IsTableBy st table tag) (take i all) ts → Matched (IsTableBy st table tag) (take (i + 1) all) more
 tables_more st cur table tag all i s t ts more g lt at is k one m =

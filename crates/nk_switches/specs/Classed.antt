@@ -1,7 +1,7 @@
 -- Tables where tags share numbers, those of their classes: at each switch the rows of each class that comes there, and at each
 -- packet one of its tags acts for a class.
 use Rattle.std.specs.Prelude.{◌≡◌, ℕ, zero, suc, ◌≤◌, cond, Option, Some, None, List, [], ◌∷◌, length, take, slice_index, slice_set, All}
-use Rattle.nk_store.specs.Held.{Held, IsId, IsWhole, IsPacket, look}
+use Rattle.nk_store.specs.StoreState.{StoreState, IsId, IsWhole, IsStorePacket, look}
 use Rattle.nk_store.specs.Diagram.{IsReduced, IsFreeOf, leaf_at}
 use Rattle.nk_apply.specs.PacketSets.{is_in}
 use Rattle.nk_table.specs.declared.Table.{Table}
@@ -15,7 +15,7 @@ use Rattle.nk_switches.specs.declared.stop.TagState.{TagState}
 use Rattle.nk_switches.specs.Matched.{Matched}
 use Rattle.nk_switches.specs.States.{IsStateAtSwitch}
 use Rattle.nk_switches.specs.Tagged.{members_of, LeadsWith}
-use Rattle.nk_switches.specs.Made.{TagTree, rows_of_trees, IsTagAt, HasPlaces}
+use Rattle.nk_switches.specs.Made.{TagTree, rows_of_trees, IsTagAt, HasLabelsBelow}
 
 -- the number of a tag's class: 0 for tag 0, and for tag t + 1 the one at place t
 abbrev pub class_of : List ℕ → ℕ → ℕ
@@ -23,12 +23,12 @@ class_of classes zero = 0
 class_of classes (suc t) = slice_index classes t
 
 -- of these tags the first one at whose packets the packet is, its tag set to 0; the other one where it is at those of none
-abbrev pub acting_tag : Held → ℕ → List ActingTag → ℕ → List ℕ → ℕ
+abbrev pub acting_tag : StoreState → ℕ → List ActingTag → ℕ → List ℕ → ℕ
 acting_tag st tag [] other pk = other
 acting_tag st tag (a ∷ more) other pk = cond (is_in st a.packets (slice_set pk tag 0)) a.tag (acting_tag st tag more other pk)
 
 -- from pk the states lead to y with a tag whose class has this number
-abbrev pub LeadsTo : Held → List (List ℕ) → List ℕ → List ℕ → List ℕ → List ℕ → List ℕ → List ℕ → ℕ → Type 0
+abbrev pub LeadsTo : StoreState → List (List ℕ) → List ℕ → List ℕ → List ℕ → List ℕ → List ℕ → List ℕ → ℕ → Type 0
 LeadsTo st ss states tags classes members pk y c = (t : ℕ) × LeadsWith st ss states tags members pk y t × (c ≡ class_of classes t)
 
 -- the number of a target's tag, if it has one
@@ -42,29 +42,29 @@ IsTagWithin count None = Unit {0}
 IsTagWithin count (Some t) = t ≤ count
 
 -- the tag can be put in the table of a switch, and its packets are a diagram of the store
-pub record IsActingAt (st : Held) (ss : List (List ℕ)) (states tags : List ℕ) (tag sw : ℕ) (a : ActingTag) : Type 0 where
+pub record IsActingAt (st : StoreState) (ss : List (List ℕ)) (states tags : List ℕ) (tag sw : ℕ) (a : ActingTag) : Type 0 where
   pub packets : IsId st a.packets
   pub at : IsTagAt st ss states tags tag sw a.tag
 
 -- so it is with each tag of the class
-pub record IsClassAt (st : Held) (ss : List (List ℕ)) (states tags : List ℕ) (tag sw : ℕ) (h : ClassHere) : Type 0 where
+pub record IsClassAt (st : StoreState) (ss : List (List ℕ)) (states tags : List ℕ) (tag sw : ℕ) (h : ClassHere) : Type 0 where
   pub acting : All (IsActingAt st ss states tags tag sw) h.acting
   pub other : IsTagAt st ss states tags tag sw h.other
 
 -- and with each class of the switch
-abbrev pub IsClassStop : Held → List (List ℕ) → List ℕ → List ℕ → ℕ → ClassStop → Type 0
+abbrev pub IsClassStop : StoreState → List (List ℕ) → List ℕ → List ℕ → ℕ → ClassStop → Type 0
 IsClassStop st ss states tags tag s = All (IsClassAt st ss states tags tag s.switch) s.classes
 
 -- the reduced tree of the bucket lists of where the states of the tag that acts for a class lead, at the packets of a switch
-pub record IsClassTreeAt (st : Held) (ss : List (List ℕ)) (states tags classes : List ℕ) (tag sw : ℕ) (h : ClassHere) (e : TagTree) : Type 0 where
+pub record IsClassTreeAt (st : StoreState) (ss : List (List ℕ)) (states tags classes : List ℕ) (tag sw : ℕ) (h : ClassHere) (e : TagTree) : Type 0 where
   pub number_is : e.tag ≡ h.class
   pub reduced : IsReduced e.tree (take st.width st.maxes) 1
   pub tag_free : IsFreeOf tag e.tree
-  pub leaves : (pk : List ℕ) → IsPacket st pk → slice_index pk 0 ≡ sw →
+  pub leaves : (pk : List ℕ) → IsStorePacket st pk → slice_index pk 0 ≡ sw →
       AreBuckets st.width tag (λ y c. LeadsTo st ss states tags classes (members_of ss tags (acting_tag st tag h.acting h.other pk)) pk y c) pk (leaf_at e.tree [] pk)
 
 -- the table of a switch: the rows of its classes' trees in turn, and the groups of these rows
-pub record IsClassTableAt (st : Held) (ss : List (List ℕ)) (states tags classes : List ℕ) (tag : ℕ) (s : ClassStop) (table : Table) : Type 0 where
+pub record IsClassTableAt (st : StoreState) (ss : List (List ℕ)) (states tags classes : List ℕ) (tag : ℕ) (s : ClassStop) (table : Table) : Type 0 where
   pub switch : table.switch ≡ s.switch
   pub trees : List TagTree
   pub each : Matched (IsClassTreeAt st ss states tags classes tag s.switch) s.classes trees
@@ -74,41 +74,41 @@ pub record IsClassTableAt (st : Held) (ss : List (List ℕ)) (states tags classe
 -- ---- what is made on the way
 
 -- the places of a tag's states are places among so many states, and its packets are a diagram of the store
-pub record IsActingTag (st : Held) (ss : List (List ℕ)) (count : ℕ) (tags : List ℕ) (a : ActingTag) : Type 0 where
+pub record IsActingTag (st : StoreState) (ss : List (List ℕ)) (count : ℕ) (tags : List ℕ) (a : ActingTag) : Type 0 where
   pub packets : IsId st a.packets
-  pub has : HasPlaces ss count tags a.tag
+  pub has : HasLabelsBelow ss count tags a.tag
 
 -- so it is with each tag of a class
-pub record HaveActing (st : Held) (ss : List (List ℕ)) (count : ℕ) (tags : List ℕ) (h : ClassHere) : Type 0 where
+pub record HaveActing (st : StoreState) (ss : List (List ℕ)) (count : ℕ) (tags : List ℕ) (h : ClassHere) : Type 0 where
   pub acting : All (IsActingTag st ss count tags) h.acting
-  pub other : HasPlaces ss count tags h.other
+  pub other : HasLabelsBelow ss count tags h.other
 
 -- and with each class of a switch
-abbrev pub HaveClasses : Held → List (List ℕ) → ℕ → List ℕ → ClassStop → Type 0
+abbrev pub HaveClasses : StoreState → List (List ℕ) → ℕ → List ℕ → ClassStop → Type 0
 HaveClasses st ss count tags s = All (HaveActing st ss count tags) s.classes
 
 -- the diagram d does what e does at the tag's packets, and elsewhere what the rest does
-pub record IsInFront (st : Held) (tag : ℕ) (a : ActingTag) (e rest d : ℕ) : Type 0 where
+pub record IsInFront (st : StoreState) (tag : ℕ) (a : ActingTag) (e rest d : ℕ) : Type 0 where
   pub id : IsId st d
   pub packets : IsId st a.packets
   pub leaf : (pk : List ℕ) → IsWhole pk → look st d pk ≡ cond (is_in st a.packets (slice_set pk tag 0)) (look st e pk) (look st rest pk)
 
 -- the diagram does at each packet of the switch what the states of the tag that acts there do
-abbrev pub IsActingState : Held → List (List ℕ) → List ℕ → List ℕ → ℕ → ℕ → List ActingTag → ℕ → ℕ → Type 0
-IsActingState st ss states tags tag sw [] other d = HasPlaces ss (length states) tags other × IsStateAtSwitch st ss states (members_of ss tags other) sw d
+abbrev pub IsActingState : StoreState → List (List ℕ) → List ℕ → List ℕ → ℕ → ℕ → List ActingTag → ℕ → ℕ → Type 0
+IsActingState st ss states tags tag sw [] other d = HasLabelsBelow ss (length states) tags other × IsStateAtSwitch st ss states (members_of ss tags other) sw d
 IsActingState st ss states tags tag sw (a ∷ more) other d =
     (e : ℕ) × (rest : ℕ)
-    × HasPlaces ss (length states) tags a.tag
+    × HasLabelsBelow ss (length states) tags a.tag
     × IsStateAtSwitch st ss states (members_of ss tags a.tag) sw e
     × IsActingState st ss states tags tag sw more other rest
     × IsInFront st tag a e rest d
 
 -- so it is with a class's diagram
-pub record IsClassState (st : Held) (ss : List (List ℕ)) (states tags : List ℕ) (tag sw : ℕ) (h : ClassHere) (e : TagState) : Type 0 where
+pub record IsClassState (st : StoreState) (ss : List (List ℕ)) (states tags : List ℕ) (tag sw : ℕ) (h : ClassHere) (e : TagState) : Type 0 where
   pub number_is : e.tag ≡ h.class
   pub state : IsActingState st ss states tags tag sw h.acting h.other e.diagram
 
 -- and with those of a switch's classes
-pub record AreClassStates (st : Held) (ss : List (List ℕ)) (states tags : List ℕ) (tag : ℕ) (s : ClassStop) (all : SwitchStates) : Type 0 where
+pub record AreClassStates (st : StoreState) (ss : List (List ℕ)) (states tags : List ℕ) (tag : ℕ) (s : ClassStop) (all : SwitchStates) : Type 0 where
   pub switch : all.switch ≡ s.switch
   pub each : Matched (IsClassState st ss states tags tag s.switch) s.classes all.tag_states

@@ -1,6 +1,6 @@
 -- Tags: the states that a tag stands for, and where they lead with which tag (Smolka et al., ICFP 2015, section 5).
 use Rattle.std.specs.Prelude.{◌≡◌, ◌↔◌, ℕ, zero, suc, ◌+◌, ◌<◌, ◌⊎◌, List, [], ◌∷◌, Option, Some, None, length, map, slice_index, slice_index_or, Contains}
-use Rattle.nk_store.specs.Held.{Held}
+use Rattle.nk_store.specs.StoreState.{StoreState}
 use Rattle.nk_determ.specs.Exact.{Sends}
 use Rattle.nk_determ.specs.States.{StateLeads}
 
@@ -8,20 +8,20 @@ use Rattle.nk_determ.specs.States.{StateLeads}
 abbrev pub set_of_tag : List (List ℕ) → List ℕ → ℕ → List ℕ
 set_of_tag ss tags t = slice_index_or ss (slice_index tags t) []
 
--- the states of a tag: that of the start for tag 0, else the one behind each label of its set
+-- the states of a tag: that of the start for tag 0, else the one after each label of its set
 abbrev pub members_of : List (List ℕ) → List ℕ → ℕ → List ℕ
 members_of ss tags zero = 0 ∷ []
 members_of ss tags (suc t) = map (λ l. l + 1) (set_of_tag ss tags t)
 
 -- From pk the states lead to y with the tag t': with tag 0 where they end, else where the labels that they send y to are those
 -- of the set of that tag, and there are some.
-abbrev pub LeadsWith : Held → List (List ℕ) → List ℕ → List ℕ → List ℕ → List ℕ → List ℕ → ℕ → Type 0
+abbrev pub LeadsWith : StoreState → List (List ℕ) → List ℕ → List ℕ → List ℕ → List ℕ → List ℕ → ℕ → Type 0
 LeadsWith st ss states tags members pk y zero = StateLeads st states members pk y 0
 LeadsWith st ss states tags members pk y (suc t) =
     (t < length tags) × (set_of_tag ss tags t ≡ [] → ⊥) × ((l : ℕ) → Contains (set_of_tag ss tags t) l ↔ ((0 < l) × StateLeads st states members pk y l))
 
 -- from pk the diagram leads to y with the tag that the table has at the target
-abbrev pub SendsBy : Held → List (Option ℕ) → ℕ → List ℕ → List ℕ → ℕ → Type 0
+abbrev pub SendsBy : StoreState → List (Option ℕ) → ℕ → List ℕ → List ℕ → ℕ → Type 0
 SendsBy st table d pk y t = (u : ℕ) × Sends st d pk y u × (slice_index_or table u None ≡ Some t)
 
 -- The tags of targets, for the first so many tags: 0 for 0, t + 1 for 1 + the number of the set of that tag where the set has

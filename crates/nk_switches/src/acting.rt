@@ -1,6 +1,6 @@
 //! The diagrams of the classes of all switches.
 ghost use Rattle.std.specs.Prelude.{◌<◌, ℕ, cond, All, IfOk, length};
-ghost use Rattle.nk_store.specs.Held.{IsId, Grows, HasLeaves, look};
+ghost use Rattle.nk_store.specs.StoreState.{IsId, Grows, HasLeaves, look};
 ghost use Rattle.nk_apply.specs.PacketSets.{is_in};
 ghost use Rattle.nk_apply.specs.Unions.{AreIds};
 ghost use Rattle.nk_determ.specs.Sets.{SetsGrow};

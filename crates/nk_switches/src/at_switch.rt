@@ -1,6 +1,6 @@
 //! States cut to one switch.
 ghost use Rattle.std.specs.Prelude.{◌≡◌, ◌<◌, All, IfOk, length, slice_index, slice_set};
-ghost use Rattle.nk_store.specs.Held.{Grows, look};
+ghost use Rattle.nk_store.specs.StoreState.{Grows, look};
 ghost use Rattle.nk_apply.specs.Unions.{AreIds};
 ghost use Rattle.nk_determ.specs.Sets.{SetsGrow};
 ghost use Rattle.nk_determ.specs.States.{HaveEach};
@@ -14,7 +14,7 @@ use std::alloc::AllocError;
 
 /// What the states at these places do together at the packets of a switch, as one diagram. The only
 /// error is that memory ran out.
-pub fn state_at(
+pub fn switch_state(
     st: &mut Store,
     ss: &mut Sets,
     states: &[Id],

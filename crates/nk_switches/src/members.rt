@@ -6,7 +6,7 @@ use nk_determ::{SetId, Sets};
 use nk_field::List;
 use std::alloc::{AllocError, Global};
 
-/// The places of a tag's states: for tag 0 that of the start, for another tag the one behind each label of its
+/// The places of a tag's states: for tag 0 that of the start, for another tag the one after each label of its
 /// set. The only error is that memory ran out.
 pub fn members(
     alloc: Global,
@@ -23,7 +23,7 @@ pub fn members(
     if tag == 0 {
         first(alloc)
     } else {
-        behind(alloc, ss, tags[tag as usize - 1], count)
+        following(alloc, ss, tags[tag as usize - 1], count)
     }
 }
 
@@ -36,8 +36,8 @@ fn first(alloc: Global) -> Result<List<u64>, AllocError>
     Ok(ls)
 }
 
-/// The place behind each label of a set.
-fn behind(alloc: Global, ss: &Sets, s: SetId, count: usize) -> Result<List<u64>, AllocError>
+/// The place after each label of a set.
+fn following(alloc: Global, ss: &Sets, s: SetId, count: usize) -> Result<List<u64>, AllocError>
     requires known { s < length ss.now }
     requires places { All (λ l. l < count) (map (λ l. l + 1) (slice_index_or ss.now s [])) }
     ensures { IfOk result (λ ls. ls ≡ map (λ l. l + 1) (slice_index_or ss.now s [])) }

@@ -24,7 +24,7 @@ pub trait TableSink {
     ghost joined: { (s t u : Self) (before more : List Table) → takes s before t → takes t more u → takes s (before ++ more) u };
 }
 
-/// A list keeps them behind what stands in it.
+/// A list keeps them after what stands in it.
 impl TableSink for List<Table> {
     ghost use Rattle.std.proofs.lemmas.List.{append-nil, append_assoc};
     ghost use Rattle.std.proofs.Common.{sym, ap, ◌∙◌};

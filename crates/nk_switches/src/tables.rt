@@ -1,7 +1,7 @@
 //! The tables of switches, by the diagrams of their tags.
 ghost use Rattle.std.specs.Prelude.{◌≡◌, ℕ, Some, All, IfOk, List as Items, OnOk, ◌++◌, take};
 ghost use Rattle.nk_table.specs.declared.Table.{Table};
-ghost use Rattle.nk_store.specs.Held.{Grows};
+ghost use Rattle.nk_store.specs.StoreState.{Grows};
 ghost use Rattle.nk_extract.specs.RowsOf.{IsFrame};
 ghost use Rattle.nk_extract.specs.RuleTree.{rows_for};
 ghost use Rattle.nk_switches.specs.Matched.{Matched};

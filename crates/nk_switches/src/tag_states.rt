@@ -1,14 +1,14 @@
 //! The diagrams of the tags of all switches.
 ghost use Rattle.std.specs.Prelude.{◌<◌, ◌≤◌, All, IfOk, length};
-ghost use Rattle.nk_store.specs.Held.{Grows};
+ghost use Rattle.nk_store.specs.StoreState.{Grows};
 ghost use Rattle.nk_apply.specs.Unions.{AreIds};
 ghost use Rattle.nk_determ.specs.Sets.{SetsGrow};
 ghost use Rattle.nk_switches.specs.Matched.{Matched};
 ghost use Rattle.nk_switches.specs.States.{IsStateAtSwitch};
 ghost use Rattle.nk_switches.specs.Tagged.{members_of};
-ghost use Rattle.nk_switches.specs.Made.{AreStatesAt, TagsHavePlaces};
+ghost use Rattle.nk_switches.specs.Made.{AreStatesAt, TagsHaveLabelsBelow};
 
-use crate::at_switch::state_at;
+use crate::at_switch::switch_state;
 use crate::members::members;
 use crate::stop::{Stop, SwitchStates, TagState};
 use nk_determ::{SetId, Sets};
@@ -34,7 +34,7 @@ pub fn tag_state(
     ensures state { IfOk result (λ d. IsStateAtSwitch st.new ss.new states.now (members_of ss.old tags.now tag) sw d) }
 {
     let places = members(st.alloc(), ss, tags, states.len(), tag)?;
-    let d = state_at(st, ss, states, places.as_slice(), sw)?;
+    let d = switch_state(st, ss, states, places.as_slice(), sw)?;
     Ok(d)
 }
 
@@ -48,7 +48,7 @@ fn switch_states(
 ) -> Result<SwitchStates, AllocError>
     requires states { AreIds st.old states.now }
     requires known { All (λ s. s < length ss.old) tags.now }
-    requires places { TagsHavePlaces ss.old (length states.now) tags.now stop.now }
+    requires places { TagsHaveLabelsBelow ss.old (length states.now) tags.now stop.now }
     ensures grows { Grows st.old st.new }
     ensures sets { SetsGrow ss.old ss.new }
     ensures tag_states { IfOk result (AreStatesAt st.new ss.new states.now tags.now stop.now) }
@@ -74,7 +74,7 @@ pub fn all_states(
 ) -> Result<List<SwitchStates>, AllocError>
     requires states { AreIds st.old states.now }
     requires known { All (λ s. s < length ss.old) tags.now }
-    requires places { All (TagsHavePlaces ss.old (length states.now) tags.now) stops.now }
+    requires places { All (TagsHaveLabelsBelow ss.old (length states.now) tags.now) stops.now }
     ensures grows { Grows st.old st.new }
     ensures sets { SetsGrow ss.old ss.new }
     ensures tag_states { IfOk result (Matched (AreStatesAt st.new ss.new states.now tags.now) stops.now) }

@@ -8,7 +8,7 @@ use Rattle.nk_tabgrammar.specs.Spelling.{spell_text, TableTextGoesOn}
 use Rattle.nk_tabgrammar.specs.Machine.{Reading, read_one, read_all, first_reading, written_at_end, judged, rest_of_text, written_of}
 use Rattle.nk_lex.specs.Spans.{last_line}
 use Rattle.nk_lex.specs.Faults.{and_then}
-use Rattle.nk_tabgrammar.specs.Answer.{terminals, IsUnexpectedEnd, IsAnswer}
+use Rattle.nk_tabgrammar.specs.Answer.{terminals, IsUnexpectedEnd, IsTableParse}
 use Rattle.nk_tabgrammar.proofs.Spelled.{front_of, ends, none_some, some_same}
 use Rattle.nk_tabgrammar.proofs.Passing.{text_passes}
 use Rattle.nk_tabgrammar.proofs.Completing.{completes}
@@ -48,15 +48,15 @@ last_more : (line : ℕ) (xs : List Token) (t : Token) → last_line line (xs ++
 last_more line [] t = refl
 last_more line (x ∷ xs) t = last_more x.line xs t
 
--- the tokens that are left, behind tokens that were read
+-- the tokens that are left, after tokens that were read
 rest_answers : (all rest before : List Token) (r : Reading) → all ≡ before ++ rest
-    → read_all (terminals before) first_reading ≡ Some r → IsAnswer all (rest_of_text rest r (last_line 1 before))
+    → read_all (terminals before) first_reading ≡ Some r → IsTableParse all (rest_of_text rest r (last_line 1 before))
 rest_answers all [] before r parts read = by_end (written_at_end r) refl
   where
     same : all ≡ before
     same = parts ∙ append-nil before
 
-    by_end : (o : Option WrittenTables) → written_at_end r ≡ o → IsAnswer all (judged (last_line 1 before) o)
+    by_end : (o : Option WrittenTables) → written_at_end r ≡ o → IsTableParse all (judged (last_line 1 before) o)
     by_end (Some x) e = ap terminals same ∙ text_ends (terminals before) r x read e
     by_end None e = inr (subst (λ ts. IsUnexpectedEnd ts (last_line 1 before)) (sym same) (record {
       line_is = refl;
@@ -81,8 +81,8 @@ rest_answers all (t ∷ rest) before r parts read = by_step (read_one r (termina
         id_option (Some s) = refl
 
     by_step : (o : Option Reading) → read_one r (terminal_of t) ≡ o
-        → ((s : Reading) → read_all (terminals (before ++ t ∷ [])) first_reading ≡ Some s → IsAnswer all (rest_of_text rest s (last_line 1 (before ++ t ∷ []))))
-        → IsAnswer all (and_then (judged t.line o) (λ s. rest_of_text rest s t.line))
+        → ((s : Reading) → read_all (terminals (before ++ t ∷ [])) first_reading ≡ Some s → IsTableParse all (rest_of_text rest s (last_line 1 (before ++ t ∷ []))))
+        → IsTableParse all (and_then (judged t.line o) (λ s. rest_of_text rest s t.line))
     by_step None e go = inl (record {
       before = before;
       token = t;
@@ -92,10 +92,10 @@ rest_answers all (t ∷ rest) before r parts read = by_step (read_one r (termina
       goes_on = text_goes_on (terminals before) r read;
       stops = text_stops (terminals (before ++ t ∷ [])) (all_read None e);
     })
-    by_step (Some s) e go = subst (λ line. IsAnswer all (rest_of_text rest s line)) (last_more 1 before t) (go s (all_read (Some s) e))
+    by_step (Some s) e go = subst (λ line. IsTableParse all (rest_of_text rest s line)) (last_more 1 before t) (go s (all_read (Some s) e))
 
 -- what is answered is what is written, or the first fault
-pub answers : (ts : List Token) → IsAnswer ts (written_of ts)
+pub answers : (ts : List Token) → IsTableParse ts (written_of ts)
 answers ts = rest_answers ts ts [] first_reading refl refl
 
 -- tokens that are taken to the end are read

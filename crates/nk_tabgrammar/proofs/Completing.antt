@@ -2,8 +2,8 @@
 use Rattle.std.proofs.Common.{◌≡◌, subst, List, [], ◌∷◌, ◌++◌, refl, sym, ◌∙◌, ap, append_assoc, append-nil}
 use Rattle.std.specs.Prelude.{None, Some}
 use Rattle.nk_lex.specs.declared.kind.Kind.TheVariants as kind
-use Rattle.nk_lex.specs.declared.word.Word.{Word}
-use Rattle.nk_lex.specs.declared.word.Number.{Number}
+use Rattle.nk_lex.specs.declared.ident.Ident.{Ident}
+use Rattle.nk_lex.specs.declared.ident.Number.{Number}
 use Rattle.nk_tabgrammar.specs.declared.written.Pair.{Pair}
 use Rattle.nk_tabgrammar.specs.declared.written.Declaration.{Declaration}
 use Rattle.nk_tabgrammar.specs.declared.written.Declaration.TheVariants as declared
@@ -46,7 +46,7 @@ by_token s x c t r e go = λ h.
     (t ∷ g.0, g.1, sym (append_assoc (spelled s x c) (t ∷ []) g.0) ∙ ap (λ l. l ++ g.0) at.0 ∙ g.2)
 
 -- some name
-a_word : Word
+a_word : Ident
 a_word = record { text = []; line = 0 }
 
 module _ (x : WrittenTables) (c : WrittenTable) where
@@ -74,7 +74,7 @@ row_more : (x : WrittenTables) (c : WrittenTable) (p : Number) (ms : List Writte
 row_more x c p ms t = rows x (with_row c (row_written p ms t))
 
 module _ (x : WrittenTables) (c : WrittenTable) where
-  field_named : (w : Word) → Completes (reading (stage.Declared (declaring.FieldNamed w)) x c)
+  field_named : (w : Ident) → Completes (reading (stage.Declared (declaring.FieldNamed w)) x c)
   field_named w = by_token (stage.Declared (declaring.FieldNamed w)) x c (number no_number) _ refl (declared_more x c (declared.Field w no_number))
 
   field : Completes (reading (stage.Declared declaring.Field) x c)
@@ -133,10 +133,10 @@ module _ (x : WrittenTables) (c : WrittenTable) where
   sets : (o : Owner) (ps : List Pair) → Completes (reading (stage.InBucket o (place.Sets ps)) x c)
   sets o ps = by_token (stage.InBucket o (place.Sets ps)) x c (mark kind.Out) _ refl (out o ps)
 
-  assigned : (o : Owner) (ps : List Pair) (w : Word) → Completes (reading (stage.InBucket o (place.Assigned ps w)) x c)
+  assigned : (o : Owner) (ps : List Pair) (w : Ident) → Completes (reading (stage.InBucket o (place.Assigned ps w)) x c)
   assigned o ps w = by_token (stage.InBucket o (place.Assigned ps w)) x c (number no_number) _ refl (sets o (ps ++ record { name = w; number = no_number } ∷ []))
 
-  named : (o : Owner) (ps : List Pair) (w : Word) → Completes (reading (stage.InBucket o (place.Named ps w)) x c)
+  named : (o : Owner) (ps : List Pair) (w : Ident) → Completes (reading (stage.InBucket o (place.Named ps w)) x c)
   named o ps w = by_token (stage.InBucket o (place.Named ps w)) x c (mark kind.Assign) _ refl (assigned o ps w)
 
   first_bucket : (n : Number) → Completes (reading (stage.Grouped (grouping.FirstBucket n)) x c)
@@ -157,16 +157,16 @@ module _ (x : WrittenTables) (c : WrittenTable) where
   matches : (p : Number) (ms : List WrittenMatch) → Completes (reading (stage.InRow (in_row.Matches p ms)) x c)
   matches p ms = by_token (stage.InRow (in_row.Matches p ms)) x c (mark kind.Arrow) _ refl (target_wanted p ms)
 
-  match_slashed : (p : Number) (ms : List WrittenMatch) (w : Word) (n : Number) → Completes (reading (stage.InRow (in_row.MatchSlashed p ms w n)) x c)
+  match_slashed : (p : Number) (ms : List WrittenMatch) (w : Ident) (n : Number) → Completes (reading (stage.InRow (in_row.MatchSlashed p ms w n)) x c)
   match_slashed p ms w n = by_token (stage.InRow (in_row.MatchSlashed p ms w n)) x c (number p) _ refl (matches p (with_match ms w n (Some p)))
 
-  match_valued : (p : Number) (ms : List WrittenMatch) (w : Word) (n : Number) → Completes (reading (stage.InRow (in_row.MatchValued p ms w n)) x c)
+  match_valued : (p : Number) (ms : List WrittenMatch) (w : Ident) (n : Number) → Completes (reading (stage.InRow (in_row.MatchValued p ms w n)) x c)
   match_valued p ms w n = by_token (stage.InRow (in_row.MatchValued p ms w n)) x c (mark kind.Arrow) _ refl (target_wanted p (with_match ms w n None))
 
-  match_tested : (p : Number) (ms : List WrittenMatch) (w : Word) → Completes (reading (stage.InRow (in_row.MatchTested p ms w)) x c)
+  match_tested : (p : Number) (ms : List WrittenMatch) (w : Ident) → Completes (reading (stage.InRow (in_row.MatchTested p ms w)) x c)
   match_tested p ms w = by_token (stage.InRow (in_row.MatchTested p ms w)) x c (number p) _ refl (match_valued p ms w p)
 
-  match_named : (p : Number) (ms : List WrittenMatch) (w : Word) → Completes (reading (stage.InRow (in_row.MatchNamed p ms w)) x c)
+  match_named : (p : Number) (ms : List WrittenMatch) (w : Ident) → Completes (reading (stage.InRow (in_row.MatchNamed p ms w)) x c)
   match_named p ms w = by_token (stage.InRow (in_row.MatchNamed p ms w)) x c (mark kind.Equal) _ refl (match_tested p ms w)
 
   row_numbered : (p : Number) → Completes (reading (stage.InRow (in_row.RowNumbered p)) x c)

@@ -4,8 +4,8 @@ use Rattle.std.specs.Prelude.{Some, None, is_some, if◌then◌else◌, option_m
 use Rattle.nk_lex.specs.declared.kind.Kind.{Kind}
 use Rattle.nk_lex.specs.declared.kind.Kind.TheVariants as kind
 use Rattle.nk_lex.specs.declared.token.Token.{Token}
-use Rattle.nk_lex.specs.declared.word.Word.{Word}
-use Rattle.nk_lex.specs.declared.word.Number.{Number}
+use Rattle.nk_lex.specs.declared.ident.Ident.{Ident}
+use Rattle.nk_lex.specs.declared.ident.Number.{Number}
 use Rattle.nk_tabgrammar.specs.declared.states.BucketState.{BucketState}
 use Rattle.nk_tabgrammar.specs.declared.states.State.{State}
 use Rattle.nk_tabgrammar.specs.declared.states.State.TheVariants as state
@@ -33,7 +33,7 @@ use Rattle.nk_tabgrammar.specs.States.{MaybeStep, after_token, after_in, after_l
 use Rattle.nk_tabgrammar.specs.States as states
 
 -- a token is a name, a number, or a mark of another kind
-pub by_kind : (P : Kind → Terminal → Type 0) → ((w : Word) → P kind.Name (name w)) → ((n : Number) → P kind.Number (number n))
+pub by_kind : (P : Kind → Terminal → Type 0) → ((w : Ident) → P kind.Name (name w)) → ((n : Number) → P kind.Number (number n))
     → ((k : Kind) → is_kind kind.Name k ≡ false → is_kind kind.Number k ≡ false → P k (mark k))
     → (t : Token) → P t.kind (terminal_of t)
 by_kind P w n m t = by t.kind t.line t.value t.text
@@ -98,7 +98,7 @@ module _ {A B : Type 0} (g : A → Option Reading) (h : B → MaybeStep) (t : To
       passes true = taken
       passes false = refused
 
-  by_name : (other : A) (f : Word → A) (x y : B) → ((w : Word) → Leads (g (f w)) (h x)) → Leads (g other) (h y)
+  by_name : (other : A) (f : Ident → A) (x y : B) → ((w : Ident) → Leads (g (f w)) (h x)) → Leads (g other) (h y)
       → Leads (g (with_name (terminal_of t) other f)) (h (if is_kind kind.Name t.kind then x else y))
   by_name other f x y taken refused =
       by_kind (λ l t. Leads (g (with_name t other f)) (h (if is_kind kind.Name l then x else y)))
@@ -122,13 +122,13 @@ module _ {A : Type 0} (g : A → Option Reading) (t : Token) where
       → Leads (g (if is_mark k (terminal_of t) then one else other)) (step_if k t.kind s e)
   mark_only k a b one other s e taken refused = by_mark g (λ o. o) t k a b one other (Some (s, e)) None taken refused
 
-  name_or : (other : A) (f : Word → A) (s : State) (e : Tells) (rest : MaybeStep)
-      → ((w : Word) → Leads (g (f w)) (Some (s, e))) → Leads (g other) rest
+  name_or : (other : A) (f : Ident → A) (s : State) (e : Tells) (rest : MaybeStep)
+      → ((w : Ident) → Leads (g (f w)) (Some (s, e))) → Leads (g other) rest
       → Leads (g (with_name (terminal_of t) other f)) (or_else (step_if kind.Name t.kind s e) rest)
   name_or other f s e rest taken refused = by_name g (λ o. or_else o rest) t other f (Some (s, e)) None taken refused
 
-  name_only : (other : A) (f : Word → A) (s : State) (e : Tells)
-      → ((w : Word) → Leads (g (f w)) (Some (s, e))) → Leads (g other) None
+  name_only : (other : A) (f : Ident → A) (s : State) (e : Tells)
+      → ((w : Ident) → Leads (g (f w)) (Some (s, e))) → Leads (g other) None
       → Leads (g (with_name (terminal_of t) other f)) (step_if kind.Name t.kind s e)
   name_only other f s e taken refused = by_name g (λ o. o) t other f (Some (s, e)) None taken refused
 

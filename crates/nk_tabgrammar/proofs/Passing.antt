@@ -4,8 +4,8 @@ use Rattle.std.specs.Prelude.{None, Some, option_and_then, if◌then◌else◌}
 use Rattle.std.specs.List.{flat_map}
 use Rattle.nk_lex.specs.declared.kind.Kind.{Kind}
 use Rattle.nk_lex.specs.declared.kind.Kind.TheVariants as kind
-use Rattle.nk_lex.specs.declared.word.Word.{Word}
-use Rattle.nk_lex.specs.declared.word.Number.{Number}
+use Rattle.nk_lex.specs.declared.ident.Ident.{Ident}
+use Rattle.nk_lex.specs.declared.ident.Number.{Number}
 use Rattle.nk_tabgrammar.specs.declared.written.Pair.{Pair}
 use Rattle.nk_tabgrammar.specs.declared.written.Declaration.{Declaration}
 use Rattle.nk_tabgrammar.specs.declared.written.Declaration.TheVariants as declared
@@ -35,33 +35,33 @@ abbrev finish : Option Reading → Option WrittenTables
 finish o = option_and_then written_at_end o
 
 -- the first token, if there is one, is none of this kind
-abbrev IsBehind : Kind → List Terminal → Type 0
-IsBehind k [] = Unit {0}
-IsBehind k (t ∷ ts) = is_mark k t ≡ false
+abbrev IsAfter : Kind → List Terminal → Type 0
+IsAfter k [] = Unit {0}
+IsAfter k (t ∷ ts) = is_mark k t ≡ false
 
 -- declarations begin with no comma, nor do tables
-declarations_behind : (ds : List Declaration) (r : List Terminal) → IsBehind kind.Comma r → IsBehind kind.Comma (flat_map spell_declaration ds ++ r)
-declarations_behind [] r b = b
-declarations_behind (declared.Field w n ∷ ds) r b = refl
-declarations_behind (declared.Tag w ∷ ds) r b = refl
-declarations_behind (declared.Switch n p ps ∷ ds) r b = refl
-declarations_behind (declared.Link a m c n ∷ ds) r b = refl
+declarations_after : (ds : List Declaration) (r : List Terminal) → IsAfter kind.Comma r → IsAfter kind.Comma (flat_map spell_declaration ds ++ r)
+declarations_after [] r b = b
+declarations_after (declared.Field w n ∷ ds) r b = refl
+declarations_after (declared.Tag w ∷ ds) r b = refl
+declarations_after (declared.Switch n p ps ∷ ds) r b = refl
+declarations_after (declared.Link a m c n ∷ ds) r b = refl
 
 -- tables, rows and groups begin with a word of theirs
-tables_behind : (k : Kind) → is_mark k (mark kind.Table) ≡ false → (ts : List WrittenTable) → IsBehind k (flat_map spell_table ts)
-tables_behind k e [] = tt
-tables_behind k e (t ∷ ts) = e
+tables_following : (k : Kind) → is_mark k (mark kind.Table) ≡ false → (ts : List WrittenTable) → IsAfter k (flat_map spell_table ts)
+tables_following k e [] = tt
+tables_following k e (t ∷ ts) = e
 
-rows_behind : (k : Kind) → is_mark k (mark kind.Row) ≡ false → (rs : List WrittenRow) (r : List Terminal) → IsBehind k r → IsBehind k (flat_map spell_row rs ++ r)
-rows_behind k e [] r b = b
-rows_behind k e (x ∷ rs) r b = e
+rows_following : (k : Kind) → is_mark k (mark kind.Row) ≡ false → (rs : List WrittenRow) (r : List Terminal) → IsAfter k r → IsAfter k (flat_map spell_row rs ++ r)
+rows_following k e [] r b = b
+rows_following k e (x ∷ rs) r b = e
 
-groups_behind : (k : Kind) → is_mark k (mark kind.Group) ≡ false → (gs : List WrittenGroup) (r : List Terminal) → IsBehind k r → IsBehind k (flat_map spell_group gs ++ r)
-groups_behind k e [] r b = b
-groups_behind k e (x ∷ gs) r b = e
+groups_following : (k : Kind) → is_mark k (mark kind.Group) ≡ false → (gs : List WrittenGroup) (r : List Terminal) → IsAfter k r → IsAfter k (flat_map spell_group gs ++ r)
+groups_following k e [] r b = b
+groups_following k e (x ∷ gs) r b = e
 
 -- further ports
-ports_pass : (x : WrittenTables) (c : WrittenTable) (n p : Number) (qs ps : List Number) (r : List Terminal) → IsBehind kind.Comma r
+ports_pass : (x : WrittenTables) (c : WrittenTable) (n p : Number) (qs ps : List Number) (r : List Terminal) → IsAfter kind.Comma r
     → finish (read_all (flat_map spell_port ps ++ r) (reading (stage.Declared (declaring.PortRead n p qs)) x c)) ≡ finish (read_all r (reading stage.Between (with_declaration x (declared.Switch n p (qs ++ ps))) c))
 ports_pass x c n p qs (q ∷ ps) r b =
     ports_pass x c n p (qs ++ q ∷ []) ps r b
@@ -72,7 +72,7 @@ ports_pass x c n p qs [] (t ∷ r) b =
     ∙ ap (λ l. finish (option_and_then (read_all r) (begin (with_declaration x (declared.Switch n p l)) c t))) (sym (append-nil qs))
 
 -- a declaration
-declaration_passes : (x : WrittenTables) (c : WrittenTable) (d : Declaration) (r : List Terminal) → IsBehind kind.Comma r
+declaration_passes : (x : WrittenTables) (c : WrittenTable) (d : Declaration) (r : List Terminal) → IsAfter kind.Comma r
     → finish (read_all (spell_declaration d ++ r) (reading stage.Between x c)) ≡ finish (read_all r (reading stage.Between (with_declaration x d) c))
 declaration_passes x c (declared.Field w n) r b = refl
 declaration_passes x c (declared.Tag w) r b = refl
@@ -83,13 +83,13 @@ declaration_passes x c (declared.Link a m e n) r b = refl
 abbrev with_declarations : WrittenTables → List Declaration → WrittenTables
 with_declarations x ds = record x { declarations = x.declarations ++ ds }
 
-declarations_pass : (x : WrittenTables) (c : WrittenTable) (ds : List Declaration) (r : List Terminal) → IsBehind kind.Comma r
+declarations_pass : (x : WrittenTables) (c : WrittenTable) (ds : List Declaration) (r : List Terminal) → IsAfter kind.Comma r
     → finish (read_all (flat_map spell_declaration ds ++ r) (reading stage.Between x c)) ≡ finish (read_all r (reading stage.Between (with_declarations x ds) c))
 declarations_pass x c [] r b =
     ap (λ l. finish (read_all r (reading stage.Between (record x { declarations = l }) c))) (sym (append-nil x.declarations))
 declarations_pass x c (d ∷ ds) r b =
     ap (λ l. finish (read_all l (reading stage.Between x c))) (append_assoc (spell_declaration d) (flat_map spell_declaration ds) r)
-    ∙ declaration_passes x c d (flat_map spell_declaration ds ++ r) (declarations_behind ds r b)
+    ∙ declaration_passes x c d (flat_map spell_declaration ds ++ r) (declarations_after ds r b)
     ∙ declarations_pass (with_declaration x d) c ds r b
     ∙ ap (λ l. finish (read_all r (reading stage.Between (record x { declarations = l }) c))) (append_assoc x.declarations (d ∷ []) ds)
 
@@ -107,7 +107,7 @@ way_passes : (x : WrittenTables) (c : WrittenTable) (o : Owner) (ps : List Pair)
 way_passes x c o ps way.Back r = refl
 way_passes x c o ps (way.Port n) r = refl
 
--- a bucket behind its bracket
+-- a bucket after its bracket
 bucket_passes : (x : WrittenTables) (c : WrittenTable) (o : Owner) (b : WrittenBucket) (r : List Terminal)
     → read_all ((flat_map spell_set b.sets ++ mark kind.Out ∷ way_token b.way ∷ mark kind.CloseBracket ∷ []) ++ r) (reading (stage.InBucket o (place.Sets [])) x c)
     ≡ read_all r (bucket_done x c o b)
@@ -120,7 +120,7 @@ bucket_passes x c o b r =
 abbrev with_buckets : WrittenGroup → List WrittenBucket → WrittenGroup
 with_buckets g bs = record g { more = g.more ++ bs }
 
-buckets_pass : (x : WrittenTables) (c : WrittenTable) (g : WrittenGroup) (bs : List WrittenBucket) (r : List Terminal) → IsBehind kind.OpenBracket r
+buckets_pass : (x : WrittenTables) (c : WrittenTable) (g : WrittenGroup) (bs : List WrittenBucket) (r : List Terminal) → IsAfter kind.OpenBracket r
     → finish (read_all (flat_map spell_bucket bs ++ r) (reading (stage.Grouped (grouping.BucketRead g)) x c)) ≡ finish (read_all r (reading stage.Groups x (with_group c (with_buckets g bs))))
 buckets_pass x c g [] [] b = ap (λ l. Some (with_table x (with_group c (record g { more = l })))) (sym (append-nil g.more))
 buckets_pass x c g [] (t ∷ r) b =
@@ -133,7 +133,7 @@ buckets_pass x c g (y ∷ bs) r b =
     ∙ ap (λ l. finish (read_all r (reading stage.Groups x (with_group c (record g { more = l }))))) (append_assoc g.more (y ∷ []) bs)
 
 -- a group
-group_passes : (x : WrittenTables) (c : WrittenTable) (g : WrittenGroup) (r : List Terminal) → IsBehind kind.OpenBracket r
+group_passes : (x : WrittenTables) (c : WrittenTable) (g : WrittenGroup) (r : List Terminal) → IsAfter kind.OpenBracket r
     → finish (read_all (spell_group g ++ r) (reading stage.Groups x c)) ≡ finish (read_all r (reading stage.Groups x (with_group c g)))
 group_passes x c g r b =
     ap (λ l. finish (read_all l (reading (stage.Grouped (grouping.FirstBucket g.number)) x c))) (append_assoc (spell_bucket g.first) (flat_map spell_bucket g.more) r)
@@ -144,17 +144,17 @@ group_passes x c g r b =
 abbrev with_groups : WrittenTable → List WrittenGroup → WrittenTable
 with_groups c gs = record c { groups = c.groups ++ gs }
 
-groups_pass : (x : WrittenTables) (c : WrittenTable) (gs : List WrittenGroup) (r : List Terminal) → IsBehind kind.OpenBracket r
+groups_pass : (x : WrittenTables) (c : WrittenTable) (gs : List WrittenGroup) (r : List Terminal) → IsAfter kind.OpenBracket r
     → finish (read_all (flat_map spell_group gs ++ r) (reading stage.Groups x c)) ≡ finish (read_all r (reading stage.Groups x (with_groups c gs)))
 groups_pass x c [] r b = ap (λ l. finish (read_all r (reading stage.Groups x (record c { groups = l })))) (sym (append-nil c.groups))
 groups_pass x c (g ∷ gs) r b =
     ap (λ l. finish (read_all l (reading stage.Groups x c))) (append_assoc (spell_group g) (flat_map spell_group gs) r)
-    ∙ group_passes x c g (flat_map spell_group gs ++ r) (groups_behind kind.OpenBracket refl gs r b)
+    ∙ group_passes x c g (flat_map spell_group gs ++ r) (groups_following kind.OpenBracket refl gs r b)
     ∙ groups_pass x (with_group c g) gs r b
     ∙ ap (λ l. finish (read_all r (reading stage.Groups x (record c { groups = l })))) (append_assoc c.groups (g ∷ []) gs)
 
 -- rows may follow
-rows_follow : (x : WrittenTables) (c : WrittenTable) (r : List Terminal) → IsBehind kind.Group r
+rows_follow : (x : WrittenTables) (c : WrittenTable) (r : List Terminal) → IsAfter kind.Group r
     → finish (read_all r (reading stage.Groups x c)) ≡ finish (read_all r (reading stage.Rows x c))
 rows_follow x c [] b = refl
 rows_follow x c (t ∷ r) b = ap (λ f. finish (option_and_then (read_all r) (if f then Some (reading (stage.Grouped grouping.Group) x c) else begin_row x c t))) b
@@ -163,14 +163,14 @@ rows_follow x c (t ∷ r) b = ap (λ f. finish (option_and_then (read_all r) (if
 abbrev with_arrow : List WrittenMatch → List Terminal → List Terminal
 with_arrow ms r = flat_map spell_match ms ++ mark kind.Arrow ∷ r
 
--- behind a value without length stands no `/`
-value_passes : (x : WrittenTables) (c : WrittenTable) (p : Number) (ns : List WrittenMatch) (w : Word) (n : Number) (ms : List WrittenMatch) (r : List Terminal)
+-- after a value without length stands no `/`
+value_passes : (x : WrittenTables) (c : WrittenTable) (p : Number) (ns : List WrittenMatch) (w : Ident) (n : Number) (ms : List WrittenMatch) (r : List Terminal)
     → read_all (with_arrow ms r) (reading (stage.InRow (in_row.MatchValued p ns w n)) x c) ≡ read_all (with_arrow ms r) (reading (stage.InRow (in_row.Matches p (with_match ns w n None))) x c)
 value_passes x c p ns w n [] r = refl
 value_passes x c p ns w n (m ∷ ms) r = refl
 
 -- a match
-match_passes : (x : WrittenTables) (c : WrittenTable) (p : Number) (ns : List WrittenMatch) (w : Word) (n : Number) (l : Option Number) (ms : List WrittenMatch) (r : List Terminal)
+match_passes : (x : WrittenTables) (c : WrittenTable) (p : Number) (ns : List WrittenMatch) (w : Ident) (n : Number) (l : Option Number) (ms : List WrittenMatch) (r : List Terminal)
     → read_all (spell_match (match_of w n l) ++ with_arrow ms r) (reading (stage.InRow (in_row.Matches p ns)) x c)
     ≡ read_all (with_arrow ms r) (reading (stage.InRow (in_row.Matches p (with_match ns w n l))) x c)
 match_passes x c p ns w n None ms r = value_passes x c p ns w n ms r
@@ -210,14 +210,14 @@ rows_pass x c (w ∷ ws) r =
     ∙ rows_pass x (with_row c w) ws r
     ∙ ap (λ l. read_all r (reading stage.Rows x (record c { rows = l }))) (append_assoc c.rows (w ∷ []) ws)
 
--- what stands behind the number of a table
-table_passes : (x : WrittenTables) (t : WrittenTable) (r : List Terminal) → IsBehind kind.OpenBracket r → IsBehind kind.Group r
+-- what stands after the number of a table
+table_passes : (x : WrittenTables) (t : WrittenTable) (r : List Terminal) → IsAfter kind.OpenBracket r → IsAfter kind.Group r
     → finish (read_all ((flat_map spell_group t.groups ++ flat_map spell_row t.rows) ++ r) (reading stage.Groups x (opened_table t.switch)))
     ≡ finish (read_all r (reading stage.Rows x t))
 table_passes x t r b g =
     ap (λ l. finish (read_all l (reading stage.Groups x (opened_table t.switch)))) (append_assoc (flat_map spell_group t.groups) (flat_map spell_row t.rows) r)
-    ∙ groups_pass x (opened_table t.switch) t.groups (flat_map spell_row t.rows ++ r) (rows_behind kind.OpenBracket refl t.rows r b)
-    ∙ rows_follow x (with_groups (opened_table t.switch) t.groups) (flat_map spell_row t.rows ++ r) (rows_behind kind.Group refl t.rows r g)
+    ∙ groups_pass x (opened_table t.switch) t.groups (flat_map spell_row t.rows ++ r) (rows_following kind.OpenBracket refl t.rows r b)
+    ∙ rows_follow x (with_groups (opened_table t.switch) t.groups) (flat_map spell_row t.rows ++ r) (rows_following kind.Group refl t.rows r g)
     ∙ ap finish (rows_pass x (with_groups (opened_table t.switch) t.groups) t.rows r)
 
 -- more tables
@@ -229,7 +229,7 @@ tables_pass : (x : WrittenTables) (c : WrittenTable) (ts : List WrittenTable)
     → finish (read_all (flat_map spell_table ts) (reading stage.Rows x c)) ≡ Some (with_tables x (c ∷ ts))
 tables_pass x c [] = refl
 tables_pass x c (t ∷ ts) =
-    table_passes (with_table x c) t (flat_map spell_table ts) (tables_behind kind.OpenBracket refl ts) (tables_behind kind.Group refl ts)
+    table_passes (with_table x c) t (flat_map spell_table ts) (tables_following kind.OpenBracket refl ts) (tables_following kind.Group refl ts)
     ∙ tables_pass (with_table x c) t ts
     ∙ ap (λ l. Some (record x { tables = l })) (append_assoc x.tables (c ∷ []) (t ∷ ts))
 
@@ -238,11 +238,11 @@ all_tables_pass : (x : WrittenTables) (c : WrittenTable) (ts : List WrittenTable
     → finish (read_all (flat_map spell_table ts) (reading stage.Between x c)) ≡ Some (with_tables x ts)
 all_tables_pass x c [] = ap (λ l. Some (record x { tables = l })) (sym (append-nil x.tables))
 all_tables_pass x c (t ∷ ts) =
-    table_passes x t (flat_map spell_table ts) (tables_behind kind.OpenBracket refl ts) (tables_behind kind.Group refl ts)
+    table_passes x t (flat_map spell_table ts) (tables_following kind.OpenBracket refl ts) (tables_following kind.Group refl ts)
     ∙ tables_pass x t ts
 
 -- the tokens of a text give what is written
 pub text_passes : (x : WrittenTables) → option_and_then written_at_end (read_all (spell_text x) first_reading) ≡ Some x
 text_passes x =
-    declarations_pass (opened x.version) no_table x.declarations (flat_map spell_table x.tables) (tables_behind kind.Comma refl x.tables)
+    declarations_pass (opened x.version) no_table x.declarations (flat_map spell_table x.tables) (tables_following kind.Comma refl x.tables)
     ∙ all_tables_pass (with_declarations (opened x.version) x.declarations) no_table x.tables

@@ -4,8 +4,8 @@ use Rattle.std.specs.Prelude.{Some, None, option_and_then, if◌then◌else◌}
 use Rattle.std.specs.List.{flat_map}
 use Rattle.nk_lex.specs.declared.kind.Kind.{Kind}
 use Rattle.nk_lex.specs.declared.kind.Kind.TheVariants as kind
-use Rattle.nk_lex.specs.declared.word.Word.{Word}
-use Rattle.nk_lex.specs.declared.word.Number.{Number}
+use Rattle.nk_lex.specs.declared.ident.Ident.{Ident}
+use Rattle.nk_lex.specs.declared.ident.Number.{Number}
 use Rattle.nk_tabgrammar.specs.declared.written.Pair.{Pair}
 use Rattle.nk_tabgrammar.specs.declared.written.Declaration.{Declaration}
 use Rattle.nk_tabgrammar.specs.declared.written.Declaration.TheVariants as declared
@@ -148,7 +148,7 @@ flat_more : {X : Type 0} (f : X → List Terminal) (xs : List X) (x : X) → fla
 flat_more f [] x = append-nil (f x)
 flat_more f (y ∷ ys) x = ap (λ l. f y ++ l) (flat_more f ys x) ∙ sym (append_assoc (f y) (flat_map f ys) (f x))
 
--- a declaration, behind a text without tables
+-- a declaration, after a text without tables
 pub declaration_pushed : (x : WrittenTables) (d : Declaration) → x.tables ≡ []
     → spell_text x ++ spell_declaration d ≡ spell_text (with_declaration x d)
 declaration_pushed x d none =
@@ -198,7 +198,7 @@ module _ {A : Type 0} (g : A → Option Reading) (t : Terminal) (us : List Termi
       by (number n) l = e n
       by (mark k) l = l
 
-  via_name : (other : A) (f : Word → A) → ((w : Word) → Leads (g (f w)) (us ++ name w ∷ []))
+  via_name : (other : A) (f : Ident → A) → ((w : Ident) → Leads (g (f w)) (us ++ name w ∷ []))
       → Leads (g other) (us ++ t ∷ []) → Leads (g (with_name t other f)) (us ++ t ∷ [])
   via_name other f e l = by t l
     where
@@ -245,15 +245,15 @@ match_begins x c p ms t =
     via_name same t (within x c ++ spell_matches p ms) _ _ (λ w. (refl, tt))
     (via_mark same t (within x c ++ spell_matches p ms) kind.Arrow _ _ (refl, tt) tt)
 
--- matches and one more, with what stands behind them
-match_pushed : (a : List Terminal) (p : Number) (ms : List WrittenMatch) (w : Word) (n : Number) (l : Option Number) (us : List Terminal)
+-- matches and one more, with what stands after them
+match_pushed : (a : List Terminal) (p : Number) (ms : List WrittenMatch) (w : Ident) (n : Number) (l : Option Number) (us : List Terminal)
     → (a ++ spell_matches p (with_match ms w n l)) ++ us ≡ (a ++ spell_matches p ms) ++ (spell_match (match_of w n l) ++ us)
 match_pushed a p ms w n l us =
     ap (λ z. (a ++ mark kind.Row ∷ number p ∷ mark kind.Colon ∷ z) ++ us) (flat_more spell_match ms (match_of w n l))
     ∙ ap (λ z. z ++ us) (sym (append_assoc a (spell_matches p ms) (spell_match (match_of w n l))))
     ∙ append_assoc (a ++ spell_matches p ms) (spell_match (match_of w n l)) us
 
--- tokens behind others behind others
+-- tokens after others after others
 regroup : (xs ys zs us : List Terminal) → (xs ++ (ys ++ zs)) ++ us ≡ xs ++ (ys ++ (zs ++ us))
 regroup xs ys zs us = append_assoc xs (ys ++ zs) us ∙ ap (λ l. xs ++ l) (append_assoc ys zs us)
 

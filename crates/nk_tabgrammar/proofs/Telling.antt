@@ -5,7 +5,7 @@ use Rattle.std.specs.List.{flat_map}
 use Rattle.nk_lex.specs.declared.kind.Kind.{Kind}
 use Rattle.nk_lex.specs.declared.kind.Kind.TheVariants as kind
 use Rattle.nk_lex.specs.declared.token.Token.{Token}
-use Rattle.nk_lex.specs.declared.word.Number.{Number}
+use Rattle.nk_lex.specs.declared.ident.Number.{Number}
 use Rattle.nk_tabgrammar.specs.declared.written.Pair.{Pair}
 use Rattle.nk_tabgrammar.specs.declared.written.Declaration.{Declaration}
 use Rattle.nk_tabgrammar.specs.declared.written.Declaration.TheVariants as declared
@@ -30,7 +30,7 @@ use Rattle.nk_tabgrammar.specs.declared.states.Tells.TheVariants as tells
 use Rattle.nk_tabgrammar.specs.Terminal.{Terminal, name, number, mark, terminal_of}
 use Rattle.nk_tabgrammar.specs.Spelling.{spell_port, spell_declaration, spell_length, spell_match, spell_set, spell_bucket, spell_target, spell_row, spell_group, spell_table, spell_text, way_token}
 use Rattle.nk_tabgrammar.specs.Machine.{Reading, read_all, read_one, first_reading, written_at_end}
-use Rattle.nk_tabgrammar.specs.Answer.{terminals, IsAnswer}
+use Rattle.nk_tabgrammar.specs.Answer.{terminals, IsTableParse}
 use Rattle.nk_tabgrammar.specs.States.{MaybeStep, after_token, after_in, at_end, state_of_stage}
 use Rattle.nk_tabgrammar.specs.Telling.{Telling, told_alone, told_by_number, told_by, told_bucket, told_declaration, told_group, told_length, told_match, told_row, told_set, told_table, told_target, told_text, told_way, worded, tellings_from, tellings_of}
 use Rattle.nk_tabgrammar.proofs.Answering.{answers, rest_reads}
@@ -64,9 +64,9 @@ same_tellings (t ∷ ts) s = by_step (after_token s t.kind) (λ r. same_tellings
     by_step None go = refl
     by_step (Some p) go = ap (option_map (λ l. told_by p.1 (worded (terminal_of t)) ++ l)) (go p.0)
 
--- ---- tokens behind others
+-- ---- tokens after others
 
--- these tokens tell this on the way from a state to another, whatever stands behind them
+-- these tokens tell this on the way from a state to another, whatever stands after them
 record Leads (us : List Terminal) (l : List Telling) (s r : State) : Type 0 where
   pub go : (vs : List Terminal) → tell_from (us ++ vs) s ≡ option_map (λ m. l ++ m) (tell_from vs r)
 
@@ -92,8 +92,8 @@ next t {s} r e {q} {us} {l} h more = record {
 }
 
 -- some, then others
-behind : {us vs : List Terminal} {k l : List Telling} {s r q : State} → Leads us k s r → Leads vs l r q → Leads (us ++ vs) (k ++ l) s q
-behind {us} {vs} {k} {l} {s} {r} {q} a b = record {
+following : {us vs : List Terminal} {k l : List Telling} {s r q : State} → Leads us k s r → Leads vs l r q → Leads (us ++ vs) (k ++ l) s q
+following {us} {vs} {k} {l} {s} {r} {q} a b = record {
   go = λ ws.
       ap (λ ts. tell_from ts s) (append_assoc us vs ws) ∙ a.go (vs ++ ws) ∙ ap (option_map (λ m. k ++ m)) (b.go ws)
       ∙ joined k l (tell_from ws q);
@@ -103,7 +103,7 @@ behind {us} {vs} {k} {l} {s} {r} {q} a b = record {
 each : {X : Type 0} (f : X → List Terminal) (g : X → List Telling) (s : State) → ((x : X) → Leads (f x) (g x) s s)
     → (xs : List X) → Leads (flat_map f xs) (flat_map g xs) s s
 each f g s one [] = nothing s
-each f g s one (x ∷ xs) = behind (one x) (each f g s one xs)
+each f g s one (x ∷ xs) = following (one x) (each f g s one xs)
 
 -- ---- buckets
 
@@ -129,7 +129,7 @@ module _ (at : BucketState → State) (whole : State) (ends : Tells)
       → (b : WrittenBucket) → Leads (spell_bucket b) (told_bucket ends b) s whole
   bucket_tells s h b =
       next (mark kind.OpenBracket) (at bucket.Sets) tells.Nothing h
-      (behind (each spell_set told_set (at bucket.Sets) set_tells b.sets)
+      (following (each spell_set told_set (at bucket.Sets) set_tells b.sets)
       (next (mark kind.Out) (at bucket.Out) tells.Nothing (is bucket.Sets kind.Out) (way_tells b.way)))
 
 -- ---- rows
@@ -179,7 +179,7 @@ group_tells g =
     next (mark kind.Group) state.Group tells.Nothing refl
     (next (number g.number) state.GroupNumbered tells.Group refl
     (next (mark kind.Equal) state.FirstBucket tells.Nothing refl
-    (behind (in_group state.FirstBucket refl g.first)
+    (following (in_group state.FirstBucket refl g.first)
     (each spell_bucket (told_bucket tells.GroupBucket) state.BucketRead (in_group state.BucketRead refl) g.more))))
   where
     in_group : (s : State) → after_token s kind.OpenBracket ≡ Some (state.InGroup bucket.Sets, tells.Nothing)
@@ -193,7 +193,7 @@ ended : (e : Telling) (o : Option (List Telling)) → option_map (λ l. (e ∷ [
 ended e None = refl
 ended e (Some l) = refl
 
--- lists behind an end
+-- lists after an end
 regroup : (a : List Telling) (e : Telling) (c d : List Telling) → a ++ e ∷ (c ++ d) ≡ ((a ++ e ∷ []) ++ c) ++ d
 regroup a e c d = sym (append_assoc (a ++ e ∷ []) c d ∙ append_assoc a (e ∷ []) (c ++ d))
 
@@ -326,7 +326,7 @@ text_tells x =
 spelled_tells : (ts : List Token) (x : WrittenTables) → terminals ts ≡ spell_text x → tellings_of ts ≡ Some (told_text x)
 spelled_tells ts x h = same_tellings ts state.Start ∙ ap (λ us. tell_from us state.Start) h ∙ text_tells x
 
--- what is told behind something is told
+-- what is told after something is told
 map_some : {A B : Type 0} (f : A → B) (o : Option A) (b : B) → option_map f o ≡ Some b → (a : A) × (o ≡ Some a)
 map_some f None b e = absurd (none_some b e)
 map_some f (Some a) b e = (a, refl)
@@ -365,5 +365,5 @@ tells_texts ts l = (there, λ w. spelled_tells ts w.0 w.1 ∙ ap Some (sym w.2))
     there : tellings_of ts ≡ Some l → (x : WrittenTables) × (terminals ts ≡ spell_text x) × (l ≡ told_text x)
     there e =
         let read = accepts ts first_reading state.Start refl l e in
-        let h : terminals ts ≡ spell_text read.0 = subst (IsAnswer ts) (rest_reads ts first_reading 1 read.0 read.1) (answers ts) in
+        let h : terminals ts ≡ spell_text read.0 = subst (IsTableParse ts) (rest_reads ts first_reading 1 read.0 read.1) (answers ts) in
         (read.0, h, some_same l (told_text read.0) (sym e ∙ spelled_tells ts read.0 h))

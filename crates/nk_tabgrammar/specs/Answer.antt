@@ -31,14 +31,14 @@ pub record IsUnexpectedEnd (ts : List Token) (line : ℕ) : Type 0 where
   pub no_text : (x : WrittenTables) → terminals ts ≡ spell_text x → ⊥
 
 -- what is written, or the first fault
-abbrev pub IsAnswer : List Token → Result WrittenTables ReadError → Type 0
-IsAnswer ts (Ok x) = terminals ts ≡ spell_text x
-IsAnswer ts (Err (error.Unexpected line)) = IsUnexpectedToken ts line ⊎ IsUnexpectedEnd ts line
-IsAnswer ts (Err e) = ⊥
+abbrev pub IsTableParse : List Token → Result WrittenTables ReadError → Type 0
+IsTableParse ts (Ok x) = terminals ts ≡ spell_text x
+IsTableParse ts (Err (error.Unexpected line)) = IsUnexpectedToken ts line ⊎ IsUnexpectedEnd ts line
+IsTableParse ts (Err e) = ⊥
 
 -- what reading answers is that
 abbrev pub AnswersTableTexts : Type 0
-AnswersTableTexts = (ts : List Token) → IsAnswer ts (written_of ts)
+AnswersTableTexts = (ts : List Token) → IsTableParse ts (written_of ts)
 
 -- tokens that spell what is written are read as it
 abbrev pub ReadsTableTexts : Type 0

@@ -3,8 +3,8 @@ use Rattle.std.specs.Prelude.{◌≡◌, ℕ, List, [], ◌∷◌, ◌++◌, Opt
 use Rattle.std.specs.declared.result.Result.{Result}
 use Rattle.nk_lex.specs.declared.kind.Kind.TheVariants as kind
 use Rattle.nk_lex.specs.declared.token.Token.{Token}
-use Rattle.nk_lex.specs.declared.word.Word.{Word}
-use Rattle.nk_lex.specs.declared.word.Number.{Number}
+use Rattle.nk_lex.specs.declared.ident.Ident.{Ident}
+use Rattle.nk_lex.specs.declared.ident.Number.{Number}
 use Rattle.nk_lex.specs.Faults.{and_then}
 use Rattle.nk_tabgrammar.specs.declared.written.Declaration.{Declaration}
 use Rattle.nk_tabgrammar.specs.declared.written.Declaration.TheVariants as declared
@@ -78,11 +78,11 @@ abbrev pub with_row : WrittenTable → WrittenRow → WrittenTable
 with_row t r = record t { rows = t.rows ++ r ∷ [] }
 
 -- a match by its parts
-abbrev pub match_of : Word → Number → Option Number → WrittenMatch
+abbrev pub match_of : Ident → Number → Option Number → WrittenMatch
 match_of w n l = record { name = w; number = n; length = l }
 
 -- matches and one more
-abbrev pub with_match : List WrittenMatch → Word → Number → Option Number → List WrittenMatch
+abbrev pub with_match : List WrittenMatch → Ident → Number → Option Number → List WrittenMatch
 with_match ms w n l = ms ++ match_of w n l ∷ []
 
 -- a row by its parts
@@ -250,11 +250,11 @@ abbrev pub written_of : List Token → Result WrittenTables ReadError
 written_of ts = rest_of_text ts first_reading 1
 
 -- want of memory says nothing, any other fault is the one that is wanted
-abbrev pub Fails : {Y : Type 0} → ReadError → Result Y ReadError → Type 0
-Fails error.NoMemory wanted = ⊤
-Fails e wanted = wanted ≡ Err e
+abbrev pub TableParseFails : {Y : Type 0} → ReadError → Result Y ReadError → Type 0
+TableParseFails error.NoMemory wanted = ⊤
+TableParseFails e wanted = wanted ≡ Err e
 
 -- what was answered is what is wanted, unless memory ran out
-abbrev pub Returns : {X Y : Type 0} → (X → Y) → Result X ReadError → Result Y ReadError → Type 0
-Returns view (Ok x) wanted = wanted ≡ Ok (view x)
-Returns view (Err e) wanted = Fails e wanted
+abbrev pub TableParseReturns : {X Y : Type 0} → (X → Y) → Result X ReadError → Result Y ReadError → Type 0
+TableParseReturns view (Ok x) wanted = wanted ≡ Ok (view x)
+TableParseReturns view (Err e) wanted = TableParseFails e wanted

@@ -28,7 +28,7 @@ use Rattle.nk_lex.specs.declared.token.Token.{Token}
 use Rattle.nk_tabgrammar.specs.Terminal.{kind_place, terminal_of}
 use Rattle.nk_tabgrammar.specs.Machine.{Reading, read_one, written_at_end}
 
--- what may come behind a token, and what the token tells; none where no text goes on with it
+-- what may come after a token, and what the token tells; none where no text goes on with it
 abbrev pub MaybeStep : Type 0
 MaybeStep = Option (State × Tells)
 

@@ -3,8 +3,8 @@
 use Rattle.std.specs.Prelude.{◌≡◌, ◌↔◌, List, [], ◌∷◌, ◌++◌, map, Option, Some, None, option_map, option_and_then}
 use Rattle.std.specs.List.{flat_map}
 use Rattle.nk_lex.specs.declared.token.Token.{Token}
-use Rattle.nk_lex.specs.declared.word.Word.{Word}
-use Rattle.nk_lex.specs.declared.word.Number.{Number}
+use Rattle.nk_lex.specs.declared.ident.Ident.{Ident}
+use Rattle.nk_lex.specs.declared.ident.Number.{Number}
 use Rattle.nk_tabgrammar.specs.declared.written.Pair.{Pair}
 use Rattle.nk_tabgrammar.specs.declared.written.Declaration.{Declaration}
 use Rattle.nk_tabgrammar.specs.declared.written.Declaration.TheVariants as declared
@@ -31,7 +31,7 @@ use Rattle.nk_tabgrammar.specs.States.{after_token, at_end}
 abbrev pub Telling : Type 0
 Telling = Tells × Option Terminal
 
-abbrev pub told_by_name : Tells → Word → Telling
+abbrev pub told_by_name : Tells → Ident → Telling
 told_by_name e w = (e, Some (name w))
 
 abbrev pub told_by_number : Tells → Number → Telling
@@ -99,7 +99,7 @@ abbrev pub told_by : Tells → Option Terminal → List Telling
 told_by tells.Nothing t = []
 told_by e t = (e, t) ∷ []
 
--- what these tokens and the end behind them tell from a state on; none where no text goes on or ends so
+-- what these tokens and the end after them tell from a state on; none where no text goes on or ends so
 abbrev pub tellings_from : List Token → State → Option (List Telling)
 tellings_from [] s = option_map (λ e. told_by e None) (at_end s)
 tellings_from (t ∷ ts) s =

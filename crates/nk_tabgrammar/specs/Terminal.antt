@@ -3,11 +3,11 @@ use Rattle.std.specs.Prelude.{ℕ, ◌==◌, List, Bool, false, Option, Some, No
 use Rattle.nk_lex.specs.declared.kind.Kind.{Kind}
 use Rattle.nk_lex.specs.declared.kind.Kind.TheVariants as kind
 use Rattle.nk_lex.specs.declared.token.Token.{Token}
-use Rattle.nk_lex.specs.declared.word.Word.{Word}
-use Rattle.nk_lex.specs.declared.word.Number.{Number}
+use Rattle.nk_lex.specs.declared.ident.Ident.{Ident}
+use Rattle.nk_lex.specs.declared.ident.Number.{Number}
 
 pub data Terminal : Type 0 where
-  name : Word → Terminal
+  name : Ident → Terminal
   number : Number → Terminal
   mark : Kind → Terminal
 
@@ -69,7 +69,7 @@ is_mark k (name w) = false
 is_mark k (number n) = false
 
 -- the name that a token is, if it is one
-abbrev pub name_in : Terminal → Option Word
+abbrev pub name_in : Terminal → Option Ident
 name_in (name w) = Some w
 name_in (number n) = None
 name_in (mark k) = None
@@ -86,7 +86,7 @@ in_case (Some x) other f = f x
 in_case None other f = other
 
 -- a name may come
-abbrev pub with_name : {A : Type 0} → Terminal → A → (Word → A) → A
+abbrev pub with_name : {A : Type 0} → Terminal → A → (Ident → A) → A
 with_name t other f = in_case (name_in t) other f
 
 -- a number may come

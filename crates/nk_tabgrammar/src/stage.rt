@@ -3,7 +3,7 @@
 //! Types of the specifications (`next_reading`, `FollowStages`): programs go by `State`, which keeps nothing.
 use crate::written::{Pair, Way, WrittenBucket, WrittenGroup, WrittenMatch};
 use nk_field::List;
-use nk_lex::{Number, Word};
+use nk_lex::{Ident, Number};
 
 /// How much of `NUMBER : NUMBER -> NUMBER : NUMBER` stands there.
 #[derive(Clone, Copy)]
@@ -39,13 +39,13 @@ pub enum QuadNext {
 pub enum Place {
     /// The assignments so far.
     Sets(List<Pair>),
-    /// A name behind them.
-    Named(List<Pair>, Word),
-    /// A name and `:=` behind them.
-    Assigned(List<Pair>, Word),
-    /// The word `out` behind them.
+    /// A name after them.
+    Named(List<Pair>, Ident),
+    /// A name and `:=` after them.
+    Assigned(List<Pair>, Ident),
+    /// The word `out` after them.
     Out(List<Pair>),
-    /// The exit behind them.
+    /// The exit after them.
     Left(List<Pair>, Way),
 }
 
@@ -96,7 +96,7 @@ pub enum Owner {
 #[derive(Drop)]
 pub enum Declaring {
     Field,
-    FieldNamed(Word),
+    FieldNamed(Ident),
     Tag,
     Switch,
     SwitchNumbered(Number),
@@ -126,12 +126,12 @@ pub enum InRow {
     RowNumbered(Number),
     /// The matches so far.
     Matches(Number, List<WrittenMatch>),
-    MatchNamed(Number, List<WrittenMatch>, Word),
-    MatchTested(Number, List<WrittenMatch>, Word),
-    /// A name and a value behind the matches; a `/`, another match or the arrow may follow.
-    MatchValued(Number, List<WrittenMatch>, Word, Number),
-    /// A name, a value and a `/` behind the matches.
-    MatchSlashed(Number, List<WrittenMatch>, Word, Number),
+    MatchNamed(Number, List<WrittenMatch>, Ident),
+    MatchTested(Number, List<WrittenMatch>, Ident),
+    /// A name and a value after the matches; a `/`, another match or the arrow may follow.
+    MatchValued(Number, List<WrittenMatch>, Ident, Number),
+    /// A name, a value and a `/` after the matches.
+    MatchSlashed(Number, List<WrittenMatch>, Ident, Number),
     /// The target is wanted.
     Target(Number, List<WrittenMatch>),
     /// The word `group` as a target.

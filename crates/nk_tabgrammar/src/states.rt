@@ -30,13 +30,13 @@ pub enum LinkState {
 pub enum BucketState {
     /// Whole assignments.
     Sets,
-    /// A name behind them.
+    /// A name after them.
     Named,
-    /// A name and `:=` behind them.
+    /// A name and `:=` after them.
     Assigned,
-    /// The word `out` behind them.
+    /// The word `out` after them.
     Out,
-    /// The exit behind them.
+    /// The exit after them.
     Left,
 }
 
@@ -49,13 +49,13 @@ pub enum RowState {
     Numbered,
     /// Whole matches.
     Matches,
-    /// A name behind them.
+    /// A name after them.
     Named,
-    /// A name and `=` behind them.
+    /// A name and `=` after them.
     Tested,
-    /// A name and a value behind them; a `/`, another match or the arrow may follow.
+    /// A name and a value after them; a `/`, another match or the arrow may follow.
     Valued,
-    /// A name, a value and a `/` behind them.
+    /// A name, a value and a `/` after them.
     Slashed,
     /// The arrow.
     Target,
@@ -117,7 +117,7 @@ pub enum State {
 pub enum Tells {
     /// Nothing but what may come next.
     Nothing,
-    /// The number behind the word `tables`.
+    /// The number after the word `tables`.
     Version,
     /// The name of a field.
     FieldName,
@@ -171,7 +171,7 @@ pub enum Tells {
     RowDrop,
 }
 
-/// What may come behind a token, and what the token tells.
+/// What may come after a token, and what the token tells.
 type Step = (State, Tells);
 
 /// A token that tells nothing.
@@ -355,7 +355,7 @@ impl State {
     /// Before the first token.
     pub const FIRST: State = State::Start;
 
-    /// What may come behind a token of this kind, and what the token tells; none where no text goes on with it.
+    /// What may come after a token of this kind, and what the token tells; none where no text goes on with it.
     pub fn after(self, kind: Kind) -> Option<Step>
         ensures { result ≡ after_token self kind }
     {
@@ -379,7 +379,7 @@ impl State {
         }
     }
 
-    /// What the end of the text tells behind what stands there; none where no text ends there.
+    /// What the end of the text tells after what stands there; none where no text ends there.
     pub fn at_end(self) -> Option<Tells>
         ensures { result ≡ at_end self }
     {

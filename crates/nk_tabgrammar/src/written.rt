@@ -6,7 +6,7 @@ ghost use Rattle.std.specs.Prelude.{◌≡◌};
 ghost use Rattle.nk_tabgrammar.specs.declared.written.ReadError.TheVariants.{NoMemory};
 
 use nk_field::List;
-use nk_lex::{Number, Word};
+use nk_lex::{Ident, Number};
 use std::alloc::AllocError;
 use thiserror::Error;
 
@@ -14,9 +14,9 @@ use thiserror::Error;
 #[derive(Drop)]
 pub enum Declaration {
     /// `field NAME NUMBER`: the field's name and its largest value.
-    Field(Word, Number),
+    Field(Ident, Number),
     /// `tag NAME`.
-    Tag(Word),
+    Tag(Ident),
     /// `switch NUMBER ports NUMBER, ..`: the switch, its first port and the others.
     Switch(Number, Number, List<Number>),
     /// `link NUMBER:NUMBER -> NUMBER:NUMBER`: switch and port of the source, then of the target.
@@ -27,7 +27,7 @@ pub enum Declaration {
 #[derive(Drop)]
 pub struct Pair {
     /// The field's name.
-    pub name: Word,
+    pub name: Ident,
     /// The value.
     pub number: Number,
 }
@@ -36,7 +36,7 @@ pub struct Pair {
 #[derive(Drop)]
 pub struct WrittenMatch {
     /// The field's name.
-    pub name: Word,
+    pub name: Ident,
     /// The value.
     pub number: Number,
     /// How many of its first digits count; all of the field's where none is written.
@@ -108,7 +108,7 @@ pub struct WrittenTable {
 /// `tables NUMBER`, then declarations, then tables.
 #[derive(Drop)]
 pub struct WrittenTables {
-    /// The number behind the word `tables`.
+    /// The number after the word `tables`.
     pub version: Number,
     /// The declarations.
     pub declarations: List<Declaration>,

@@ -51,7 +51,7 @@ all_joined test (x ∷ xs) ys = by (test x) (all_joined test xs ys)
     by true e = e
     by false e = refl
 
--- one row more behind the others
+-- one row more after the others
 above_with : (priority : ℕ) (before xs : List Row) (r : Row) →
     is_above_all priority (before ++ (xs ++ r ∷ [])) ≡ (is_above_all priority (before ++ xs) && nat_lt r.priority priority)
 above_with priority before xs r =

@@ -4,7 +4,7 @@ use Rattle.std.specs.Prelude.{Ok, ◌==◌, if◌then◌else◌, option_map}
 use Rattle.nk_lex.specs.declared.kind.Kind.{Kind}
 use Rattle.nk_lex.specs.declared.kind.Kind.TheVariants as kind
 use Rattle.nk_lex.specs.declared.token.Token.{Token}
-use Rattle.nk_lex.specs.declared.word.Word.{Word}
+use Rattle.nk_lex.specs.declared.ident.Ident.{Ident}
 use Rattle.nk_field.specs.Act.{act_then}
 use Rattle.nk_table.specs.declared.Bucket.{Bucket}
 use Rattle.nk_table.specs.declared.Exit.{Exit}
@@ -40,7 +40,7 @@ use Rattle.nk_tabtext.proofs.Fitting.{Fits, IsField, Owns, Rows, gives_filling, 
 use Rattle.nk_tabtext.proofs.Going.{Both, Follows, both_through, by_token, none_through}
 use Rattle.nk_tabtext.proofs.TableSteps.{checked_ok, opens_still, owns_sets, owns_still, rows_same}
 
--- where a bucket's owner goes on behind it, and what its bracket tells
+-- where a bucket's owner goes on after it, and what its bracket tells
 abbrev whole_of : Owner → State
 whole_of (owner.First n) = state.BucketRead
 whole_of (owner.Next g) = state.BucketRead
@@ -59,7 +59,7 @@ is_after (owner.First n) at l = refl
 is_after (owner.Next g) at l = refl
 is_after (owner.Row q ms) at l = refl
 
--- the state behind a part of the bucket
+-- the state after a part of the bucket
 abbrev at_part : Owner → BucketState × Tells → State × Tells
 at_part o p = (in_bucket o p.0, p.1)
 
@@ -97,7 +97,7 @@ step_sets x c o ps k t h =
     (Some (bucket.Out, tells.Nothing)) None
     (refl, (h.0, gives_still (assigned_so x c o ps) (λ v p. Owns x c o v.sets v p) (λ v p. Owns x c o v.sets v p) k t (λ v p d. d) h.1)) tt))
 
-step_named : (x : WrittenTables) (c : WrittenTable) (o : Owner) (ps : List Pair) (w : Word) (k : KnownValue) (t : Token) → Fits (stage.InBucket o (place.Named ps w)) x c k
+step_named : (x : WrittenTables) (c : WrittenTable) (o : Owner) (ps : List Pair) (w : Ident) (k : KnownValue) (t : Token) → Fits (stage.InBucket o (place.Named ps w)) x c k
     → Both (Follows k t) (next_reading (stage.InBucket o (place.Named ps w)) x c (terminal_of t)) (after_bucket o bucket.Named t.kind)
 step_named x c o ps w k t h =
     by_token (Follows k t) (next_reading (stage.InBucket o (place.Named ps w)) x c) (after_bucket o bucket.Named) t tt tt
@@ -105,7 +105,7 @@ step_named x c o ps w k t h =
     (Some (bucket.Assigned, tells.Nothing)) None
     (refl, (h.0, gives_still (named_so x c o ps w) (λ v p. Owns x c o v.sets v p × IsField w v p) (λ v p. Owns x c o v.sets v p × IsField w v p) k t (λ v p d. d) h.1)) tt)
 
-step_assigned : (x : WrittenTables) (c : WrittenTable) (o : Owner) (ps : List Pair) (w : Word) (k : KnownValue) (t : Token) → Fits (stage.InBucket o (place.Assigned ps w)) x c k
+step_assigned : (x : WrittenTables) (c : WrittenTable) (o : Owner) (ps : List Pair) (w : Ident) (k : KnownValue) (t : Token) → Fits (stage.InBucket o (place.Assigned ps w)) x c k
     → Both (Follows k t) (next_reading (stage.InBucket o (place.Assigned ps w)) x c (terminal_of t)) (after_bucket o bucket.Assigned t.kind)
 step_assigned x c o ps w k t h =
     by_token (Follows k t) (next_reading (stage.InBucket o (place.Assigned ps w)) x c) (after_bucket o bucket.Assigned) t tt (

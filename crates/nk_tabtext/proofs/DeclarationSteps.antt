@@ -5,8 +5,8 @@ use Rattle.std.specs.declared.result.Result.{Result}
 use Rattle.nk_lex.specs.declared.kind.Kind.{Kind}
 use Rattle.nk_lex.specs.declared.kind.Kind.TheVariants as kind
 use Rattle.nk_lex.specs.declared.token.Token.{Token}
-use Rattle.nk_lex.specs.declared.word.Word.{Word}
-use Rattle.nk_lex.specs.declared.word.Number.{Number}
+use Rattle.nk_lex.specs.declared.ident.Ident.{Ident}
+use Rattle.nk_lex.specs.declared.ident.Number.{Number}
 use Rattle.nk_lex.specs.Faults.{and_then, first_of, unless}
 use Rattle.nk_topo.specs.Topology.{Topology, is_switch, with_switch}
 use Rattle.nk_declare.proofs.Checks.{none_both}
@@ -179,7 +179,7 @@ step_field x c k t h =
     )
     tt (λ l m. none_if (Follows k t) _ _ m.named)
 
-pub step_named : (x : WrittenTables) (c : WrittenTable) (w : Word) (k : KnownValue) (t : Token) → Fits (stage.Declared (declaring.FieldNamed w)) x c k
+pub step_named : (x : WrittenTables) (c : WrittenTable) (w : Ident) (k : KnownValue) (t : Token) → Fits (stage.Declared (declaring.FieldNamed w)) x c k
     → Both (Follows k t) (next_reading (stage.Declared (declaring.FieldNamed w)) x c (terminal_of t)) (after_token state.FieldNamed t.kind)
 step_named x c w k t h =
     by_token (Follows k t) (next_reading (stage.Declared (declaring.FieldNamed w)) x c) (after_token state.FieldNamed) t tt (

@@ -3,8 +3,8 @@ use Rattle.std.proofs.Common.{◌≡◌, ℕ, List, [], ◌∷◌, false, refl, 
 use Rattle.std.specs.Prelude.{Ok, Err}
 use Rattle.std.specs.declared.result.Result.{Result}
 use Rattle.nk_lex.specs.declared.token.Token.{Token}
-use Rattle.nk_lex.specs.declared.word.Word.{Word}
-use Rattle.nk_lex.specs.declared.word.Number.{Number}
+use Rattle.nk_lex.specs.declared.ident.Ident.{Ident}
+use Rattle.nk_lex.specs.declared.ident.Number.{Number}
 use Rattle.nk_lex.specs.Faults.{and_then}
 use Rattle.nk_table.specs.declared.Bucket.{Bucket}
 use Rattle.nk_table.specs.declared.Row.{Row}
@@ -188,7 +188,7 @@ NoRows (owner.Next g) c = c.rows ≡ []
 NoRows (owner.Row q ms) c = Unit {0}
 
 -- the field is told
-abbrev pub IsField : Word → Sofar → PartialValue → Type 0
+abbrev pub IsField : Ident → Sofar → PartialValue → Type 0
 IsField w v p = (p.filling.field ≡ place_of_field v.said.fields w) × (p.filling.max ≡ most_in v.said.fields w)
 
 abbrev pub ports_so : WrittenTables → Number → List Number → Value
@@ -221,7 +221,7 @@ FitsBucket o (place.Assigned ps w) x c k = Gives (named_so x c o ps w) (λ v p. 
 FitsBucket o (place.Out ps) x c k = Gives (assigned_so x c o ps) (λ v p. Owns x c o v.sets v p) k
 FitsBucket o (place.Left ps e) x c k = Gives (left_so x c o ps e) (λ v p. Owns x c o v.sets v p × (p.filling.exit ≡ v.out)) k
 
-abbrev pub Tested : WrittenTables → WrittenTable → Number → Word → Number → Sofar → PartialValue → Type 0
+abbrev pub Tested : WrittenTables → WrittenTable → Number → Ident → Number → Sofar → PartialValue → Type 0
 Tested x c q w n v p = Matches x c q v p × IsField w v p × (p.filling.value ≡ n)
 
 abbrev pub FitsRow : InRow → WrittenTables → WrittenTable → KnownValue → Type 0

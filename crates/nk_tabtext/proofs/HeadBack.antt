@@ -12,7 +12,7 @@ use Rattle.nk_lex.specs.Spelling.{IsName}
 use Rattle.nk_lex.specs.Faults.{and_then, first_of, unless}
 use Rattle.nk_field.specs.Packet.{FieldTable, IsFieldTable, field_named}
 use Rattle.nk_topo.specs.Topology.{Topology, SwitchPorts, Link, placed, starts_below, target_among, is_port}
-use Rattle.nk_topo.proofs.Members.{In, InOrder, placed_behind}
+use Rattle.nk_topo.proofs.Members.{In, InOrder, placed_after}
 use Rattle.nk_topo.proofs.Orders.{passes_for_none}
 use Rattle.nk_tabtext.specs.Text.{name_of}
 use Rattle.nk_tabgrammar.specs.declared.written.Declaration.TheVariants as declared
@@ -202,7 +202,7 @@ none_from (k ∷ ls) sw pt all =
 link_last : (l : Link) (ls : List Link) → ((k : Link) → In ls k → Below k l) → placed (starts_below l.from_switch l.from_port) l ls ≡ ls ++ l ∷ []
 link_last l [] all = refl
 link_last l (k ∷ ls) all =
-    placed_behind (starts_below l.from_switch l.from_port) l k ls (all k (inl refl)) ∙ ap (λ x. k ∷ x) (link_last l ls (λ m i. all m (inr i)))
+    placed_after (starts_below l.from_switch l.from_port) l k ls (all k (inl refl)) ∙ ap (λ x. k ∷ x) (link_last l ls (λ m i. all m (inr i)))
 
 not_below_itself : (l : Link) → Below l l → ⊥
 not_below_itself l h = grind (arith, nat_tests, h)

@@ -18,7 +18,7 @@ use Rattle.nk_declare.specs.declared.fault.DeclareError.{DeclareError}
 use Rattle.nk_declare.specs.Declarations.{DeclaredValue, nothing_declared, declared_after}
 use Rattle.nk_declare.specs.Kept.{IsWritable, IsDeclarable, HasFieldOfText, HasPort}
 use Rattle.nk_declare.proofs.Kept.{ok_is, built_in_writable, fields_kept, nothing_is_topology, topology_kept, AreFit, fit_declarable, numbers_kept, all_kept}
-use Rattle.nk_lex.specs.declared.word.Number.{Number}
+use Rattle.nk_lex.specs.declared.ident.Number.{Number}
 use Rattle.nk_tabgrammar.specs.declared.written.Declaration.{Declaration}
 use Rattle.nk_tabgrammar.specs.declared.written.Declaration.TheVariants as declared
 use Rattle.nk_tabgrammar.specs.declared.written.WrittenGroup.{WrittenGroup}
@@ -28,7 +28,7 @@ use Rattle.nk_tabgrammar.specs.declared.written.ReadError.{ReadError}
 use Rattle.nk_tabgrammar.specs.declared.written.ReadError.TheVariants as error
 use Rattle.nk_tabgrammar.specs.Terminal.{Terminal, name, number, mark, terminal_from}
 use Rattle.nk_tabgrammar.specs.Spelling.{spell_declaration, spell_group, spell_row, spell_table, spell_text}
-use Rattle.nk_tabgrammar.specs.Answer.{terminals, IsAnswer}
+use Rattle.nk_tabgrammar.specs.Answer.{terminals, IsTableParse}
 use Rattle.nk_tabgrammar.specs.Machine.{written_of}
 use Rattle.nk_tabtext.specs.Values.{FaultLine, line_if, line_above, unless_at, checked, plain_declaration, fault_of, read_of, said_after}
 use Rattle.nk_tabgrammar.proofs.Answering.{answers}
@@ -93,10 +93,10 @@ all_tokens ts us (Some x) e = absurd (never e)
     never : ◌≡◌ {A = Result (List Token) LexError} (Err x) (Ok ts) → ⊥
     never e = cc
 
--- what holds of all holds of those behind, and of those in front
-behind : (xs ys : List Terminal) → AllByRecursion IsTerminalOfText (xs ++ ys) → AllByRecursion IsTerminalOfText ys
-behind [] ys h = h
-behind (x ∷ xs) ys h = behind xs ys h.1
+-- what holds of all holds of those after, and of those in front
+following : (xs ys : List Terminal) → AllByRecursion IsTerminalOfText (xs ++ ys) → AllByRecursion IsTerminalOfText ys
+following [] ys h = h
+following (x ∷ xs) ys h = following xs ys h.1
 
 front : (xs ys : List Terminal) → AllByRecursion IsTerminalOfText (xs ++ ys) → AllByRecursion IsTerminalOfText xs
 front [] ys h = tt
@@ -109,11 +109,11 @@ IsDeclarationOfText d = HasFieldOfText (plain_declaration d)
 declarations_fit : (ds : List Declaration) → AllByRecursion IsTerminalOfText (flat_map spell_declaration ds) → AllByRecursion IsDeclarationOfText ds
 declarations_fit [] h = tt
 declarations_fit (declared.Field w n ∷ ds) h = ((h.1.0, h.1.1.0), declarations_fit ds h.1.1.1)
-declarations_fit (declared.Tag w ∷ ds) h = (tt, declarations_fit ds (behind (spell_declaration (declared.Tag w)) (flat_map spell_declaration ds) h))
+declarations_fit (declared.Tag w ∷ ds) h = (tt, declarations_fit ds (following (spell_declaration (declared.Tag w)) (flat_map spell_declaration ds) h))
 declarations_fit (declared.Switch n p ps ∷ ds) h =
-    (tt, declarations_fit ds (behind (spell_declaration (declared.Switch n p ps)) (flat_map spell_declaration ds) h))
+    (tt, declarations_fit ds (following (spell_declaration (declared.Switch n p ps)) (flat_map spell_declaration ds) h))
 declarations_fit (declared.Link a m b n ∷ ds) h =
-    (tt, declarations_fit ds (behind (spell_declaration (declared.Link a m b n)) (flat_map spell_declaration ds) h))
+    (tt, declarations_fit ds (following (spell_declaration (declared.Link a m b n)) (flat_map spell_declaration ds) h))
 
 -- a group and a table as a text has them
 abbrev pub IsGroupOfText : WrittenGroup → Type 0
@@ -124,14 +124,14 @@ IsTableOfText t = AllByRecursion IsGroupOfText t.groups
 
 groups_fit : (gs : List WrittenGroup) → AllByRecursion IsTerminalOfText (flat_map spell_group gs) → AllByRecursion IsGroupOfText gs
 groups_fit [] h = tt
-groups_fit (g ∷ gs) h = (h.1.0, groups_fit gs (behind (spell_group g) (flat_map spell_group gs) h))
+groups_fit (g ∷ gs) h = (h.1.0, groups_fit gs (following (spell_group g) (flat_map spell_group gs) h))
 
 tables_fit : (ts : List WrittenTable) → AllByRecursion IsTerminalOfText (flat_map spell_table ts) → AllByRecursion IsTableOfText ts
 tables_fit [] h = tt
 tables_fit (t ∷ ts) h = (
   groups_fit t.groups (front (flat_map spell_group t.groups) (flat_map spell_row t.rows)
       (front (flat_map spell_group t.groups ++ flat_map spell_row t.rows) (flat_map spell_table ts) h.1.1)),
-  tables_fit ts (behind (spell_table t) (flat_map spell_table ts) h),
+  tables_fit ts (following (spell_table t) (flat_map spell_table ts) h),
 )
 
 -- what a text writes
@@ -140,11 +140,11 @@ pub of_text : (text : List ℕ) (ts : List Token) (x : WrittenTables) → tokens
 of_text text ts x cut read =
     let all : All IsOfText ts = subst (All IsOfText) (all_tokens ts (scan text 0 1 0).0 (scan text 0 1 0).1 cut)
     (λ k d lt. (names_are_names text k d lt, values_are_small text k d lt)) in
-    let answer : IsAnswer ts (Ok x) = subst (IsAnswer ts) read (answers ts) in
+    let answer : IsTableParse ts (Ok x) = subst (IsTableParse ts) read (answers ts) in
     let fit : AllByRecursion IsTerminalOfText (spell_text x) = subst (AllByRecursion IsTerminalOfText) answer (terminals_fit ts (recursion_from_All IsOfText ts all)) in
     let ds = flat_map spell_declaration x.declarations in
     let us = flat_map spell_table x.tables in
-    (declarations_fit x.declarations (front ds us fit.1.1), tables_fit x.tables (behind ds us fit.1.1))
+    (declarations_fit x.declarations (front ds us fit.1.1), tables_fit x.tables (following ds us fit.1.1))
 
 -- ---- what is declared
 

@@ -8,7 +8,7 @@ use Rattle.std.proofs.lemmas.List.Quantifiers.{position-Some}
 use Rattle.nk_lex.specs.Faults.{and_then, first_of, unless}
 use Rattle.nk_field.specs.Packet.{FieldTable}
 use Rattle.nk_topo.specs.Topology.{SwitchPorts, placed, ascending}
-use Rattle.nk_topo.proofs.Members.{placed_behind, placed_front}
+use Rattle.nk_topo.proofs.Members.{placed_after, placed_front}
 use Rattle.nk_declare.specs.declared.fault.DeclareFault.TheVariants as fault
 use Rattle.nk_declare.specs.Declarations.{DeclaredValue, MaybeFault, fault_if, field_fault, ports_fault, values_of, declared_with, declared_after}
 use Rattle.nk_tabtext.specs.Values.{plain_declaration}
@@ -136,7 +136,7 @@ switches_push n (x ∷ ss) s h lt = (h.0, switches_push n ss s h.1 lt)
 -- a switch above all is put last
 placed_last : (s : SwitchPorts) (ss : List SwitchPorts) → SwitchesBelow s.switch ss → placed (λ r. nat_lt r.switch s.switch) s ss ≡ ss ++ s ∷ []
 placed_last s [] h = refl
-placed_last s (x ∷ ss) h = placed_behind (λ r. nat_lt r.switch s.switch) s x ss (below x.switch s.switch h.0) ∙ ap (λ l. x ∷ l) (placed_last s ss h.1)
+placed_last s (x ∷ ss) h = placed_after (λ r. nat_lt r.switch s.switch) s x ss (below x.switch s.switch h.0) ∙ ap (λ l. x ∷ l) (placed_last s ss h.1)
   where
     below : (m n : ℕ) → m < n → nat_lt m n ≡ true
     below m n lt = grind (arith, nat_tests)

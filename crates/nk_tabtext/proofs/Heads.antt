@@ -1,4 +1,4 @@
--- The lines of switches by their numbers, and the tables behind the other lines.
+-- The lines of switches by their numbers, and the tables after the other lines.
 use Rattle.std.proofs.Common.{◌≡◌, ℕ, ◌<◌, ◌++◌, ◌||◌, Bool, true, false, inl, inr, ⊎_elim, List, [], ◌∷◌, refl, sym, ap, ◌∙◌, arith, append_assoc}
 use Rattle.std.specs.Prelude.{◌==◌, map, if◌then◌else◌}
 use Rattle.std.specs.List.{flat_map, list_any}
@@ -44,7 +44,7 @@ lines_by_number t is =
     ap (λ ports. switch_text (record { switch = s.switch; ports = ports }))
     (own_ports t.switches s (order_from_pairs (λ q r. q.switch < r.switch) t.switches is.switches) i))
 
--- the lines of the switches and those of the links, one behind the other
+-- the lines of the switches and those of the links, one after the other
 pub topology_lines : (t : Topology) (a b : List ℕ) (ls : List (ℕ × ℕ × ℕ × ℕ)) → b ≡ a ++ flat_map switch_text t.switches →
     map link_of ls ≡ t.links → b ++ flat_map (λ l. link_text (link_of l)) ls ≡ a ++ topology_text t
 topology_lines t a b ls e f =
@@ -65,7 +65,7 @@ version_is t numbers b is same =
     (is ∙ ap (list_any (λ n. have_prefix t.fields (rows_of t.tables n))) same
     ∙ sym (found_over_numbers (λ (s : SwitchPorts). s.switch) (λ n. have_prefix t.fields (rows_of t.tables n)) t.topo.switches))
 
--- the tables behind the lines before them
+-- the tables after the lines before them
 pub whole : (t : Tables) (numbers a b : List ℕ) → a ≡ head_text (version_of t) t.fields t.topo →
     b ≡ a ++ flat_map (λ n. section_text t.fields t.tables n) numbers → numbers ≡ numbers_of t.topo → b ≡ table_bytes t
 whole t numbers a b first second same =

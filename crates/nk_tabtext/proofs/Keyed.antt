@@ -120,7 +120,7 @@ module _ {X : Type 0} (field : X → ℕ) where
       by false true r = r
       by false false r = (h.0, r)
 
-  -- behind the tag no other is it
+  -- after the tag no other is it
   pub no_tag : (fs : FieldTable) (f : ℕ) (ms : List X) → is_tag fs f ≡ true → Ascend field (f + 1) ms
       → (of_tag field fs true ms ≡ []) × (of_tag field fs false ms ≡ ms)
   no_tag fs f ms e a = all fs.tag e f ms e (omega arith) a

@@ -10,8 +10,8 @@ use Rattle.nk_field.specs.Packet.{FieldTable}
 use Rattle.nk_table.specs.declared.Bucket.{Bucket}
 use Rattle.nk_table.specs.declared.Exit.{Exit}
 use Rattle.nk_table.specs.declared.Exit.TheVariants as exit
-use Rattle.nk_lex.specs.declared.word.Word.{Word}
-use Rattle.nk_lex.specs.declared.word.Number.{Number}
+use Rattle.nk_lex.specs.declared.ident.Ident.{Ident}
+use Rattle.nk_lex.specs.declared.ident.Number.{Number}
 use Rattle.nk_tabgrammar.specs.declared.written.Pair.{Pair}
 use Rattle.nk_tabgrammar.specs.declared.written.WrittenMatch.{WrittenMatch}
 use Rattle.nk_tabgrammar.specs.declared.written.Way.{Way}
@@ -23,7 +23,7 @@ use Rattle.nk_tabtext.specs.Text.{is_tag, is_exact, name_of, length_text, match_
 use Rattle.nk_tabgrammar.specs.Answer.{terminals}
 use Rattle.nk_tabtext.proofs.Keyed.{kept_where, set_field, sets_where, matches_where, all_where}
 
--- ---- lists one behind the other
+-- ---- lists one after the other
 
 module _ {X : Type 0} where
   pub left3 : (a b c r : List X) → ((a ++ b) ++ c) ++ r ≡ a ++ (b ++ (c ++ r))
@@ -68,7 +68,7 @@ of_tokens (Lexeme.numeral n ∷ xs) line at = ap (λ l. terminal_from kind.Numbe
 of_tokens (Lexeme.sign s ∷ xs) line at = ap (λ l. terminal_from (sign_kind s) line 0 [] ∷ l) (of_tokens xs line (at + length (sign_bytes s)))
 
 -- a name and a number on a line
-abbrev pub word_on : ℕ → List ℕ → Word
+abbrev pub word_on : ℕ → List ℕ → Ident
 word_on line w = record { text = w; line = line }
 
 abbrev pub number_on : ℕ → ℕ → Number
@@ -275,7 +275,7 @@ written_way line (exit.Port n) = way.Port (number_on line n)
 abbrev pub written_bucket : FieldTable → ℕ → Bucket → WrittenBucket
 written_bucket fs line b = record { sets = map (written_pair fs line) (bucket_order fs b.sets); way = written_way line b.exit }
 
--- an exit and the bracket behind it
+-- an exit and the bracket after it
 abbrev lex_exit : Exit → List Lexeme → List Lexeme
 lex_exit exit.Back r = Lexeme.word (codes "out") ∷ Lexeme.space ∷ Lexeme.word (codes "in") ∷ Lexeme.sign Sign.close_bracket ∷ r
 lex_exit (exit.Port n) r = Lexeme.word (codes "out") ∷ Lexeme.space ∷ Lexeme.numeral n ∷ Lexeme.sign Sign.close_bracket ∷ r
@@ -321,7 +321,7 @@ exit_spelled : (line : ℕ) (e : Exit) (r : List Lexeme)
 exit_spelled line exit.Back r = refl
 exit_spelled line (exit.Port n) r = refl
 
--- parts one behind the other
+-- parts one after the other
 pub flat_joined : {X : Type 0} (f : X → List Terminal) (xs ys : List X) → flat_map f (xs ++ ys) ≡ flat_map f xs ++ flat_map f ys
 flat_joined f [] ys = refl
 flat_joined f (x ∷ xs) ys = ap (λ l. f x ++ l) (flat_joined f xs ys) ∙ sym (append_assoc (f x) (flat_map f xs) (flat_map f ys))

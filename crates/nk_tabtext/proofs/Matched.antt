@@ -6,8 +6,8 @@ use Rattle.std.specs.List.{list_any, AllByRecursion}
 use Rattle.std.proofs.lemmas.Bool.Decides.{nat_tests}
 use Rattle.nk_field.specs.Packet.{FieldTable, field_named}
 use Rattle.nk_prefix.specs.Prefix.{digits_of}
-use Rattle.nk_topo.proofs.Members.{placed_behind, placed_front}
-use Rattle.nk_lex.specs.declared.word.Number.{Number}
+use Rattle.nk_topo.proofs.Members.{placed_after, placed_front}
+use Rattle.nk_lex.specs.declared.ident.Number.{Number}
 use Rattle.nk_lex.specs.Faults.{and_then, first_of}
 use Rattle.nk_tabgrammar.specs.declared.written.ReadError.{ReadError}
 use Rattle.nk_tabtext.specs.InOrder.{MatchesAscend}
@@ -31,13 +31,13 @@ insert_mid k [] (y ∷ ys) m h le a = placed_front (λ x. nat_lt x.0 m.0) m y ys
     no_less : (a b : ℕ) → b ≤ a → nat_lt a b ≡ false
     no_less a b le = grind (arith, nat_tests)
 insert_mid k (x ∷ xs) ys m h le a =
-    placed_behind (λ z. nat_lt z.0 m.0) m x (xs ++ ys) (less x.0 m.0 (omega (arith, h.0, le))) ∙ ap (λ l. x ∷ l) (insert_mid k xs ys m h.1 le a)
+    placed_after (λ z. nat_lt z.0 m.0) m x (xs ++ ys) (less x.0 m.0 (omega (arith, h.0, le))) ∙ ap (λ l. x ∷ l) (insert_mid k xs ys m h.1 le a)
   where
     less : (a b : ℕ) → a < b → nat_lt a b ≡ true
     less a b lt = grind (arith, nat_tests)
 
 -- a match that a table may have: its field has its name and isn't the switch, the value is in range, one digit counts or
--- more, up to all, and behind those are zeros; where not all count, the text is of version 2
+-- more, up to all, and after those are zeros; where not all count, the text is of version 2
 pub record IsFine (version : ℕ) (fs : FieldTable) (m : ℕ × ℕ × ℕ) : Type 0 where
   pub named : field_named fs (name_of fs m.0) ≡ Some m.0
   pub low : 1 ≤ m.0
@@ -109,7 +109,7 @@ fine_read version fs line before m h none =
         (first_of (length_fault version digits length) (ones_fault digits (length_in digits length) (number_on line m.1))))
         (unwrap_or o 0, m.1, length_in digits length)
 
--- the same of what is read behind it
+-- the same of what is read after it
 step_read : (version : ℕ) (fs : FieldTable) (line : ℕ) (before after : List (ℕ × ℕ × ℕ)) (m : ℕ × ℕ × ℕ) (ms : List (ℕ × ℕ × ℕ)) → IsFine version fs m
     → list_any (λ s. s.0 == m.0) before ≡ false → placed_match m before ≡ after
     → matches_read version fs before (map (written_match fs line) (m ∷ ms)) ≡ matches_read version fs after (map (written_match fs line) ms)
@@ -117,7 +117,7 @@ step_read version fs line before after m ms h none e =
     ap (λ r. and_then r (λ s. matches_read version fs (placed_match s before) (map (written_match fs line) ms))) (fine_read version fs line before m h none)
     ∙ ap (λ l. matches_read version fs l (map (written_match fs line) ms)) e
 
--- the matches of a row behind that of the tag
+-- the matches of a row after that of the tag
 row_matches : (version : ℕ) (fs : FieldTable) (line k : ℕ) (xs ms : List (ℕ × ℕ × ℕ)) → Below match_field k xs → Ascend match_field k ms → AreFine version fs ms
     → matches_read version fs (xs ++ matches_where fs true ms) (map (written_match fs line) (matches_where fs false ms)) ≡ Ok (xs ++ ms)
 row_matches version fs line k xs [] b a g = refl

@@ -48,7 +48,7 @@ good_read fs low line before m h none =
     no_more : (a b : ℕ) → a ≤ b → nat_lt b a ≡ false
     no_more a b le = grind (arith, nat_tests)
 
--- the same of what is read behind it
+-- the same of what is read after it
 step_read : (fs : FieldTable) (low line : ℕ) (before after : List (ℕ × ℕ)) (m : ℕ × ℕ) (ms : List (ℕ × ℕ)) → IsGood fs low m
     → list_any (λ s. s.0 == m.0) before ≡ false → act_then before (m ∷ []) ≡ after
     → pairs_read fs low before (map (written_pair fs line) (m ∷ ms)) ≡ pairs_read fs low after (map (written_pair fs line) ms)
@@ -56,7 +56,7 @@ step_read fs low line before after m ms h none e =
     ap (λ r. and_then r (λ s. pairs_read fs low (act_then before (s ∷ [])) (map (written_pair fs line) ms))) (good_read fs low line before m h none)
     ∙ ap (λ l. pairs_read fs low l (map (written_pair fs line) ms)) e
 
--- a pair behind others that it stands before
+-- a pair after others that it stands before
 late : (fs : FieldTable) (low line k n : ℕ) (xs ys ms : List (ℕ × ℕ)) (m : ℕ × ℕ) → Below set_field n xs → n ≤ m.0 → Ascend set_field (m.0 + 1) ys
     → Below set_field k ys → m.0 < k → Ascend set_field k ms → AreGood fs low ms → IsGood fs low m
     → pairs_read fs low (xs ++ ys) (map (written_pair fs line) (ms ++ m ∷ [])) ≡ Ok (xs ++ m ∷ (ys ++ ms))

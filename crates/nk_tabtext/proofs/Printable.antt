@@ -15,7 +15,7 @@ use Rattle.nk_tabgrammar.specs.declared.written.ReadError.{ReadError}
 use Rattle.nk_tabgrammar.specs.declared.written.ReadError.TheVariants as error
 use Rattle.nk_declare.proofs.Kept.{both_ok}
 use Rattle.nk_declare.specs.Declarations.{DeclaredValue, nothing_declared}
-use Rattle.nk_tabgrammar.specs.Machine.{written_of, Returns}
+use Rattle.nk_tabgrammar.specs.Machine.{written_of, TableParseReturns}
 use Rattle.nk_tabtext.specs.Values.{version_fault, line_if, unless_at, said_after, tables_read, table_for, whole, tables_from, lexed, tables_of, tables_of_tokens}
 use Rattle.nk_lex.specs.Spans.{last_line}
 use Rattle.nk_tabtext.specs.ReadBack.{ArePrintableTables, IsPrintableTable}
@@ -89,6 +89,6 @@ answers_printable text t e =
     from_is (last_line 1 ts) read.0 t fit.0 fit.1 read.2
 
 -- what is answered of a text's tokens
-pub of_tokens : (text : List ℕ) (ts : List Token) (r : Result Tables ReadError) → tokens_of text ≡ Ok ts → Returns (λ t. t) r (tables_of_tokens ts) → IfOk r ArePrintableTables
+pub of_tokens : (text : List ℕ) (ts : List Token) (r : Result Tables ReadError) → tokens_of text ≡ Ok ts → TableParseReturns (λ t. t) r (tables_of_tokens ts) → IfOk r ArePrintableTables
 of_tokens text ts (Ok t) cut e = answers_printable text t (ap (λ q. and_then (lexed q) tables_of_tokens) cut ∙ e)
 of_tokens text ts (Err f) cut e = tt

@@ -29,8 +29,8 @@ use Rattle.nk_lex.specs.Spans.{last_line}
 use Rattle.nk_lex.specs.Faults.{and_then}
 use Rattle.nk_tabtext.specs.ReadBack.{ArePrintableTables, AreReadBack, IsPrintableTable}
 use Rattle.nk_tabtext.proofs.Lines.{left3, left4, terminals_on, of_tokens, word_on, number_on, feed_apart, flat_joined}
-use Rattle.nk_tabtext.proofs.TableLines.{behind, written_tables, lex_tables, table_lines, tables_bytes, tables_apart, tables_spelled, AreTablesShown}
-use Rattle.nk_tabtext.proofs.HeadLines.{AreFieldsShown, lex_fields, written_fields, behind_fields, fields_bytes, fields_apart, fields_spelled, lex_tag, tag_bytes, tag_apart, tag_spelled, lex_switches, written_switches, switches_bytes, switches_apart, switches_spelled, AreLinksShown, lex_links, written_links, links_bytes, links_apart, links_spelled}
+use Rattle.nk_tabtext.proofs.TableLines.{following, written_tables, lex_tables, table_lines, tables_bytes, tables_apart, tables_spelled, AreTablesShown}
+use Rattle.nk_tabtext.proofs.HeadLines.{AreFieldsShown, lex_fields, written_fields, after_fields, fields_bytes, fields_apart, fields_spelled, lex_tag, tag_bytes, tag_apart, tag_spelled, lex_switches, written_switches, switches_bytes, switches_apart, switches_spelled, AreLinksShown, lex_links, written_links, links_bytes, links_apart, links_spelled}
 use Rattle.nk_tabtext.proofs.HeadValues.{FieldsFit, SwitchesFit, said_of, fields_back, with_switches, switches_back}
 use Rattle.nk_tabtext.proofs.Valued.{AreTablesGood, TablesFrom, table_entry, tables_back, each_is}
 use Rattle.nk_tabgrammar.proofs.Answering.{reads}
@@ -61,18 +61,18 @@ maxima_of t = drop 2 t.fields.maxima
 
 -- the lines of the tag, of the first switch, of the first link and of the first table
 abbrev tag_at : Tables → ℕ
-tag_at t = behind_fields 2 (names_of t) (maxima_of t)
+tag_at t = after_fields 2 (names_of t) (maxima_of t)
 
 abbrev switches_at : Tables → ℕ
 switches_at t = tag_at t + 1
 
 abbrev links_at : Tables → ℕ
-links_at t = behind (switches_at t) t.topo.switches
+links_at t = following (switches_at t) t.topo.switches
 
 abbrev tables_at : Tables → ℕ
-tables_at t = behind (links_at t) t.topo.links
+tables_at t = following (links_at t) t.topo.links
 
--- the lexemes behind the first line, from the tag on, and so on
+-- the lexemes after the first line, from the tag on, and so on
 abbrev lex_topo : Tables → List Lexeme
 lex_topo t = lex_switches t.topo.switches (lex_links t.topo.links (lex_tables t.fields t.tables []))
 
@@ -233,8 +233,8 @@ values t f line h =
 
 -- ---- what printable tables are
 
-all_behind_two : {X : Type 0} (P : X → Type 0) (xs : List X) (a b : X) → take 2 xs ≡ a ∷ b ∷ [] → All P xs → All P (drop 2 xs)
-all_behind_two P xs a b e h = All-tail P b (drop 2 xs) (All-tail P a (b ∷ drop 2 xs) (subst (All P) (sym (two_first xs a b e)) h))
+all_after_two : {X : Type 0} (P : X → Type 0) (xs : List X) (a b : X) → take 2 xs ≡ a ∷ b ∷ [] → All P xs → All P (drop 2 xs)
+all_after_two P xs a b e h = All-tail P b (drop 2 xs) (All-tail P a (b ∷ drop 2 xs) (subst (All P) (sym (two_first xs a b e)) h))
 
 fits : (t : Tables) (f : ℕ) → ArePrintableTables t → t.fields.tag ≡ Some f → Fits t f
 fits t f h e = record {
@@ -242,8 +242,8 @@ fits t f h e = record {
   tag = e;
   name = h.names f [] (omega (arith, at.1, is.named));
   fields_shown = fields_shown (names_of t) (maxima_of t)
-      (recursion_from_All IsName (names_of t) (all_behind_two IsName t.fields.names (codes "sw") (codes "pt") is.built_in_names h.names))
-      (recursion_from_All (λ m. m ≤ largest) (maxima_of t) (all_behind_two (λ m. m ≤ largest) t.fields.maxima 65535 65535 is.built_in_maxima h.maxima));
+      (recursion_from_All IsName (names_of t) (all_after_two IsName t.fields.names (codes "sw") (codes "pt") is.built_in_names h.names))
+      (recursion_from_All (λ m. m ≤ largest) (maxima_of t) (all_after_two (λ m. m ≤ largest) t.fields.maxima 65535 65535 is.built_in_maxima h.maxima));
   fields_fit = fields_fit built_in.names built_in.maxima (names_of t) (maxima_of t)
       (omega (arith, length-drop 2 t.fields.names, length-drop 2 t.fields.maxima, is.named))
       (subst (AllPairs (λ a b. a ≢ b)) (sym (two_first t.fields.names (codes "sw") (codes "pt") is.built_in_names)) is.distinct)

@@ -4,8 +4,8 @@ use Rattle.std.specs.Prelude.{Ok, ◌==◌, if◌then◌else◌, not}
 use Rattle.nk_lex.specs.declared.kind.Kind.{Kind}
 use Rattle.nk_lex.specs.declared.kind.Kind.TheVariants as kind
 use Rattle.nk_lex.specs.declared.token.Token.{Token}
-use Rattle.nk_lex.specs.declared.word.Word.{Word}
-use Rattle.nk_lex.specs.declared.word.Number.{Number}
+use Rattle.nk_lex.specs.declared.ident.Ident.{Ident}
+use Rattle.nk_lex.specs.declared.ident.Number.{Number}
 use Rattle.nk_lex.specs.Faults.{first_of}
 use Rattle.nk_prefix.specs.Prefix.{digits_of}
 use Rattle.nk_table.specs.declared.Target.TheVariants as does
@@ -64,13 +64,13 @@ marks_begin x c q ms k t l m h =
     (refl, gives_still (matched_so x c q ms) (Matches x c q) (Matches x c q) k t (λ v p d. d) h))
 
 -- a match without a length is whole
-exact : (x : WrittenTables) (c : WrittenTable) (q : Number) (ms : List WrittenMatch) (w : Word) (n : Number) (k : KnownValue) → Gives (tested_so x c q ms w n) (Tested x c q w n) k
+exact : (x : WrittenTables) (c : WrittenTable) (q : Number) (ms : List WrittenMatch) (w : Ident) (n : Number) (k : KnownValue) → Gives (tested_so x c q ms w n) (Tested x c q w n) k
     → Gives (matched_so x c q (with_match ms w n None)) (Matches x c q) k
 exact x c q ms w n k h =
     subst (λ r. Gives r (Matches x c q) k) (sym (match_more x c q ms w n)) (gives_with (tested_so x c q ms w n) (Tested x c q w n) (Matches x c q) k (λ v p d. d.0) h)
 
 -- the value of a match
-value_gives : (x : WrittenTables) (c : WrittenTable) (q : Number) (ms : List WrittenMatch) (w : Word) (k : KnownValue) (t : Token)
+value_gives : (x : WrittenTables) (c : WrittenTable) (q : Number) (ms : List WrittenMatch) (w : Ident) (k : KnownValue) (t : Token)
     → Gives (called_so x c q ms w) (λ v p. Matches x c q v p × IsField w v p) k
     → Gives (tested_so x c q ms w (number_of_token t)) (Tested x c q w (number_of_token t)) (known_after k tells.MatchValue t)
 value_gives x c q ms w k t h =
@@ -99,7 +99,7 @@ value_gives x c q ms w k t h =
     )) h
 
 -- the length of a match
-length_gives : (x : WrittenTables) (c : WrittenTable) (q : Number) (ms : List WrittenMatch) (w : Word) (n : Number) (k : KnownValue) (t : Token)
+length_gives : (x : WrittenTables) (c : WrittenTable) (q : Number) (ms : List WrittenMatch) (w : Ident) (n : Number) (k : KnownValue) (t : Token)
     → Gives (tested_so x c q ms w n) (Tested x c q w n) k
     → Gives (matched_so x c q (with_match ms w n (Some (number_of_token t)))) (Matches x c q) (known_after k tells.MatchLength t)
 length_gives x c q ms w n k t h =

@@ -23,7 +23,7 @@ use Rattle.nk_tabgrammar.specs.declared.written.WrittenTable.{WrittenTable}
 use Rattle.nk_tabgrammar.specs.declared.written.ReadError.{ReadError}
 use Rattle.nk_tabtext.specs.Values.{FaultLine, bucket_read, buckets_read, checked, group_read, groups_read, match_read, matches_read, pair_read, pairs_read, plain_declaration, placed_match, read_of, row_read, rows_read, said_after, table_read, tables_read, unless_at}
 
--- ---- results one behind the other
+-- ---- results one after the other
 
 module _ {X Y Z E : Type 0} where
   pub then_assoc : (r : Result X E) (f : X → Result Y E) (g : Y → Result Z E) → and_then (and_then r f) g ≡ and_then r (λ x. and_then (f x) g)

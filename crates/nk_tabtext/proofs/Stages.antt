@@ -1,14 +1,14 @@
 -- What is said at each stage of reading by what is written so far, and that a stage's last token adds one more part.
 use Rattle.std.proofs.Common.{◌≡◌, arith, ℕ, List, [], ◌∷◌, ◌++◌, Bool, true, false, refl, sym, ap, ◌∙◌, Some, None}
 use Rattle.std.proofs.lemmas.Bool.Decides.{nat_tests}
-use Rattle.nk_topo.proofs.Members.{placed_behind, placed_front}
+use Rattle.nk_topo.proofs.Members.{placed_after, placed_front}
 use Rattle.std.specs.Prelude.{if◌then◌else◌, ◌==◌, ◌-◌, ◌%◌, ◌^◌, not, nat_lt, unwrap_or, Ok}
 use Rattle.std.specs.declared.result.Result.{Result}
 use Rattle.std.specs.List.{list_any}
 use Rattle.std.specs.Ordering.{nat_cmp}
 use Rattle.std.specs.BTreeMap.{insert_entry}
-use Rattle.nk_lex.specs.declared.word.Word.{Word}
-use Rattle.nk_lex.specs.declared.word.Number.{Number}
+use Rattle.nk_lex.specs.declared.ident.Ident.{Ident}
+use Rattle.nk_lex.specs.declared.ident.Number.{Number}
 use Rattle.nk_lex.specs.Faults.{and_then, first_of}
 use Rattle.nk_field.specs.Packet.{FieldTable, field_named}
 use Rattle.nk_field.specs.Act.{act_then}
@@ -102,7 +102,7 @@ abbrev pub assigned_so : WrittenTables → WrittenTable → Owner → List Pair 
 assigned_so x c o ps = and_then (owned_so x c o) (λ v. and_then (pairs_read v.said.fields 2 [] ps) (λ ss. Ok (with_sets v ss exit.Back)))
 
 -- a name of a field from `low` on that is none of those that are taken
-abbrev pub word_fault : FieldTable → ℕ → (ℕ → Bool) → Word → FaultLine
+abbrev pub word_fault : FieldTable → ℕ → (ℕ → Bool) → Ident → FaultLine
 word_fault fields low taken w =
     first_of (line_if (not (is_from low (field_named fields w.text))) w.line) (line_if (taken (unwrap_or (field_named fields w.text) 0)) w.line)
 
@@ -113,7 +113,7 @@ abbrev pub is_matched : List (ℕ × ℕ × ℕ) → ℕ → Bool
 is_matched ms n = list_any (λ m. m.0 == n) ms
 
 -- and the name of one more
-abbrev pub named_so : WrittenTables → WrittenTable → Owner → List Pair → Word → Value
+abbrev pub named_so : WrittenTables → WrittenTable → Owner → List Pair → Ident → Value
 named_so x c o ps w = and_then (assigned_so x c o ps) (λ v. checked (word_fault v.said.fields 2 (is_assigned v.sets) w) (Ok v))
 
 -- and its exit
@@ -121,7 +121,7 @@ abbrev pub left_so : WrittenTables → WrittenTable → Owner → List Pair → 
 left_so x c o ps e = and_then (assigned_so x c o ps) (λ v. and_then (way_read e) (λ y. Ok (with_sets v v.sets y)))
 
 -- the name of a match
-abbrev pub called_so : WrittenTables → WrittenTable → Number → List WrittenMatch → Word → Value
+abbrev pub called_so : WrittenTables → WrittenTable → Number → List WrittenMatch → Ident → Value
 called_so x c p ms w = and_then (matched_so x c p ms) (λ v. checked (word_fault v.said.fields 1 (is_matched v.matches) w) (Ok v))
 
 -- with matches
@@ -129,7 +129,7 @@ abbrev pub with_matches : Sofar → List (ℕ × ℕ × ℕ) → Sofar
 with_matches v ms = so_far v.said v.tables v.groups v.rows [] ms
 
 -- the value of a match, which is exact unless a length follows
-abbrev pub tested_so : WrittenTables → WrittenTable → Number → List WrittenMatch → Word → Number → Value
+abbrev pub tested_so : WrittenTables → WrittenTable → Number → List WrittenMatch → Ident → Number → Value
 tested_so x c p ms w n =
     and_then (called_so x c p ms w) (λ v. checked (line_above (most_in v.said.fields w) n)
     (Ok (with_matches v (placed_match (place_of_field v.said.fields w, n.value, digits_in v.said.fields w) v.matches))))
@@ -179,7 +179,7 @@ pub bucket_more : (x : WrittenTables) (c : WrittenTable) (g : WrittenGroup) (ps 
     ≡ and_then (left_so x c (owner.Next g) ps e) (λ v. Ok (so_far v.said v.tables v.groups [] (v.buckets ++ bucket_with v.sets v.out ∷ []) []))
 bucket_more x c g ps e = simp (buckets_more, then_assoc, checked_assoc)
 
-pub pair_more : (x : WrittenTables) (c : WrittenTable) (o : Owner) (ps : List Pair) (w : Word) (n : Number)
+pub pair_more : (x : WrittenTables) (c : WrittenTable) (o : Owner) (ps : List Pair) (w : Ident) (n : Number)
     → assigned_so x c o (ps ++ record { name = w; number = n } ∷ [])
     ≡ and_then (named_so x c o ps w) (λ v. checked (line_above (most_in v.said.fields w) n) (Ok (with_sets v (act_then v.sets ((place_of_field v.said.fields w, n.value) ∷ [])) exit.Back)))
 pair_more x c o ps w n = simp (pairs_more, then_assoc, checked_assoc, checked_first, unless_assoc)
@@ -211,20 +211,20 @@ put_again f v d l (m ∷ ms) = by (nat_lt m.0 f) refl (put_again f v d l ms)
     by : (b : Bool) → nat_lt m.0 f ≡ b → match_set (f, v, l) (placed_match (f, v, d) ms) ≡ placed_match (f, v, l) ms
         → match_set (f, v, l) (placed_match (f, v, d) (m ∷ ms)) ≡ placed_match (f, v, l) (m ∷ ms)
     by true e ih =
-        ap (match_set (f, v, l)) (placed_behind (λ x. nat_lt x.0 f) (f, v, d) m ms e)
+        ap (match_set (f, v, l)) (placed_after (λ x. nat_lt x.0 f) (f, v, d) m ms e)
         ∙ ap (λ b. if b then m ∷ match_set (f, v, l) (placed_match (f, v, d) ms) else (f, v, l) ∷ placed_match (f, v, d) ms) e
         ∙ ap (λ r. m ∷ r) ih
-        ∙ sym (placed_behind (λ x. nat_lt x.0 f) (f, v, l) m ms e)
+        ∙ sym (placed_after (λ x. nat_lt x.0 f) (f, v, l) m ms e)
     by false e ih =
         ap (match_set (f, v, l)) (placed_front (λ x. nat_lt x.0 f) (f, v, d) m ms e)
         ∙ ap (λ b. if b then (f, v, d) ∷ match_set (f, v, l) (m ∷ ms) else (f, v, l) ∷ m ∷ ms) (not_less f)
         ∙ sym (placed_front (λ x. nat_lt x.0 f) (f, v, l) m ms e)
 
-pub match_more : (x : WrittenTables) (c : WrittenTable) (p : Number) (ms : List WrittenMatch) (w : Word) (n : Number)
+pub match_more : (x : WrittenTables) (c : WrittenTable) (p : Number) (ms : List WrittenMatch) (w : Ident) (n : Number)
     → matched_so x c p (with_match ms w n None) ≡ tested_so x c p ms w n
 match_more x c p ms w n = simp (matches_more, then_assoc, checked_assoc, checked_first, unless_assoc, no_ones)
 
-pub match_more_length : (x : WrittenTables) (c : WrittenTable) (p : Number) (ms : List WrittenMatch) (w : Word) (n l : Number)
+pub match_more_length : (x : WrittenTables) (c : WrittenTable) (p : Number) (ms : List WrittenMatch) (w : Ident) (n l : Number)
     → matched_so x c p (with_match ms w n (Some l))
     ≡ and_then (tested_so x c p ms w n) (λ v. checked (first_of (length_fault x.version.value (digits_in v.said.fields w) (Some l)) (ones_fault (digits_in v.said.fields w) l.value n))
     (Ok (with_matches v (match_set (place_of_field v.said.fields w, n.value, l.value) v.matches))))

@@ -56,7 +56,7 @@ buckets_apart : (fs : FieldTable) (bs : List Bucket) (r : List Lexeme) → AreBu
 buckets_apart fs [] r h a = (tt, feed_apart r, a)
 buckets_apart fs (b ∷ bs) r h a = (tt, refl, bucket_apart fs b (lex_buckets fs bs r) h.0 (buckets_apart fs bs r h.1 a))
 
--- behind the sign `=`
+-- after the sign `=`
 equal_apart : (fs : FieldTable) (bs : List Bucket) (r : List Lexeme) → IsApart (Lexeme.sign Sign.equal) (lex_buckets fs bs r)
 equal_apart fs [] r = refl
 equal_apart fs (b ∷ bs) r = refl
@@ -133,7 +133,7 @@ lex_target fs (does.Bucket b) r = lex_bucket fs b (Lexeme.line_feed ∷ r)
 lex_target fs (does.Group n) r = Lexeme.word (codes "group") ∷ Lexeme.space ∷ Lexeme.numeral n ∷ Lexeme.line_feed ∷ r
 lex_target fs does.Discard r = Lexeme.word (codes "drop") ∷ Lexeme.line_feed ∷ r
 
--- the arrow and what stands behind it
+-- the arrow and what stands after it
 abbrev lex_act : FieldTable → Target → List Lexeme → List Lexeme
 lex_act fs t r = Lexeme.sign Sign.arrow ∷ Lexeme.space ∷ lex_target fs t r
 
@@ -234,10 +234,10 @@ abbrev pub written_rows : FieldTable → ℕ → List Row → List WrittenRow
 written_rows fs line [] = []
 written_rows fs line (w ∷ ws) = written_row fs line w ∷ written_rows fs (line + 1) ws
 
--- the line behind these
-abbrev pub behind : {X : Type 0} → ℕ → List X → ℕ
-behind line [] = line
-behind line (x ∷ xs) = behind (line + 1) xs
+-- the line after these
+abbrev pub following : {X : Type 0} → ℕ → List X → ℕ
+following line [] = line
+following line (x ∷ xs) = following (line + 1) xs
 
 abbrev pub written_tables : FieldTable → ℕ → List Table → List WrittenTable
 written_tables fs line [] = []
@@ -245,8 +245,8 @@ written_tables fs line (t ∷ ts) =
     record {
       switch = number_on line t.switch;
       groups = written_groups fs (line + 1) t.groups;
-      rows = written_rows fs (behind (line + 1) t.groups) t.rows;
-    } ∷ written_tables fs (behind (behind (line + 1) t.groups) t.rows) ts
+      rows = written_rows fs (following (line + 1) t.groups) t.rows;
+    } ∷ written_tables fs (following (following (line + 1) t.groups) t.rows) ts
 
 abbrev lex_groups : FieldTable → List Group → List Lexeme → List Lexeme
 lex_groups fs [] r = r
@@ -320,28 +320,28 @@ tables_apart fs (t ∷ ts) r h a = (
 )
 
 groups_spelled : (fs : FieldTable) (line : ℕ) (gs : List Group) (r : List Lexeme) → AreGroupsShown fs gs
-    → terminals_on line (lex_groups fs gs r) ≡ flat_map spell_group (written_groups fs line gs) ++ terminals_on (behind line gs) r
+    → terminals_on line (lex_groups fs gs r) ≡ flat_map spell_group (written_groups fs line gs) ++ terminals_on (following line gs) r
 groups_spelled fs line [] r h = refl
 groups_spelled fs line (g ∷ gs) r h =
     group_spelled fs line g (lex_groups fs gs r) h.0
     ∙ ap (λ l. spell_group (written_group fs line g) ++ l) (groups_spelled fs (line + 1) gs r h.1)
-    ∙ sym (append_assoc (spell_group (written_group fs line g)) (flat_map spell_group (written_groups fs (line + 1) gs)) (terminals_on (behind (line + 1) gs) r))
+    ∙ sym (append_assoc (spell_group (written_group fs line g)) (flat_map spell_group (written_groups fs (line + 1) gs)) (terminals_on (following (line + 1) gs) r))
 
 rows_spelled : (fs : FieldTable) (line : ℕ) (ws : List Row) (r : List Lexeme) → AreRowsShown fs ws
-    → terminals_on line (lex_rows fs ws r) ≡ flat_map spell_row (written_rows fs line ws) ++ terminals_on (behind line ws) r
+    → terminals_on line (lex_rows fs ws r) ≡ flat_map spell_row (written_rows fs line ws) ++ terminals_on (following line ws) r
 rows_spelled fs line [] r h = refl
 rows_spelled fs line (w ∷ ws) r h =
     row_spelled fs line w (lex_rows fs ws r) h.0
     ∙ ap (λ l. spell_row (written_row fs line w) ++ l) (rows_spelled fs (line + 1) ws r h.1)
-    ∙ sym (append_assoc (spell_row (written_row fs line w)) (flat_map spell_row (written_rows fs (line + 1) ws)) (terminals_on (behind (line + 1) ws) r))
+    ∙ sym (append_assoc (spell_row (written_row fs line w)) (flat_map spell_row (written_rows fs (line + 1) ws)) (terminals_on (following (line + 1) ws) r))
 
 pub tables_spelled : (fs : FieldTable) (line : ℕ) (ts : List Table) → AreTablesShown fs ts
     → terminals_on line (lex_tables fs ts []) ≡ flat_map spell_table (written_tables fs line ts)
 tables_spelled fs line [] h = refl
 tables_spelled fs line (t ∷ ts) h =
     let gl = line + 1 in
-    let rl = behind gl t.groups in
-    let el = behind rl t.rows in
+    let rl = following gl t.groups in
+    let el = following rl t.rows in
     let gs = flat_map spell_group (written_groups fs gl t.groups) in
     let ws = flat_map spell_row (written_rows fs rl t.rows) in
     ap (λ l. mark kind.Table ∷ number (number_on line t.switch) ∷ l)

@@ -7,7 +7,7 @@ use Rattle.std.specs.BTreeMap.{insert_entry}
 use Rattle.nk_lex.specs.declared.kind.Kind.{Kind}
 use Rattle.nk_lex.specs.declared.kind.Kind.TheVariants as kind
 use Rattle.nk_lex.specs.declared.token.Token.{Token}
-use Rattle.nk_lex.specs.declared.word.Number.{Number}
+use Rattle.nk_lex.specs.declared.ident.Number.{Number}
 use Rattle.nk_table.specs.declared.Bucket.{Bucket}
 use Rattle.nk_table.specs.declared.Exit.{Exit}
 use Rattle.nk_table.specs.declared.Exit.TheVariants as exit
@@ -86,7 +86,7 @@ table_closes x c k h =
     (Rows x c) (λ v p. Closes (with_table x c) v.tables v p) k (table_more x c)
     (λ v p d. record { version = d.0.version; said = d.0.said; tables = closes_tables x c v p d.0; parts = d.1 }) h
 
--- behind the groups stand rows
+-- after the groups stand rows
 pub groups_rows : (x : WrittenTables) (c : WrittenTable) (k : KnownValue) → c.rows ≡ [] → Gives (grouped_so x c) (Groups x c) k → Gives (rowed_so x c) (Rows x c) k
 groups_rows x c k e h =
     gives_more (grouped_so x c) (rowed_so x c) (λ v. so_far v.said v.tables v.groups [] [] []) (Groups x c) (Rows x c) k (no_row_more x c e)

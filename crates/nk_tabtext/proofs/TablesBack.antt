@@ -19,7 +19,7 @@ use Rattle.nk_table.specs.declared.Target.{Target}
 use Rattle.nk_table.specs.declared.Target.TheVariants as does
 use Rattle.nk_table.specs.declared.Exit.{Exit}
 use Rattle.nk_table.specs.declared.Exit.TheVariants as exit
-use Rattle.nk_table.specs.Rules.{rows_of, groups_of}
+use Rattle.nk_table.specs.Rules.{rows_of, groups_at_switch}
 use Rattle.nk_tabtext.specs.InOrder.{MatchesAscend}
 use Rattle.nk_tabtext.specs.Text.{is_exact, have_prefix, section_text}
 use Rattle.nk_tabtext.specs.ReadBack.{IsExit, IsPrintableBucket, IsPrintableGroup, IsPrintableTarget, IsPrintableMatch, IsPrintableRow, IsPrintableTable}
@@ -191,7 +191,7 @@ NumbersFit topo low (n ∷ ns) = ((low ≤ n) × (n ≤ 65535) × (is_switch top
 -- a switch is there
 there : (ss : List SwitchPorts) (s : SwitchPorts) → In ss s → list_any (λ r. r.switch == s.switch) ss ≡ true
 there [] s i = absurd i
-there (r ∷ ss) s i = ⊎_elim first (λ j. behind (r.switch == s.switch) (list_any (λ x. x.switch == s.switch) ss) (there ss s j)) i
+there (r ∷ ss) s i = ⊎_elim first (λ j. following (r.switch == s.switch) (list_any (λ x. x.switch == s.switch) ss) (there ss s j)) i
   where
     same : (n : ℕ) → (n == n) ≡ true
     same n = grind (arith, nat_tests)
@@ -201,9 +201,9 @@ there (r ∷ ss) s i = ⊎_elim first (λ j. behind (r.switch == s.switch) (list
         ap (λ x. (r.switch == x.switch) || list_any (λ y. y.switch == x.switch) ss) e
         ∙ ap (λ b. b || list_any (λ y. y.switch == r.switch) ss) (same r.switch)
 
-    behind : (a b : Bool) → b ≡ true → (a || b) ≡ true
-    behind true b e = refl
-    behind false b e = e
+    following : (a b : Bool) → b ≡ true → (a || b) ≡ true
+    following true b e = refl
+    following false b e = e
 
 pub numbers_fit : (topo : Topology) (low : ℕ) (ss : List SwitchPorts) → SwitchesFit low ss → ((s : SwitchPorts) → In ss s → In topo.switches s)
     → NumbersFit topo low (map (λ s. s.switch) ss)
@@ -266,10 +266,10 @@ other m n lt = grind (arith, nat_tests)
 itself : (n : ℕ) → (n == n) ≡ true
 itself n = grind (arith, nat_tests)
 
-groups_found : (before : List Table) (t : Table) (ts : List Table) → TablesBelow t.switch before → groups_of (before ++ t ∷ ts) t.switch ≡ t.groups
-groups_found [] t ts h = ap (λ b. if b then t.groups else groups_of ts t.switch) (itself t.switch)
+groups_found : (before : List Table) (t : Table) (ts : List Table) → TablesBelow t.switch before → groups_at_switch (before ++ t ∷ ts) t.switch ≡ t.groups
+groups_found [] t ts h = ap (λ b. if b then t.groups else groups_at_switch ts t.switch) (itself t.switch)
 groups_found (x ∷ before) t ts h =
-    ap (λ b. if b then x.groups else groups_of (before ++ t ∷ ts) t.switch) (other x.switch t.switch h.0) ∙ groups_found before t ts h.1
+    ap (λ b. if b then x.groups else groups_at_switch (before ++ t ∷ ts) t.switch) (other x.switch t.switch h.0) ∙ groups_found before t ts h.1
 
 rows_found : (before : List Table) (t : Table) (ts : List Table) → TablesBelow t.switch before → rows_of (before ++ t ∷ ts) t.switch ≡ t.rows
 rows_found [] t ts h = ap (λ b. if b then t.rows else rows_of ts t.switch) (itself t.switch)

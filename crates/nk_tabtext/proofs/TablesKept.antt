@@ -14,7 +14,7 @@ use Rattle.nk_field.specs.Packet.{FieldTable, IsFieldTable, IsValue, field_named
 use Rattle.nk_field.specs.Act.{AscendsFrom, lay, act_then}
 use Rattle.nk_field.proofs.Thens.{order, then_ascends}
 use Rattle.nk_prefix.specs.Prefix.{digits_of}
-use Rattle.nk_topo.proofs.Members.{In, InOrder, pairs_from_order, placed_behind, placed_front}
+use Rattle.nk_topo.proofs.Members.{In, InOrder, pairs_from_order, placed_after, placed_front}
 use Rattle.nk_table.specs.declared.Table.{Table}
 use Rattle.nk_table.specs.declared.Row.{Row}
 use Rattle.nk_table.specs.declared.Group.{Group}
@@ -23,7 +23,7 @@ use Rattle.nk_table.specs.declared.Target.{Target}
 use Rattle.nk_table.specs.declared.Target.TheVariants as does
 use Rattle.nk_table.specs.declared.Exit.{Exit}
 use Rattle.nk_table.specs.declared.Exit.TheVariants as exit
-use Rattle.nk_lex.specs.declared.word.Number.{Number}
+use Rattle.nk_lex.specs.declared.ident.Number.{Number}
 use Rattle.nk_lex.specs.Faults.{and_then, first_of}
 use Rattle.nk_tabgrammar.specs.declared.written.Pair.{Pair}
 use Rattle.nk_tabgrammar.specs.declared.written.WrittenMatch.{WrittenMatch}
@@ -204,7 +204,7 @@ put_ascends P low (x ∷ xs) m up all le new p = by (nat_lt x.0 m.0) refl (λ fi
         → Kept (placed_match m (x ∷ xs))
     by true h go =
         let rest = go (less x.0 m.0 h) (other new).1 in
-        subst Kept (sym (placed_behind (λ z. nat_lt z.0 m.0) m x xs h)) ((up.0, rest.0), (all.0, rest.1))
+        subst Kept (sym (placed_after (λ z. nat_lt z.0 m.0) m x xs h)) ((up.0, rest.0), (all.0, rest.1))
     by false h go =
         subst Kept (sym (placed_front (λ z. nat_lt z.0 m.0) m x xs h)) ((le, (more x.0 m.0 h (other new).0, up.1)), (p, all))
 

@@ -24,7 +24,7 @@ use Rattle.nk_declare.specs.Declarations.{DeclaredValue}
 use Rattle.nk_tabtext.specs.Values.{line_if, unless_at, checked, way_read, bucket_with, bucket_read, buckets_read, has_key, group_of, group_fault, group_read, groups_read, target_read, row_with, row_read, rows_read, table_fault, table_with, table_read, tables_read, empty_table, table_for, matches_read}
 use Rattle.nk_tabtext.specs.ReadBack.{IsExit}
 use Rattle.nk_tabtext.proofs.Lines.{number_on, written_way, written_bucket}
-use Rattle.nk_tabtext.proofs.TableLines.{HasOne, group_with, written_group, written_groups, written_target, written_row, written_rows, behind, written_tables}
+use Rattle.nk_tabtext.proofs.TableLines.{HasOne, group_with, written_group, written_groups, written_target, written_row, written_rows, following, written_tables}
 use Rattle.nk_tabtext.specs.InOrder.{MatchesAscend}
 use Rattle.nk_tabtext.proofs.Merging.{AreGood, bucket_pairs}
 use Rattle.nk_tabtext.proofs.Matched.{AreFine, tag_first}
@@ -109,10 +109,10 @@ module _ {X : Type 0} where
       ap (λ o. match_ordering o ((n, x) ∷ e ∷ es) ((e.0, x) ∷ es) (e ∷ insert_entry nat_cmp es n x)) (above_key n e.0 h.0)
       ∙ ap (λ l. e ∷ l) (put_last n es x h.1)
 
-  found_behind : (n : ℕ) (es fs : List (ℕ × X)) → KeysBelow n es → lookup (is_at (nat_cmp n)) (es ++ fs) ≡ lookup (is_at (nat_cmp n)) fs
-  found_behind n [] fs h = refl
-  found_behind n (e ∷ es) fs h =
-      ap (λ o. cond (is_eq o) (Some e.1) (lookup (is_at (nat_cmp n)) (es ++ fs))) (above_key n e.0 h.0) ∙ found_behind n es fs h.1
+  found_after : (n : ℕ) (es fs : List (ℕ × X)) → KeysBelow n es → lookup (is_at (nat_cmp n)) (es ++ fs) ≡ lookup (is_at (nat_cmp n)) fs
+  found_after n [] fs h = refl
+  found_after n (e ∷ es) fs h =
+      ap (λ o. cond (is_eq o) (Some e.1) (lookup (is_at (nat_cmp n)) (es ++ fs))) (above_key n e.0 h.0) ∙ found_after n es fs h.1
 
 -- ---- groups
 
@@ -244,14 +244,14 @@ tables_back version s line low before [] keys h = ap (λ l. Ok l) (sym (append-n
 tables_back version s line low before (t ∷ ts) keys h =
     ap (λ r. and_then r (λ x. tables_read version s (insert_entry nat_cmp before x.switch x) rest)) one
     ∙ ap (λ l. tables_read version s l rest) (put_last t.switch before t below)
-    ∙ tables_back version s (behind rl t.rows) (t.switch + 1) (before ++ table_entry t ∷ []) ts (keys_push (t.switch + 1) before (table_entry t) (keys_more t.switch (t.switch + 1) before (omega arith) below) (omega arith)) h.1
+    ∙ tables_back version s (following rl t.rows) (t.switch + 1) (before ++ table_entry t ∷ []) ts (keys_push (t.switch + 1) before (table_entry t) (keys_more t.switch (t.switch + 1) before (omega arith) below) (omega arith)) h.1
     ∙ ap (λ l. Ok l) (append_assoc before (table_entry t ∷ []) (map table_entry ts))
   where
     rl : ℕ
-    rl = behind (line + 1) t.groups
+    rl = following (line + 1) t.groups
 
     rest : List WrittenTable
-    rest = written_tables s.fields (behind rl t.rows) ts
+    rest = written_tables s.fields (following rl t.rows) ts
 
     below : KeysBelow t.switch before
     below = keys_more low t.switch before h.0.0 keys
@@ -281,7 +281,7 @@ each_is low before [] keys h = refl
 each_is low before (t ∷ ts) keys h =
     let below = keys_more low t.switch before h.0 keys in
     let this : table_for (before ++ table_entry t ∷ map table_entry ts) t.switch ≡ t =
-    ap (λ o. unwrap_or o (empty_table t.switch)) (found_behind t.switch before (table_entry t ∷ map table_entry ts) below
+    ap (λ o. unwrap_or o (empty_table t.switch)) (found_after t.switch before (table_entry t ∷ map table_entry ts) below
     ∙ ap (λ b. cond b (Some t) (lookup (is_at (nat_cmp t.switch)) (map table_entry ts))) (same_key t.switch)) in
     ap (λ x. x ∷ map (table_for (before ++ table_entry t ∷ map table_entry ts)) (map (λ u. u.switch) ts)) this
     ∙ ap (λ l. t ∷ map (table_for l) (map (λ u. u.switch) ts)) (sym (append_assoc before (table_entry t ∷ []) (map table_entry ts)))

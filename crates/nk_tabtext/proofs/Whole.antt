@@ -143,7 +143,7 @@ goes_on (Stopped l) p t g = absurd g
 
 -- ---- the end
 
--- what is known behind the end
+-- what is known after the end
 abbrev known_end : Tells → KnownValue → KnownValue
 known_end tl (Sound p) = Sound (end_told tl p)
 known_end tl k = k

@@ -11,7 +11,7 @@ use Rattle.nk_topo.specs.Topology.{SwitchPorts, Topology, IsTopology}
 use Rattle.nk_topo.proofs.Members.{In, InOrder, order_from_pairs}
 use Rattle.nk_table.proofs.Crossing.{joined_mapped}
 use Rattle.nk_table.specs.declared.Table.{Table}
-use Rattle.nk_table.specs.Rules.{rows_of, groups_of}
+use Rattle.nk_table.specs.Rules.{rows_of, groups_at_switch}
 use Rattle.nk_tabtext.specs.declared.writer.TableWriter.{TableWriter}
 use Rattle.nk_tabtext.specs.Text.{fields_text, group_text, have_prefix, row_text, section_text, table_bytes, tag_text, topology_text, version_of, version_text}
 use Rattle.nk_tabtext.specs.Written.{HasWritten, head_text, own_section_text, some_prefix, switch_line_text, version_with}
@@ -77,8 +77,8 @@ module _ (fields : FieldTable) (topo : Topology) (tables : List Table) (is : IsT
   rows_own : (t : Table) → In tables t → rows_of tables t.switch ≡ t.rows
   rows_own t i = own_found (λ u. u.rows) rows_of (λ u us sw. refl) tables t up i
 
-  groups_own : (t : Table) → In tables t → groups_of tables t.switch ≡ t.groups
-  groups_own t i = own_found (λ u. u.groups) groups_of (λ u us sw. refl) tables t up i
+  groups_own : (t : Table) → In tables t → groups_at_switch tables t.switch ≡ t.groups
+  groups_own t i = own_found (λ u. u.groups) groups_at_switch (λ u us sw. refl) tables t up i
 
   -- the section at a table's switch is the table's own
   section_own : (t : Table) → In tables t → section_text fields tables t.switch ≡ own_section_text fields t
@@ -150,7 +150,7 @@ module _ (fields : FieldTable) (topo : Topology) (tables : List Table) (t : Tabl
       last_apart : (v w x y z s : List ℕ) → v ++ (w ++ x ++ y ++ z) ++ s ≡ v ++ w ++ x ++ y ++ (z ++ s)
       last_apart v w x y z s = simp append_assoc
 
-  -- the writer has written one more table: first it told of its prefixes, and then it put the table behind its text
+  -- the writer has written one more table: first it told of its prefixes, and then it put the table after its text
   pub written_more : (w v u : TableWriter) → HasWritten fields topo tables w → v.fields.now ≡ w.fields.now
       → v.prefixes ≡ (w.prefixes || have_prefix w.fields.now t.rows)
       → ((rest : List ℕ) → w.text.items ≡ version_text (version_with w.prefixes) ++ rest → v.text.items ≡ version_text (version_with v.prefixes) ++ rest)

@@ -6,8 +6,8 @@ use Rattle.std.specs.List.{list_any}
 use Rattle.std.specs.Ordering.{nat_cmp}
 use Rattle.std.specs.BTreeMap.{insert_entry}
 use Rattle.nk_lex.specs.declared.token.Token.{Token}
-use Rattle.nk_lex.specs.declared.word.Number.{Number}
-use Rattle.nk_lex.specs.declared.word.Word.{Word}
+use Rattle.nk_lex.specs.declared.ident.Number.{Number}
+use Rattle.nk_lex.specs.declared.ident.Ident.{Ident}
 use Rattle.nk_lex.specs.Faults.{first_of}
 use Rattle.nk_field.specs.Packet.{FieldTable, field_named}
 use Rattle.nk_field.specs.Act.{act_then}
@@ -42,7 +42,7 @@ abbrev pub number_of_token : Token → Number
 number_of_token t = record { value = t.value; line = t.line }
 
 -- the word that a token is
-abbrev pub word_of_token : Token → Word
+abbrev pub word_of_token : Token → Ident
 word_of_token t = record { text = t.text; line = t.line }
 
 -- ---- declarations
@@ -50,7 +50,7 @@ word_of_token t = record { text = t.text; line = t.line }
 -- what is declared, and what is told of the declaration that is read
 pub record DeclaringValue : Type 0 where
   pub said : DeclaredValue
-  pub name : Word
+  pub name : Ident
   pub switch : ℕ
   pub ports : List ℕ
   pub from_switch : Number

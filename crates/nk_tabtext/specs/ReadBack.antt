@@ -46,7 +46,7 @@ IsPrintableTarget fields groups (does.Bucket b) = IsPrintableBucket fields b
 IsPrintableTarget fields groups (does.Group n) = list_any (λ g. g.number == n) groups ≡ true
 IsPrintableTarget fields groups does.Discard = ⊤
 
--- a match has a value in its field's range of which one digit counts or more, up to all, and zeros behind those
+-- a match has a value in its field's range of which one digit counts or more, up to all, and zeros after those
 pub record IsPrintableMatch (fields : FieldTable) (m : ℕ × ℕ × ℕ) : Type 0 where
   pub value : IsValue fields m.0 m.1
   pub some : 1 ≤ m.2

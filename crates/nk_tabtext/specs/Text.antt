@@ -18,7 +18,7 @@ use Rattle.nk_table.specs.declared.Target.{Target}
 use Rattle.nk_table.specs.declared.Target.TheVariants as target
 use Rattle.nk_table.specs.declared.Exit.{Exit}
 use Rattle.nk_table.specs.declared.Exit.TheVariants.{Back, Port}
-use Rattle.nk_table.specs.Rules.{rows_of, groups_of}
+use Rattle.nk_table.specs.Rules.{rows_of, groups_at_switch}
 
 -- the line of a declared field
 abbrev pub field_text : List ℕ → ℕ → List ℕ
@@ -30,7 +30,7 @@ field_lines [] maxima = []
 field_lines (name ∷ names) [] = []
 field_lines (name ∷ names) (max ∷ maxima) = field_text name max ++ field_lines names maxima
 
--- the lines of the declared fields: those behind the switch and the port
+-- the lines of the declared fields: those after the switch and the port
 abbrev pub fields_text : FieldTable → List ℕ
 fields_text fs = field_lines (drop 2 fs.names) (drop 2 fs.maxima)
 
@@ -76,11 +76,11 @@ is_exact fs m = m.2 == digits_of (slice_index fs.maxima m.0)
 abbrev pub length_text : FieldTable → ℕ × ℕ × ℕ → List ℕ
 length_text fs m = if is_exact fs m then [] else codes "/" ++ decimal m.2
 
--- one match, with a space behind it
+-- one match, with a space after it
 abbrev pub match_text : FieldTable → ℕ × ℕ × ℕ → List ℕ
 match_text fs m = name_of fs m.0 ++ codes "=" ++ decimal m.1 ++ length_text fs m ++ codes " "
 
--- one assignment, with a space behind it
+-- one assignment, with a space after it
 abbrev pub set_text : FieldTable → ℕ × ℕ → List ℕ
 set_text fs a = name_of fs a.0 ++ codes ":=" ++ decimal a.1 ++ codes " "
 
@@ -138,7 +138,7 @@ group_text fs g =
 
 -- the groups and rows of a switch
 abbrev pub rules_text : FieldTable → List Table → ℕ → List ℕ
-rules_text fs tables sw = flat_map (group_text fs) (groups_of tables sw) ++ flat_map (row_text fs) (rows_of tables sw)
+rules_text fs tables sw = flat_map (group_text fs) (groups_at_switch tables sw) ++ flat_map (row_text fs) (rows_of tables sw)
 
 -- the table of a switch; one that has none among the tables has an empty one
 abbrev pub section_text : FieldTable → List Table → ℕ → List ℕ
@@ -146,13 +146,13 @@ section_text fs tables sw = codes "table " ++ decimal sw ++ codes "\n" ++ rules_
 
 -- in the second tables each switch from that one on has the groups and rows that it has in the first
 abbrev pub AreTablesFrom : ℕ → List Table → List Table → Type 0
-AreTablesFrom sw all rest = (n : ℕ) → sw ≤ n → (rows_of rest n ≡ rows_of all n) × (groups_of rest n ≡ groups_of all n)
+AreTablesFrom sw all rest = (n : ℕ) → sw ≤ n → (rows_of rest n ≡ rows_of all n) × (groups_at_switch rest n ≡ groups_at_switch all n)
 
 -- whether some match of these rows is a prefix
 abbrev pub have_prefix : FieldTable → List Row → Bool
 have_prefix fs rows = list_any (λ r. list_any (λ m. not (is_exact fs m)) r.matches) rows
 
--- the number behind the word `tables`: 2 where some match of a switch's rows is a prefix
+-- the number after the word `tables`: 2 where some match of a switch's rows is a prefix
 abbrev pub version_of : Tables → ℕ
 version_of t = if list_any (λ s. have_prefix t.fields (rows_of t.tables s.switch)) t.topo.switches then 2 else 1
 

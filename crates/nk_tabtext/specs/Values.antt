@@ -25,8 +25,8 @@ use Rattle.nk_table.specs.declared.Target.{Target}
 use Rattle.nk_table.specs.declared.Target.TheVariants as does
 use Rattle.nk_table.specs.declared.Exit.{Exit}
 use Rattle.nk_table.specs.declared.Exit.TheVariants as exit
-use Rattle.nk_lex.specs.declared.word.Word.{Word}
-use Rattle.nk_lex.specs.declared.word.Number.{Number}
+use Rattle.nk_lex.specs.declared.ident.Ident.{Ident}
+use Rattle.nk_lex.specs.declared.ident.Number.{Number}
 use Rattle.nk_lex.specs.Faults.{and_then, first_of}
 use Rattle.nk_tabgrammar.specs.declared.written.Pair.{Pair}
 use Rattle.nk_tabgrammar.specs.declared.written.WrittenMatch.{WrittenMatch}
@@ -97,7 +97,7 @@ said_after ds s = read_of (declared_after (map plain_declaration ds) s)
 -- ---- the tables of switches
 
 -- a field with a value: its name is that of a field from `low` on which is not taken, and the value is in its range
-abbrev pub value_fault : FieldTable → (low : ℕ) → (taken : Bool) → Word → Number → FaultLine
+abbrev pub value_fault : FieldTable → (low : ℕ) → (taken : Bool) → Ident → Number → FaultLine
 value_fault fields low taken w n =
     first_of
     (first_of
@@ -105,7 +105,7 @@ value_fault fields low taken w n =
     (line_if taken w.line))
     (line_above (most_in fields w) n)
 
--- an assignment behind others: its field, from `low` on, has none of them
+-- an assignment after others: its field, from `low` on, has none of them
 abbrev pub pair_fault : FieldTable → (low : ℕ) → List (ℕ × ℕ) → Pair → FaultLine
 pair_fault fields low before p =
     value_fault fields low (list_any (λ s. s.0 == place_of_field fields p.name) before) p.name p.number
@@ -121,7 +121,7 @@ pairs_read fields low before (p ∷ ps) =
     and_then (pair_read fields low before p) (λ s. pairs_read fields low (act_then before (s ∷ [])) ps)
 
 -- how many binary digits a field's largest value has
-abbrev pub digits_in : FieldTable → Word → ℕ
+abbrev pub digits_in : FieldTable → Ident → ℕ
 digits_in fields w = digits_of (most_in fields w)
 
 -- how many of so many digits count: as many as are written, else all
@@ -135,11 +135,11 @@ length_fault version digits None = None
 length_fault version digits (Some l) =
     line_if (not (version == 2) || ((l.value == 0) || nat_lt digits l.value)) l.line
 
--- behind the digits that count a value has zeros
+-- after the digits that count a value has zeros
 abbrev pub ones_fault : (digits length : ℕ) → Number → FaultLine
 ones_fault digits length n = line_if (not (n.value % 2 ^ (digits - length) == 0)) n.line
 
--- a match behind others: its field, but the switch, has none of them; last it is looked at its digits
+-- a match after others: its field, but the switch, has none of them; last it is looked at its digits
 abbrev pub match_fault : (version : ℕ) → FieldTable → List (ℕ × ℕ × ℕ) → WrittenMatch → FaultLine
 match_fault version fields before m =
     let digits = digits_in fields m.name in
@@ -153,7 +153,7 @@ match_read version fields before m =
     unless_at (match_fault version fields before m)
     (place_of_field fields m.name, m.number.value, length_in (digits_in fields m.name) m.length)
 
--- a match put behind those of lower fields
+-- a match put after those of lower fields
 abbrev pub placed_match : ℕ × ℕ × ℕ → List (ℕ × ℕ × ℕ) → List (ℕ × ℕ × ℕ)
 placed_match m before = placed (λ x. nat_lt x.0 m.0) m before
 
@@ -177,7 +177,7 @@ abbrev pub bucket_read : FieldTable → WrittenBucket → Result Bucket ReadErro
 bucket_read fields b =
     and_then (pairs_read fields 2 [] b.sets) (λ sets. and_then (way_read b.way) (λ e. Ok (bucket_with sets e)))
 
--- buckets behind others
+-- buckets after others
 abbrev pub buckets_read : FieldTable → List Bucket → List WrittenBucket → Result (List Bucket) ReadError
 buckets_read fields before [] = Ok before
 buckets_read fields before (b ∷ bs) =
@@ -195,13 +195,13 @@ group_fault before n = line_if ((n.value == 0) || has_key before n.value) n.line
 abbrev pub group_of : Number → List Bucket → Group
 group_of n bs = record { number = n.value; buckets = bs }
 
--- a group behind others
+-- a group after others
 abbrev pub group_read : FieldTable → List (ℕ × Group) → WrittenGroup → Result Group ReadError
 group_read fields before g =
     checked (group_fault before g.number)
     (and_then (bucket_read fields g.first) (λ b. and_then (buckets_read fields (b ∷ []) g.more) (λ bs. Ok (group_of g.number bs))))
 
--- groups behind others, by number
+-- groups after others, by number
 abbrev pub groups_read : FieldTable → List (ℕ × Group) → List WrittenGroup → Result (List (ℕ × Group)) ReadError
 groups_read fields before [] = Ok before
 groups_read fields before (g ∷ gs) =
@@ -223,7 +223,7 @@ row_read version fields groups r =
     checked (line_above 65535 r.priority)
     (and_then (matches_read version fields [] r.matches) (λ ms. and_then (target_read fields groups r.target) (λ t. Ok (row_with r.priority ms t))))
 
--- rows behind others
+-- rows after others
 abbrev pub rows_read : (version : ℕ) → FieldTable → List (ℕ × Group) → List Row → List WrittenRow → Result (List Row) ReadError
 rows_read version fields groups before [] = Ok before
 rows_read version fields groups before (r ∷ rs) =
@@ -238,13 +238,13 @@ table_fault topo before n =
 abbrev pub table_with : Number → List (ℕ × Group) → List Row → Table
 table_with n groups rows = record { switch = n.value; groups = map (λ e. e.1) groups; rows = rows }
 
--- a table behind others
+-- a table after others
 abbrev pub table_read : (version : ℕ) → DeclaredValue → List (ℕ × Table) → WrittenTable → Result Table ReadError
 table_read version s before t =
     checked (table_fault s.topo before t.switch)
     (and_then (groups_read s.fields [] t.groups) (λ gs. and_then (rows_read version s.fields gs [] t.rows) (λ rs. Ok (table_with t.switch gs rs))))
 
--- tables behind others, by switch
+-- tables after others, by switch
 abbrev pub tables_read : (version : ℕ) → DeclaredValue → List (ℕ × Table) → List WrittenTable → Result (List (ℕ × Table)) ReadError
 tables_read version s before [] = Ok before
 tables_read version s before (t ∷ ts) =
@@ -260,7 +260,7 @@ table_for tables sw = unwrap_or (lookup (is_at (nat_cmp sw)) tables) (empty_tabl
 
 -- ---- the whole
 
--- the number behind the word `tables` is 1 or 2
+-- the number after the word `tables` is 1 or 2
 abbrev pub version_fault : Number → FaultLine
 version_fault n = line_if (not ((n.value == 1) || (n.value == 2))) n.line
 

@@ -33,11 +33,11 @@ some_prefix fs tables = list_any (λ t. have_prefix fs t.rows) tables
 abbrev pub version_with : Bool → ℕ
 version_with prefixes = if prefixes then 2 else 1
 
--- the writer has put these tables, in this order, behind the lines of these fields and this topology
+-- the writer has put these tables, in this order, after the lines of these fields and this topology
 pub record HasWritten (fields : FieldTable) (topo : Topology) (tables : List Table) (w : TableWriter) : Type 0 where
   -- it prints by these fields
   pub same_fields : w.fields.now ≡ fields
   -- it knows whether some match so far is a prefix
   pub prefixes : w.prefixes ≡ some_prefix fields tables
-  -- its text has the first lines, of the version that this asks for, and behind them the tables
+  -- its text has the first lines, of the version that this asks for, and after them the tables
   pub text : w.text.items ≡ head_text (version_with w.prefixes) fields topo ++ flat_map (own_section_text fields) tables

@@ -1,19 +1,19 @@
 //! What a table text declares, token by token.
 ghost use Rattle.std.specs.Prelude.{◌≡◌, IfOk, OnErr, OnOk};
-ghost use Rattle.nk_tabgrammar.specs.Machine.{Returns};
+ghost use Rattle.nk_tabgrammar.specs.Machine.{TableParseReturns};
 ghost use Rattle.nk_tabtext.specs.InMemory.{declaring_in};
 ghost use Rattle.nk_tabtext.specs.Progress.{StaysWithoutMemory, first_declaring, field_max_told, field_name_told, link_told, number_of_token, port_told, switch_ends_told, switch_told, tag_told};
 ghost use Rattle.nk_tabtext.specs.Values as meaning;
 
 use nk_declare::{DeclareError, Declared, Ports};
-use nk_lex::{Bytes, Number, Token, Word, word_of};
+use nk_lex::{Bytes, Ident, Number, Token, ident_of};
 use nk_tabgrammar::ReadError;
 use std::alloc::{AllocError, Global};
 
 /// What is declared, and what is told so far of the declaration that is read.
 pub(crate) struct Declaring {
     pub(crate) said: Declared,
-    name: Word,
+    name: Ident,
     switch: u16,
     ports: Ports,
     from_switch: Number,
@@ -64,7 +64,7 @@ impl Declaring {
         let none = Number { value: 0, line: 0 };
         Ok(Declaring {
             said: Declared::new(alloc)?,
-            name: Word {
+            name: Ident {
                 text: Bytes::new(alloc),
                 line: 0,
             },
@@ -78,16 +78,16 @@ impl Declaring {
 
     /// The name of a field.
     pub(crate) fn field_name(&mut self, alloc: Global, token: &Token) -> Result<(), ReadError>
-        ensures told { Returns (λ _. declaring_in self.new) result (field_name_told (declaring_in self.old) token.now) }
+        ensures told { TableParseReturns (λ _. declaring_in self.new) result (field_name_told (declaring_in self.old) token.now) }
         ensures kept { StaysWithoutMemory result (declaring_in self.old) (declaring_in self.new) }
     {
-        self.name = word_of(alloc, token)?;
+        self.name = ident_of(alloc, token)?;
         Ok(())
     }
 
     /// The largest value of the field.
     pub(crate) fn field_max(&mut self, token: &Token) -> Result<(), ReadError>
-        ensures told { Returns (λ _. declaring_in self.new) result (field_max_told (declaring_in self.old) token.now) }
+        ensures told { TableParseReturns (λ _. declaring_in self.new) result (field_max_told (declaring_in self.old) token.now) }
         ensures kept { StaysWithoutMemory result (declaring_in self.old) (declaring_in self.new) }
     {
         match self.said.add_field(&self.name, number_in(token)) {
@@ -98,7 +98,7 @@ impl Declaring {
 
     /// The name of the tag.
     pub(crate) fn tag(&mut self, token: &Token) -> Result<(), ReadError>
-        ensures told { Returns (λ _. declaring_in self.new) result (tag_told (declaring_in self.old) token.now) }
+        ensures told { TableParseReturns (λ _. declaring_in self.new) result (tag_told (declaring_in self.old) token.now) }
         ensures kept { StaysWithoutMemory result (declaring_in self.old) (declaring_in self.new) }
     {
         match self.said.add_tag(token.text.as_slice(), token.line) {
@@ -109,7 +109,7 @@ impl Declaring {
 
     /// The number of a switch.
     pub(crate) fn switch(&mut self, alloc: Global, token: &Token) -> Result<(), ReadError>
-        ensures told { Returns (λ _. declaring_in self.new) result (switch_told (declaring_in self.old) token.now) }
+        ensures told { TableParseReturns (λ _. declaring_in self.new) result (switch_told (declaring_in self.old) token.now) }
         ensures kept { StaysWithoutMemory result (declaring_in self.old) (declaring_in self.new) }
     {
         match self.said.new_switch(number_in(token)) {
@@ -124,7 +124,7 @@ impl Declaring {
 
     /// A port of the switch.
     pub(crate) fn port(&mut self, token: &Token) -> Result<(), ReadError>
-        ensures told { Returns (λ _. declaring_in self.new) result (port_told (declaring_in self.old) token.now) }
+        ensures told { TableParseReturns (λ _. declaring_in self.new) result (port_told (declaring_in self.old) token.now) }
         ensures kept { StaysWithoutMemory result (declaring_in self.old) (declaring_in self.new) }
     {
         match self.ports.add(number_in(token)) {
@@ -167,7 +167,7 @@ impl Declaring {
 
     /// The target's port.
     pub(crate) fn link_to_port(&mut self, token: &Token) -> Result<(), ReadError>
-        ensures told { Returns (λ _. declaring_in self.new) result (link_told (declaring_in self.old) token.now) }
+        ensures told { TableParseReturns (λ _. declaring_in self.new) result (link_told (declaring_in self.old) token.now) }
         ensures kept { StaysWithoutMemory result (declaring_in self.old) (declaring_in self.new) }
     {
         let to_port = number_in(token);

@@ -1,7 +1,7 @@
 //! The table of a switch, token by token.
 ghost use Rattle.std.specs.Prelude.{◌≡◌, ◌<◌, [], length, vec_capacity, vec_len, None, OnErr, OnOk};
 ghost use Rattle.nk_declare.specs.InMemory.{declared_in};
-ghost use Rattle.nk_tabgrammar.specs.Machine.{Returns};
+ghost use Rattle.nk_tabgrammar.specs.Machine.{TableParseReturns};
 ghost use Rattle.nk_tabtext.specs.InMemory.{filling_in};
 ghost use Rattle.nk_tabtext.specs.Progress.{
   StaysWithoutMemory,
@@ -114,7 +114,7 @@ impl Filling {
         tables: &mut Tabled,
         token: &Token,
     ) -> Result<(), ReadError>
-        ensures told { Returns (λ _. (filling_in self.new, tables.new.entries)) result
+        ensures told { TableParseReturns (λ _. (filling_in self.new, tables.new.entries)) result
             (table_told (declared_in said.now) tables.old.entries (filling_in self.old) token.now) }
         ensures kept { StaysWithoutMemory result (filling_in self.old) (filling_in self.new) }
         ensures same { StaysWithoutMemory result tables.old.entries tables.new.entries }
@@ -157,7 +157,7 @@ impl Filling {
     /// The number of a group.
     #[inline(never)]
     pub(crate) fn group(&mut self, alloc: Global, token: &Token) -> Result<(), ReadError>
-        ensures told { Returns (λ _. filling_in self.new) result (group_told (filling_in self.old) token.now) }
+        ensures told { TableParseReturns (λ _. filling_in self.new) result (group_told (filling_in self.old) token.now) }
         ensures kept { StaysWithoutMemory result (filling_in self.old) (filling_in self.new) }
     {
         let number = token.value;
@@ -203,7 +203,7 @@ impl Filling {
 
     /// The name of a field that the bucket assigns.
     pub(crate) fn set_name(&mut self, fields: &Fields, token: &Token) -> Result<(), ReadError>
-        ensures told { Returns (λ _. filling_in self.new) result (set_name_told fields.now (filling_in self.old) token.now) }
+        ensures told { TableParseReturns (λ _. filling_in self.new) result (set_name_told fields.now (filling_in self.old) token.now) }
         ensures kept { StaysWithoutMemory result (filling_in self.old) (filling_in self.new) }
     {
         match field_with(fields, token.text.as_slice()) {
@@ -221,7 +221,7 @@ impl Filling {
     /// The value of the assigned field.
     #[inline(never)]
     pub(crate) fn set_value(&mut self, alloc: Global, token: &Token) -> Result<(), ReadError>
-        ensures told { Returns (λ _. filling_in self.new) result (set_value_told (filling_in self.old) token.now) }
+        ensures told { TableParseReturns (λ _. filling_in self.new) result (set_value_told (filling_in self.old) token.now) }
         ensures kept { StaysWithoutMemory result (filling_in self.old) (filling_in self.new) }
     {
         refuse_if(self.max < token.value, token.line)?;
@@ -232,7 +232,7 @@ impl Filling {
 
     /// The port to which the bucket sends.
     pub(crate) fn out_port(&mut self, token: &Token) -> Result<(), ReadError>
-        ensures told { Returns (λ _. filling_in self.new) result (out_port_told (filling_in self.old) token.now) }
+        ensures told { TableParseReturns (λ _. filling_in self.new) result (out_port_told (filling_in self.old) token.now) }
         ensures kept { StaysWithoutMemory result (filling_in self.old) (filling_in self.new) }
     {
         self.exit = Exit::Port(small(number_in(token))?);
@@ -248,7 +248,7 @@ impl Filling {
 
     /// The priority of a row.
     pub(crate) fn row(&mut self, token: &Token) -> Result<(), ReadError>
-        ensures told { Returns (λ _. filling_in self.new) result (row_told (filling_in self.old) token.now) }
+        ensures told { TableParseReturns (λ _. filling_in self.new) result (row_told (filling_in self.old) token.now) }
         ensures kept { StaysWithoutMemory result (filling_in self.old) (filling_in self.new) }
     {
         self.priority = small(number_in(token))?;
@@ -257,7 +257,7 @@ impl Filling {
 
     /// The name of a field that the row matches.
     pub(crate) fn match_name(&mut self, fields: &Fields, token: &Token) -> Result<(), ReadError>
-        ensures told { Returns (λ _. filling_in self.new) result (match_name_told fields.now (filling_in self.old) token.now) }
+        ensures told { TableParseReturns (λ _. filling_in self.new) result (match_name_told fields.now (filling_in self.old) token.now) }
         ensures kept { StaysWithoutMemory result (filling_in self.old) (filling_in self.new) }
     {
         match field_with(fields, token.text.as_slice()) {
@@ -274,7 +274,7 @@ impl Filling {
 
     /// The value of the matched field. The match is the exact one, unless a length follows.
     pub(crate) fn match_value(&mut self, token: &Token) -> Result<(), ReadError>
-        ensures told { Returns (λ _. filling_in self.new) result (match_value_told (filling_in self.old) token.now) }
+        ensures told { TableParseReturns (λ _. filling_in self.new) result (match_value_told (filling_in self.old) token.now) }
         ensures kept { StaysWithoutMemory result (filling_in self.old) (filling_in self.new) }
     {
         refuse_if(self.max < token.value, token.line)?;
@@ -286,7 +286,7 @@ impl Filling {
 
     /// How many digits of the value count.
     pub(crate) fn match_length(&mut self, version: u64, token: &Token) -> Result<(), ReadError>
-        ensures told { Returns (λ _. filling_in self.new) result (match_length_told version (filling_in self.old) token.now) }
+        ensures told { TableParseReturns (λ _. filling_in self.new) result (match_length_told version (filling_in self.old) token.now) }
         ensures kept { StaysWithoutMemory result (filling_in self.old) (filling_in self.new) }
     {
         let digits = digits_of(self.max);
@@ -327,7 +327,7 @@ impl Filling {
     /// The row's target is a group.
     #[inline(never)]
     pub(crate) fn row_group(&mut self, alloc: Global, token: &Token) -> Result<(), ReadError>
-        ensures told { Returns (λ _. filling_in self.new) result (row_group_told (filling_in self.old) token.now) }
+        ensures told { TableParseReturns (λ _. filling_in self.new) result (row_group_told (filling_in self.old) token.now) }
         ensures kept { StaysWithoutMemory result (filling_in self.old) (filling_in self.new) }
     {
         refuse_if(!self.groups.contains_key(&token.value), token.line)?;

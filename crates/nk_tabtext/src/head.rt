@@ -1,4 +1,4 @@
-//! The first line and the lines of fields, tag, switches and links, each put behind a text.
+//! The first line and the lines of fields, tag, switches and links, each put after a text.
 ghost use Rattle.std.specs.Prelude.{◌≡◌, ◌++◌, ◌<◌, length, slice_index, codes, OnOk};
 ghost use Rattle.std.specs.Fmt.{decimal};
 ghost use Rattle.std.specs.List.{flat_map};
@@ -117,14 +117,14 @@ fn commas(out: &mut Vec<u8>, ports: &[u16]) -> Result<(), AllocError>
     match ports.split_first() {
         Some((first, rest)) => {
             number(out, *first as u64)?;
-            behind_commas(out, rest)
+            after_commas(out, rest)
         }
         None => Ok(()),
     }
 }
 
 /// Ports, a comma before each.
-fn behind_commas(out: &mut Vec<u8>, ports: &[u16]) -> Result<(), AllocError>
+fn after_commas(out: &mut Vec<u8>, ports: &[u16]) -> Result<(), AllocError>
     ensures { OnOk result (out.new.items ≡ out.old.items ++ flat_map (λ q. codes "," ++ decimal q) ports.now) }
 {
     for port in ports {

@@ -7,7 +7,7 @@ ghost use Rattle.nk_tabtext.specs.ReadBack.{AnswersPrintable, ReadsPrintedTables
 /// and largest values can be declared, a tag among them; each switch has a port and exactly one table, in the order of
 /// the switches; groups ascend by number and have a bucket; matches and assignments ascend by field. A match is of a
 /// field but the switch, with a value in its range; at least one digit of the value counts, at most as many as the
-/// field's largest value has, and the digits behind those are zeros.
+/// field's largest value has, and the digits after those are zeros.
 pub fn printed_tables_are_read()
     ensures { ReadsPrintedTables }
 {}

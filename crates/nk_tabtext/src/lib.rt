@@ -2,7 +2,7 @@
 //!
 //! A match is a field, a value and how many of the value's first binary digits count; the value has as many digits as the
 //! field's largest value. All of them count where no length is written. A match that can be printed and read back is of a
-//! field but the switch, its value is in the field's range, at least one digit counts, and the digits behind those that
+//! field but the switch, its value is in the field's range, at least one digit counts, and the digits after those that
 //! count are zeros.
 #![tactic(auto)]
 
@@ -38,7 +38,7 @@ pub use writer::TableWriter;
 /// The printed text of tables: `tables 2` where some match is a prefix, else `tables 1`; then a line for each declared
 /// field, for the tag, each switch and each link, and the table of each switch with its groups and rows. Switches, ports
 /// and links ascend, and so do groups, matches and assignments; rows stand in their order. A match whose length isn't all
-/// of its field's digits is a prefix here, and has its length behind a `/`. The only error is that memory ran out.
+/// of its field's digits is a prefix here, and has its length after a `/`. The only error is that memory ran out.
 pub fn table_text(alloc: Global, t: &Tables) -> Result<Vec<u8>, AllocError>
     requires { AreInOrder t.now }
     ensures { IfOk result (λ v. v.items ≡ table_bytes t.now) }
@@ -57,14 +57,14 @@ fn sections(out: &mut Vec<u8>, t: &Tables, numbers: &[u16]) -> Result<(), AllocE
     let mut rest = t.tables.as_slice();
     let mut last = 0;
     for n in numbers {
-        rest = rules::behind(t.tables.as_slice(), rest, last, *n);
+        rest = rules::following(t.tables.as_slice(), rest, last, *n);
         rules::section(out, &t.fields, rest, *n)?;
         last = *n;
     }
     Ok(())
 }
 
-/// Puts a number behind a text.
+/// Puts a number after a text.
 fn number(out: &mut Vec<u8>, n: u64) -> Result<(), AllocError>
     ensures { OnOk result (out.new.items ≡ out.old.items ++ decimal n) }
 {
@@ -75,7 +75,7 @@ fn number(out: &mut Vec<u8>, n: u64) -> Result<(), AllocError>
     long_number(out, n)
 }
 
-/// Puts a number of two digits or more behind a text.
+/// Puts a number of two digits or more after a text.
 #[inline(never)]
 fn long_number(out: &mut Vec<u8>, n: u64) -> Result<(), AllocError>
     requires { 10 ≤ n }

@@ -1,7 +1,7 @@
 //! What is known of a table text whose first tokens were read and broke no rule.
 ghost use Rattle.std.specs.Prelude.{◌≡◌, IfOk, OnOk};
 ghost use Rattle.nk_declare.specs.InMemory.{declared_in};
-ghost use Rattle.nk_tabgrammar.specs.Machine.{Returns};
+ghost use Rattle.nk_tabgrammar.specs.Machine.{TableParseReturns};
 ghost use Rattle.nk_tabtext.specs.InMemory.{partial_in};
 ghost use Rattle.nk_tabtext.specs.Progress.{StaysWithoutMemory, end_told, first_partial, tables_at_end, told, version_told};
 ghost use Rattle.nk_tabtext.specs.Values.{whole};
@@ -54,9 +54,9 @@ impl Partial {
         })
     }
 
-    /// The number behind the word `tables`.
+    /// The number after the word `tables`.
     fn version(&mut self, token: &Token) -> Result<(), ReadError>
-        ensures told { Returns (λ _. partial_in self.new) result (version_told (partial_in self.old) token.now) }
+        ensures told { TableParseReturns (λ _. partial_in self.new) result (version_told (partial_in self.old) token.now) }
         ensures kept { StaysWithoutMemory result (partial_in self.old) (partial_in self.new) }
     {
         refuse_if(token.value != 1 && token.value != 2, token.line)?;
@@ -71,7 +71,7 @@ impl Partial {
         tells: Tells,
         token: &Token,
     ) -> Result<(), ReadError>
-        ensures told { Returns (λ _. partial_in self.new) result (told tells (partial_in self.old) token.now) }
+        ensures told { TableParseReturns (λ _. partial_in self.new) result (told tells (partial_in self.old) token.now) }
         ensures kept { StaysWithoutMemory result (partial_in self.old) (partial_in self.new) }
     {
         match tells {
@@ -120,7 +120,7 @@ impl Partial {
 
     /// The tables, where the text ends here and this is what its end tells; `line` is the last token's.
     pub(crate) fn end(self, alloc: Global, tells: Tells, line: u64) -> Result<Tables, ReadError>
-        ensures { Returns (λ t. t) result (tables_at_end tells (partial_in self) line) }
+        ensures { TableParseReturns (λ t. t) result (tables_at_end tells (partial_in self) line) }
     {
         let mut partial = self;
         partial.tell_end(alloc, tells)?;

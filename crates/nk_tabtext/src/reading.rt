@@ -3,7 +3,7 @@ ghost use Rattle.std.specs.Prelude.{◌≡◌, ℕ, ◌++◌, ◌∷◌, List, [
 ghost use Rattle.nk_lex.specs.declared.token.Token.{Token};
 ghost use Rattle.nk_lex.specs.Lex.{tokens_of};
 ghost use Rattle.nk_tabgrammar.specs.Answer.{terminals};
-ghost use Rattle.nk_tabgrammar.specs.Machine.{Returns};
+ghost use Rattle.nk_tabgrammar.specs.Machine.{TableParseReturns};
 ghost use Rattle.nk_tabgrammar.specs.Spelling.{TableTextGoesOn};
 ghost use Rattle.nk_tabtext.specs.InMemory.{known_in};
 ghost use Rattle.nk_tabtext.specs.Progress.{IsStopped, IsTaken, Stopped, line_of_fault, is_stopped, known_after, progress_after, tables_of_progress, with_fault};
@@ -179,7 +179,7 @@ impl TableReader {
 
     /// What is known of the tokens, where they end.
     fn known_at_end(self, alloc: Global) -> Result<Tables, ReadError>
-        ensures { Returns (λ t. t) result (tables_of_progress self) }
+        ensures { TableParseReturns (λ t. t) result (tables_of_progress self) }
     {
         let TableReader { state, line, known } = self;
         match known {
@@ -198,7 +198,7 @@ impl TableReader {
     /// The tables of the tokens that were taken, or their first fault with its line, as `read_tables` says. It spends the value,
     /// refused or not.
     pub fn end(self, alloc: Global) -> Result<Tables, ReadError>
-        ensures tables { (ts : List Token) → IsTaken ts self → Returns (λ t. t) result (tables_of_tokens ts) }
+        ensures tables { (ts : List Token) → IsTaken ts self → TableParseReturns (λ t. t) result (tables_of_tokens ts) }
         ensures printable { (text : List ℕ) (ts : List Token) → tokens_of text ≡ Ok ts → IsTaken ts self → IfOk result ArePrintableTables }
     {
         self.known_at_end(alloc)
@@ -207,7 +207,7 @@ impl TableReader {
 
 /// The tokens of a text, or its first lexical fault.
 fn lex(alloc: Global, text: &[u8]) -> Result<Vec<Token>, ReadError>
-    ensures { Returns (λ v. v.items) result (lexed (tokens_of text.now)) }
+    ensures { TableParseReturns (λ v. v.items) result (lexed (tokens_of text.now)) }
 {
     match tokens(alloc, text) {
         Ok(tokens) => Ok(tokens),
@@ -222,7 +222,7 @@ fn lex(alloc: Global, text: &[u8]) -> Result<Vec<Token>, ReadError>
 /// of the text, what breaks a rule, at the line of the number or name at fault; last, where no tag is declared, the line
 /// of the last token.
 ///
-/// The number behind `tables` is 1 or 2. Fields have names of their own, at most sixteen; the tag is one of them,
+/// The number after `tables` is 1 or 2. Fields have names of their own, at most sixteen; the tag is one of them,
 /// declared above it, once; switches and ports are at most 65,535, a switch is declared once, with each port once; a link
 /// leads from a declared port to a declared one, and no two begin or end at one port. A table's switch is declared, and
 /// has no table before. A group's number is at least 1 and no other group's of the table, and a row's group is one of the
@@ -231,13 +231,13 @@ fn lex(alloc: Global, text: &[u8]) -> Result<Vec<Token>, ReadError>
 ///
 /// A match `f=v/len` is of the values of which the first `len` digits are those of `v`, where `f` has as many binary
 /// digits as its largest value. It stands in a text of version 2 alone; `len` is at least 1 and at most all digits, which
-/// is the exact match, and `v` has zeros behind its first `len`. Where `len` is at fault, or the version, it is at the
-/// line of `len`; ones behind `len` are looked at last, and are at the line of `v`.
+/// is the exact match, and `v` has zeros after its first `len`. Where `len` is at fault, or the version, it is at the
+/// line of `len`; ones after `len` are looked at last, and are at the line of `v`.
 ///
 /// Tables stand by switch, a declared switch without a table having an empty one, groups by number, matches and
 /// assignments by field, rows and buckets as in the text. They can all be printed and read back.
 pub fn read_tables(alloc: Global, text: &[u8]) -> Result<Tables, ReadError>
-    ensures tables { Returns (λ t. t) result (tables_of text.now) }
+    ensures tables { TableParseReturns (λ t. t) result (tables_of text.now) }
     ensures printable { IfOk result ArePrintableTables }
 {
     let tokens = lex(alloc, text)?;

@@ -1,4 +1,4 @@
-//! Matches, buckets, groups, rows and sections, each put behind a text.
+//! Matches, buckets, groups, rows and sections, each put after a text.
 ghost use Rattle.std.specs.Prelude.{◌≡◌, ◌++◌, not, codes, OnOk};
 ghost use Rattle.std.specs.List.{flat_map, list_any};
 ghost use Rattle.nk_table.specs.Rules.{rows_of};
@@ -61,7 +61,7 @@ fn some_table(t: &Tables, numbers: &[u16]) -> bool
     let mut rest = t.tables.as_slice();
     let mut last = 0;
     for n in numbers {
-        rest = behind(t.tables.as_slice(), rest, last, *n);
+        rest = following(t.tables.as_slice(), rest, last, *n);
         if have_prefix(&t.fields, rows_at(rest, *n)) {
             return true;
         }
@@ -70,9 +70,9 @@ fn some_table(t: &Tables, numbers: &[u16]) -> bool
     false
 }
 
-/// What is left of the tables behind those of lesser switches, by what was left at another switch: in it each switch from this
+/// What is left of the tables after those of lesser switches, by what was left at another switch: in it each switch from this
 /// one on has the table that it has among all.
-pub(crate) fn behind<'a>(all: &'a [Table], rest: &'a [Table], last: u16, sw: u16) -> &'a [Table]
+pub(crate) fn following<'a>(all: &'a [Table], rest: &'a [Table], last: u16, sw: u16) -> &'a [Table]
     requires { AreTablesFrom last all.now rest.now }
     ensures { AreTablesFrom sw all.now result.now }
 {
@@ -117,7 +117,7 @@ fn length(out: &mut Vec<u8>, fs: &Fields, m: &(Fid, u64, u8)) -> Result<(), Allo
     number(out, length as u64)
 }
 
-/// A match, with a space behind it.
+/// A match, with a space after it.
 fn one_match(out: &mut Vec<u8>, fs: &Fields, m: &(Fid, u64, u8)) -> Result<(), AllocError>
     ensures { OnOk result (out.new.items ≡ out.old.items ++ match_text fs.now m.now) }
 {
@@ -130,7 +130,7 @@ fn one_match(out: &mut Vec<u8>, fs: &Fields, m: &(Fid, u64, u8)) -> Result<(), A
     Ok(())
 }
 
-/// An assignment, with a space behind it.
+/// An assignment, with a space after it.
 fn one_set(out: &mut Vec<u8>, fs: &Fields, f: Fid, n: u64) -> Result<(), AllocError>
     ensures { OnOk result (out.new.items ≡ out.old.items ++ set_text fs.now (f, n)) }
 {

@@ -1,4 +1,4 @@
-//! Short pieces of a text, put behind it byte by byte: rows are made of them.
+//! Short pieces of a text, put after it byte by byte: rows are made of them.
 ghost use Rattle.std.specs.Prelude.{◌≡◌, ◌++◌, codes, OnOk};
 
 use std::alloc::AllocError;

@@ -60,7 +60,7 @@ pub(crate) fn length_of(version: u64, digits: u8, length: Number) -> Result<u8, 
     Ok(length.value as u8)
 }
 
-/// Behind the digits that count a value has zeros.
+/// After the digits that count a value has zeros.
 pub(crate) fn check_zeros(digits: u8, length: u8, n: Number) -> Result<(), ReadError>
     requires some { length ≤ digits }
     requires most { digits ≤ 64 }
@@ -85,7 +85,7 @@ pub(crate) fn place_of(matches: &[(Fid, u64, u8)], field: Fid) -> usize
     place
 }
 
-/// Puts a match behind those of lower fields.
+/// Puts a match after those of lower fields.
 pub(crate) fn put(before: &mut Vec<(Fid, u64, u8)>, m: (Fid, u64, u8)) -> Result<(), AllocError>
     ensures ok { OnOk result (before.new.items ≡ placed_match m before.old.items) }
     ensures err { OnErr result (before.new.items ≡ before.old.items) }

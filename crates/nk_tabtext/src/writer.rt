@@ -49,7 +49,7 @@ impl<'a> TableWriter<'a> {
         })
     }
 
-    /// Puts the table of one more switch behind it.
+    /// Puts the table of one more switch after it.
     pub fn write(&mut self, table: &Table) -> Result<(), AllocError>
         ensures { (fields : FieldTable) (topo : Topology) (tables : List Table) → HasWritten fields topo tables self.old
             → OnOk result (HasWritten fields topo (tables ++ table.now ∷ []) self.new) }

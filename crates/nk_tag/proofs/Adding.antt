@@ -7,12 +7,12 @@ use Rattle.std.proofs.lemmas.List.Elements.{All-map, All-weaker, All-filter}
 use Rattle.std.proofs.lemmas.List.Sorted.{All-permutation, Contains-permutation, IsPermutation-map, IsPermutation-sym}
 use Rattle.indexmap.specs.IndexSet.{insert_all}
 use Rattle.nk_field.specs.Order.{IsListedBefore}
-use Rattle.nk_field.proofs.Lists.{In, in_from_contains, contains_from_in, Apart}
+use Rattle.nk_field.proofs.Lists.{In, in_from_contains, contains_from_in, NoDup}
 use Rattle.nk_determ.specs.Sets.{HasEachSetOnce}
 use Rattle.nk_determ.specs.Pairs.{Named, Once}
 use Rattle.nk_tag.specs.Steps.{set_of, unseen, set_cmp, IsAdded}
 use Rattle.nk_determ.proofs.Naming.{pairs_mapped}
-use Rattle.nk_tag.proofs.Listed.{number_of, apart_pairs, sorted_listed, apart_permuted, any_tells, inserted}
+use Rattle.nk_tag.proofs.Listed.{number_of, no_dup_pairs, sorted_listed, no_dup_permuted, any_tells, inserted}
 
 -- an entry whose set has no number
 abbrev is_new : List ℕ → ℕ × ℕ → Bool
@@ -58,15 +58,15 @@ module _ (ss : List (List ℕ)) (old : List ℕ) where
       (any_tells p.0 old)
 
   -- each once
-  unseen_apart : (level : List (ℕ × ℕ)) → Once level → Apart (numbers ss (filter (is_new old) level))
-  unseen_apart [] o = tt
-  unseen_apart (p ∷ ps) o =
+  unseen_no_dup : (level : List (ℕ × ℕ)) → Once level → NoDup (numbers ss (filter (is_new old) level))
+  unseen_no_dup [] o = tt
+  unseen_no_dup (p ∷ ps) o =
       ⊎_elim
       (λ seen.
-      subst (λ b. Apart (numbers ss (taken b p (filter (is_new old) ps)))) (sym (ap not seen.0)) (unseen_apart ps o.1))
+      subst (λ b. NoDup (numbers ss (taken b p (filter (is_new old) ps)))) (sym (ap not seen.0)) (unseen_no_dup ps o.1))
       (λ new.
-      subst (λ b. Apart (numbers ss (taken b p (filter (is_new old) ps)))) (sym (ap not new.0))
-      ((λ i. o.0 (unseen_named ps p.0 i).0), unseen_apart ps o.1))
+      subst (λ b. NoDup (numbers ss (taken b p (filter (is_new old) ps)))) (sym (ap not new.0))
+      ((λ i. o.0 (unseen_named ps p.0 i).0), unseen_no_dup ps o.1))
       (any_tells p.0 old)
 
 -- a set of the sets, with its members
@@ -107,8 +107,8 @@ added ss level old new sets sorted differ known once made moved up put = record 
     moves : IsPermutation (map number_of sets) (map number_of sorted)
     moves = IsPermutation-map number_of sets sorted moved
 
-    apart : Apart (map number_of sorted)
-    apart = apart_permuted sets sorted moved (subst (λ l. Apart (map number_of l)) (sym made) (unseen_apart ss old level once))
+    apart : NoDup (map number_of sorted)
+    apart = no_dup_permuted sets sorted moved (subst (λ l. NoDup (map number_of l)) (sym made) (unseen_no_dup ss old level once))
 
     from : (s : ℕ) → In (map number_of sorted) s → Named level s × (In old s → ⊥)
     from s i =
@@ -123,7 +123,7 @@ added ss level old new sets sorted differ known once made moved up put = record 
         let before : i < length sorted = omega (arith, lt, less) in
         let x = each i d before in
         let y = each j d less in
-        λ e. apart_pairs sorted apart i j d lt less (differ (get_or sorted i d).1 (get_or sorted j d).1 x.1 y.1 (sym x.0 ∙ e ∙ y.0))
+        λ e. no_dup_pairs sorted apart i j d lt less (differ (get_or sorted i d).1 (get_or sorted j d).1 x.1 y.1 (sym x.0 ∙ e ∙ y.0))
 
     by_members : AllPairs (λ x y. IsListedBefore (slice_index_or ss x.1 []) (slice_index_or ss y.1 [])) sorted
     by_members i j d lt less =

@@ -4,7 +4,7 @@ use Rattle.std.specs.Prelude.{AllPairs, Contains, slice_index_or}
 use Rattle.std.proofs.lemmas.List.Elements.{Contains-append_left, Contains-append_right, Contains-append_cases, Contains-get_or}
 use Rattle.std.proofs.lemmas.List.Kept.{AllPairs-cons}
 use Rattle.nk_field.specs.Order.{IsListedBefore}
-use Rattle.nk_field.proofs.Lists.{In, in_from_contains, contains_from_in, in_either, in_decided, Decided, numbers_decided, Apart, apart_joined}
+use Rattle.nk_field.proofs.Lists.{In, in_from_contains, contains_from_in, in_either, in_decided, Decided, numbers_decided, NoDup, no_dup_joined}
 use Rattle.nk_field.proofs.Ascending.{first_before, rest_in_order, all_from_members}
 use Rattle.nk_policy.specs.Labels.{IsWithoutDoubles, AtLeast}
 use Rattle.nk_determ.specs.Pairs.{Named}
@@ -18,26 +18,26 @@ never_before [] h = h
 never_before (x ∷ xs) h = ⊎_elim (λ lt. omega (arith, lt)) (λ r. never_before xs r.1) h
 
 -- elements in an order in which none is before itself have no doubles
-apart_from : {X : Type 0} (R : X → X → Type 0) → ((x : X) → R x x → ⊥) → (xs : List X) → AllPairs R xs → Apart xs
-apart_from R never [] h = tt
-apart_from R never (x ∷ xs) h = (λ i. never x (first_before R x xs h x i), apart_from R never xs (rest_in_order R x xs h))
+no_dup_from : {X : Type 0} (R : X → X → Type 0) → ((x : X) → R x x → ⊥) → (xs : List X) → AllPairs R xs → NoDup xs
+no_dup_from R never [] h = tt
+no_dup_from R never (x ∷ xs) h = (λ i. never x (first_before R x xs h x i), no_dup_from R never xs (rest_in_order R x xs h))
 
 -- in the definitions' words
-without_doubles : {X : Type 0} (xs : List X) → Apart xs → IsWithoutDoubles xs
+without_doubles : {X : Type 0} (xs : List X) → NoDup xs → IsWithoutDoubles xs
 without_doubles [] a = tt
 without_doubles (x ∷ xs) a = (λ c. a.0 (in_from_contains xs x c), without_doubles xs a.1)
 
 -- and back
-apart_of : {X : Type 0} (xs : List X) → IsWithoutDoubles xs → Apart xs
-apart_of [] w = tt
-apart_of (x ∷ xs) w = (λ i. w.0 (contains_from_in xs x i), apart_of xs w.1)
+no_dup_of : {X : Type 0} (xs : List X) → IsWithoutDoubles xs → NoDup xs
+no_dup_of [] w = tt
+no_dup_of (x ∷ xs) w = (λ i. w.0 (contains_from_in xs x i), no_dup_of xs w.1)
 
 -- a front has no doubles either
-front_apart : {X : Type 0} (n : ℕ) (xs : List X) → Apart xs → Apart (take n xs) × ((x : X) → In (take n xs) x → In xs x)
-front_apart zero xs a = (tt, λ x i. absurd i)
-front_apart (suc n) [] a = (tt, λ x i. absurd i)
-front_apart (suc n) (x ∷ xs) a =
-    let r = front_apart n xs a.1 in
+front_no_dup : {X : Type 0} (n : ℕ) (xs : List X) → NoDup xs → NoDup (take n xs) × ((x : X) → In (take n xs) x → In xs x)
+front_no_dup zero xs a = (tt, λ x i. absurd i)
+front_no_dup (suc n) [] a = (tt, λ x i. absurd i)
+front_no_dup (suc n) (x ∷ xs) a =
+    let r = front_no_dup n xs a.1 in
     (((λ i. a.0 (r.1 x i)), r.0), λ y i. ⊎_elim (λ e. inl e) (λ k. inr (r.1 y k)) i)
 
 -- two lists in order, each of the first before each of the second, are in order joined
@@ -98,7 +98,7 @@ below_more ss levels n r new b a = subst (λ l. AreBelow levels ss (n + 1) l) (s
     λ h. joined s h.0 h.1 h.2,
   );
   once = without_doubles (r ++ a.more)
-      (apart_joined r a.more (apart_of r b.once) apart_more (λ s i k.
+      (no_dup_joined r a.more (no_dup_of r b.once) no_dup_more (λ s i k.
       ((a.which s).0 (contains_from_in a.more s k)).1 (contains_from_in r s i)));
   in_order = pairs_joined (IsNamedBefore levels ss) r a.more b.in_order
       (pairs_with (λ s t. IsListedBefore (slice_index_or ss s []) (slice_index_or ss t [])) (IsNamedBefore levels ss) a.more a.in_order
@@ -114,8 +114,8 @@ below_more ss levels n r new b a = subst (λ l. AreBelow levels ss (n + 1) l) (s
         let w = (a.which s).0 (contains_from_in a.more s i) in
         record { named = w.0; first = λ k lt h. w.1 ((b.exactly s).1 (k, lt, h)) }
 
-    apart_more : Apart a.more
-    apart_more = apart_from (λ s t. IsListedBefore (slice_index_or ss s []) (slice_index_or ss t []))
+    no_dup_more : NoDup a.more
+    no_dup_more = no_dup_from (λ s t. IsListedBefore (slice_index_or ss s []) (slice_index_or ss t []))
         (λ s h. never_before (slice_index_or ss s []) h) a.more a.in_order
 
     joined : (s j : ℕ) → j < n + 1 → Named (levels j) s → Contains (r ++ a.more) s
@@ -147,7 +147,7 @@ all_below ss levels n r many b = record {
 pub too_many : (ss : List (List ℕ)) (levels : ℕ → List (ℕ × ℕ)) (n : ℕ) (r : List ℕ) (most : ℕ) → AreBelow levels ss n r
     → most ≤ length r → AtLeast most (IsNamedAt levels)
 too_many ss levels n r most b le =
-    let f = front_apart most r (apart_of r b.once) in (
+    let f = front_no_dup most r (no_dup_of r b.once) in (
       take most r,
       length-take-le most r le,
       without_doubles (take most r) f.0,

@@ -1,4 +1,4 @@
--- Sets that are sorted by their members stand in dictionary order; and sets that are put in behind others.
+-- Sets that are sorted by their members stand in dictionary order; and sets that are put in after others.
 use Rattle.std.proofs.Common.{◌≡◌, ℕ, suc, ◌+◌, ◌<◌, ◌≤◌, ◌⊎◌, Bool, true, false, cond, ◌||◌, leb, eqb, inl, inr, ⊎_elim, List, [], ◌∷◌, ◌++◌, get_or, append_assoc, append-nil, refl, sym, ap, subst, ◌∙◌, arith}
 use Rattle.std.specs.Prelude.{map, AllPairs, nat_eq, sum_by, if◌then◌else◌}
 use Rattle.std.specs.List.{list_any}
@@ -13,7 +13,7 @@ use Rattle.std.proofs.lemmas.List.Sums.{sum_by-cons}
 use Rattle.std.proofs.lemmas.List.Kept.{AllPairs-cons}
 use Rattle.indexmap.specs.IndexSet.{insert_key, insert_all}
 use Rattle.nk_field.specs.Order.{IsListedBefore}
-use Rattle.nk_field.proofs.Lists.{In, in_mapped, in_either, Apart}
+use Rattle.nk_field.proofs.Lists.{In, in_mapped, in_either, NoDup}
 use Rattle.nk_field.proofs.Ascending.{all_from_members}
 use Rattle.nk_policy.proofs.Tests.{false_true, same_number}
 use Rattle.nk_tag.specs.Steps.{set_cmp}
@@ -56,12 +56,12 @@ abbrev pub number_of : List ℕ × ℕ → ℕ
 number_of x = x.1
 
 -- numbers without doubles are different ones
-pub apart_pairs : (xs : List (List ℕ × ℕ)) → Apart (map number_of xs) → AllPairs (λ x y. x.1 ≡ y.1 → ⊥) xs
-apart_pairs [] a = λ i j d lt less. absurd (omega (arith, less))
-apart_pairs (x ∷ xs) a =
+pub no_dup_pairs : (xs : List (List ℕ × ℕ)) → NoDup (map number_of xs) → AllPairs (λ x y. x.1 ≡ y.1 → ⊥) xs
+no_dup_pairs [] a = λ i j d lt less. absurd (omega (arith, less))
+no_dup_pairs (x ∷ xs) a =
     AllPairs-cons (λ y z. y.1 ≡ z.1 → ⊥) x xs
     (all_from_members (λ z. x.1 ≡ z.1 → ⊥) xs (λ z i e. a.0 (subst (λ n. In (map number_of xs) n) (sym e) (in_mapped number_of xs z i))))
-    (apart_pairs xs a.1)
+    (no_dup_pairs xs a.1)
 
 -- sets that are sorted and whose members differ stand in dictionary order
 pub sorted_listed : (xs : List (List ℕ × ℕ)) → IsSorted set_cmp xs → AllPairs (λ x y. x.0 ≡ y.0 → ⊥) xs
@@ -103,7 +103,7 @@ not_tallied (x ∷ xs) s never =
     (eqb_tells x.1 s)
 
 -- numbers without doubles stand at most once
-tallied_once : (xs : List (List ℕ × ℕ)) (s : ℕ) → Apart (map number_of xs) → tally s xs ≤ 1
+tallied_once : (xs : List (List ℕ × ℕ)) (s : ℕ) → NoDup (map number_of xs) → tally s xs ≤ 1
 tallied_once [] s a = omega arith
 tallied_once (x ∷ xs) s a =
     ⊎_elim
@@ -125,19 +125,19 @@ tallied (x ∷ xs) s i = by (eqb_tells x.1 s) i (λ k. tallied xs s k)
     by (inr other) (inr r) rest = let some = rest r in omega (arith, tally_cons s x xs, some)
 
 -- numbers that stand at most once have no doubles
-once_apart : (xs : List (List ℕ × ℕ)) → ((s : ℕ) → tally s xs ≤ 1) → Apart (map number_of xs)
-once_apart [] h = tt
-once_apart (x ∷ xs) h = (
+once_no_dup : (xs : List (List ℕ × ℕ)) → ((s : ℕ) → tally s xs ≤ 1) → NoDup (map number_of xs)
+once_no_dup [] h = tt
+once_no_dup (x ∷ xs) h = (
   λ i.
       let own : eqb x.1 x.1 ≡ true = same_number x.1 in
       omega (arith, h x.1, tally_cons x.1 x xs, one_of (eqb x.1 x.1) own, tallied xs x.1 i),
-  once_apart xs (λ s. omega (arith, h s, tally_cons s x xs)),
+  once_no_dup xs (λ s. omega (arith, h s, tally_cons s x xs)),
 )
 
 -- a new order makes no doubles
-pub apart_permuted : (xs ys : List (List ℕ × ℕ)) → IsPermutation xs ys → Apart (map number_of xs) → Apart (map number_of ys)
-apart_permuted xs ys p a =
-    once_apart ys (λ s. omega (arith, tallied_once xs s a, sum_by-IsPermutation (λ (y : List ℕ × ℕ). one_if (eqb y.1 s)) xs ys p))
+pub no_dup_permuted : (xs ys : List (List ℕ × ℕ)) → IsPermutation xs ys → NoDup (map number_of xs) → NoDup (map number_of ys)
+no_dup_permuted xs ys p a =
+    once_no_dup ys (λ s. omega (arith, tallied_once xs s a, sum_by-IsPermutation (λ (y : List ℕ × ℕ). one_if (eqb y.1 s)) xs ys p))
 
 -- whether a number is one of these
 pub any_tells : (x : ℕ) (ks : List ℕ) → ((list_any (nat_eq x) ks ≡ true) × In ks x) ⊎ ((list_any (nat_eq x) ks ≡ false) × (In ks x → ⊥))
@@ -151,8 +151,8 @@ any_tells x (k ∷ ks) = by (eqb_tells x k) (any_tells x ks)
     by (inr other) (inl r) = inl (ap (λ b. b || list_any (nat_eq x) ks) other.0 ∙ r.0, inr r.1)
     by (inr other) (inr r) = inr (ap (λ b. b || list_any (nat_eq x) ks) other.0 ∙ r.0, λ i. ⊎_elim other.1 r.1 i)
 
--- numbers that are new and have no doubles are put in behind the others
-pub inserted : (ks xs : List ℕ) → Apart xs → ((x : ℕ) → In xs x → In ks x → ⊥) → insert_all nat_eq ks xs ≡ ks ++ xs
+-- numbers that are new and have no doubles are put in after the others
+pub inserted : (ks xs : List ℕ) → NoDup xs → ((x : ℕ) → In xs x → In ks x → ⊥) → insert_all nat_eq ks xs ≡ ks ++ xs
 inserted ks [] a new = sym (append-nil ks)
 inserted ks (x ∷ xs) a new =
     ap (λ l. insert_all nat_eq l xs) one

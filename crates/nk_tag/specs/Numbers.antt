@@ -10,8 +10,8 @@ abbrev pub IsNumberFault : List (List (ℕ × ℕ)) → ℕ → NumberError → 
 IsNumberFault ls max NoMemory = Unit {0}
 IsNumberFault ls max (TooManyTags found) = (found ≡ max + 1) × AtLeast found (IsAtOdd ls)
 
--- why there are no numbers behind the first so many tags: memory ran out, or with so many of the sets the tags are as many as
+-- why there are no numbers after the first so many tags: memory ran out, or with so many of the sets the tags are as many as
 -- are told, one more than may be
-abbrev pub IsFaultBehind : List (List (ℕ × ℕ)) → (first max : ℕ) → NumberError → Type 0
-IsFaultBehind ls first max NoMemory = Unit {0}
-IsFaultBehind ls first max (TooManyTags found) = (found ≡ max + 1) × ((n : ℕ) × AtLeast n (IsAtOdd ls) × (first + n ≡ found))
+abbrev pub IsFaultAfter : List (List (ℕ × ℕ)) → (first max : ℕ) → NumberError → Type 0
+IsFaultAfter ls first max NoMemory = Unit {0}
+IsFaultAfter ls first max (TooManyTags found) = (found ≡ max + 1) × ((n : ℕ) × AtLeast n (IsAtOdd ls) × (first + n ≡ found))

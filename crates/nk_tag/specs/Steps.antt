@@ -21,7 +21,7 @@ unseen ss numbers level = map (set_of ss) (filter (λ p. not (list_any (nat_eq p
 abbrev pub set_cmp : List ℕ × ℕ → List ℕ × ℕ → Ordering
 set_cmp x y = ordering_then (slice_cmp nat_cmp x.0 y.0) (nat_cmp x.1 y.1)
 
--- behind the old numbers stand those that the level names and that are none of them, by their members in dictionary order
+-- after the old numbers stand those that the level names and that are none of them, by their members in dictionary order
 pub record IsAdded (ss : List (List ℕ)) (level : List (ℕ × ℕ)) (old new : List ℕ) : Type 0 where
   pub more : List ℕ
   pub is : new ≡ old ++ more

@@ -1,9 +1,9 @@
-//! The sets at levels in order: numbers of those at odd levels, and those behind the first level.
+//! The sets at levels in order: numbers of those at odd levels, and those after the first level.
 ghost use Rattle.std.specs.Prelude.{◌≡◌, ◌≤◌, ◌<◌, ◌+◌, ◌*◌, ◌^◌, false, IfOk, IfErr, OnOk, [], length, map, All, nat_eq, slice_index_or};
 ghost use Rattle.std.specs.List.Sorted.{IsPermutation, IsSorted};
 ghost use Rattle.nk_determ.specs.Pairs.{Once};
 ghost use Rattle.indexmap.specs.IndexSet.{insert_all};
-ghost use Rattle.nk_tag.specs.Numbers.{AreEntries, AreNumbers, AreLaterSets, IsNumberFault, IsFaultBehind};
+ghost use Rattle.nk_tag.specs.Numbers.{AreEntries, AreNumbers, AreLaterSets, IsNumberFault, IsFaultAfter};
 ghost use Rattle.nk_tag.specs.Steps.{unseen, set_cmp, IsAdded};
 
 use crate::error::NumberError;
@@ -13,7 +13,7 @@ use nk_field::List;
 use nk_store::Id;
 use std::alloc::{AllocError, Global};
 
-/// The sets that tags stand for: tag t's at place t - 1, or, behind `first` other tags, at place t - 1 - `first`.
+/// The sets that tags stand for: tag t's at place t - 1, or, after `first` other tags, at place t - 1 - `first`.
 #[derive(Drop)]
 pub struct Tags {
     /// The sets in the order of the tags, each once.
@@ -33,7 +33,7 @@ pub fn number(ss: &Sets, lv: &Levels, max: u64) -> Result<Tags, NumberError>
     number_from(ss, lv, 0, max)
 }
 
-/// The sets at odd levels as `number` gives them, for tags behind `first` others: the set of tag t stands at place
+/// The sets at odd levels as `number` gives them, for tags after `first` others: the set of tag t stands at place
 /// t - 1 - `first`. Where `first` and they together are more than `max`, the error is `TooManyTags` with `max` + 1.
 pub fn number_from(ss: &Sets, lv: &Levels, first: u64, max: u64) -> Result<Tags, NumberError>
     requires not_broken { lv.now.broken ≡ false }
@@ -42,7 +42,7 @@ pub fn number_from(ss: &Sets, lv: &Levels, first: u64, max: u64) -> Result<Tags,
     requires below_last { max + 1 < 2 ^ 64 }
     ensures ok { IfOk result (λ t. AreNumbers ss.now lv.now.levels t.sets) }
     ensures few { IfOk result (λ t. first + length t.sets ≤ max) }
-    ensures err { IfErr result (λ e. IsFaultBehind lv.now.levels first max e) }
+    ensures err { IfErr result (λ e. IsFaultAfter lv.now.levels first max e) }
 {
     let alloc = lv.levels.alloc();
     let mut all = IndexSet::new(alloc);
@@ -70,7 +70,7 @@ pub fn odd_sets(ss: &Sets, lv: &Levels) -> Result<List<SetId>, AllocError>
     Ok(sets)
 }
 
-/// The sets at levels behind the first one, each once: by the first of these levels that names them, inside a level by their
+/// The sets at levels after the first one, each once: by the first of these levels that names them, inside a level by their
 /// members in dictionary order. The only error is that memory ran out.
 pub fn later_sets(ss: &Sets, lv: &Levels) -> Result<List<SetId>, AllocError>
     requires { AreEntries ss.now lv.now.levels }
@@ -156,7 +156,7 @@ fn sort_sets(sets: &mut Vec<(List<u64>, usize)>)
     sets.sort_unstable();
 }
 
-/// Gives the sets numbers behind all others.
+/// Gives the sets numbers after all others.
 fn append(sets: &[(List<u64>, usize)], all: &mut IndexSet<usize>) -> Result<(), AllocError>
     ensures { OnOk result (all.new.keys ≡ insert_all nat_eq all.old.keys (map (λ x. x.1) sets.now)) }
 {

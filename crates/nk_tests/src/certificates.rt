@@ -41,7 +41,7 @@ fn is_valid(alloc: Global, program: &Program, certificate: &Certificate) -> Resu
     Ok(check(alloc, program, "l", "r", certificate)? == Verdict::Valid)
 }
 
-/// Whether it is none for a query of the first policy alone: what that records from the start is behind its one dup, and no row
+/// Whether it is none for a query of the first policy alone: what that records from the start is after its one dup, and no row
 /// has that dup alone.
 fn is_of_both(alloc: Global, program: &Program, certificate: &Certificate) -> Result<bool, Fail>
     requires { HasPredicates (certificate_value certificate.now) }

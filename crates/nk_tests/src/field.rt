@@ -24,7 +24,7 @@ fn order_of<T: Ord + Hash>(a: &T, b: &T) -> Option<Ordering> {
     }
 }
 
-/// The names of the fields behind `vlan`, as many as there can be.
+/// The names of the fields after `vlan`, as many as there can be.
 const NAMES: [&str; 15] = [
     "a", "b", "c", "d", "e", "f", "g", "h", "i", "j", "k", "l", "m", "n", "o",
 ];
@@ -130,7 +130,7 @@ fn a_packet_with_its_tag_and_without(rt: HostRuntime) -> Result<(), Fail> {
     Ok(())
 }
 
-/// An act with `sw` set behind it.
+/// An act with `sw` set after it.
 fn with_switch(alloc: Global, act: &Act, value: u64) -> Result<Act, AllocError> {
     let set = Act::one(alloc, Fid::SWITCH, value)?;
     act.then(&set)
@@ -142,7 +142,7 @@ fn port_and_switch(alloc: Global) -> Result<Act, AllocError> {
     with_switch(alloc, &port, 1)
 }
 
-/// A copy of an act with `sw:=6` behind it.
+/// A copy of an act with `sw:=6` after it.
 fn with_later_switch(alloc: Global, act: &Act) -> Result<Act, AllocError> {
     let both = with_switch(alloc, act, 6)?;
     both.copy()
@@ -249,7 +249,7 @@ fn short_list(alloc: Global) -> Result<Short<u64>, AllocError> {
     Ok(short)
 }
 
-/// A copy of the list with 1 to 4 behind it.
+/// A copy of the list with 1 to 4 after it.
 fn longer_list(short: &Short<u64>) -> Result<Short<u64>, AllocError> {
     let mut longer = short.copy()?;
     for value in 1..5u64 {

@@ -64,7 +64,7 @@ fn goes_in_any_order(flight: &mut Flight) -> Result<bool, AllocError> {
 }
 
 /// What leaves after one crossing.
-fn behind_the_link(alloc: Global) -> Result<History, AllocError> {
+fn after_the_link(alloc: Global) -> Result<History, AllocError> {
     let mut records = List::new(alloc);
     records.push(at(2, 0))?;
     records.push(at(1, 0))?;
@@ -74,9 +74,9 @@ fn behind_the_link(alloc: Global) -> Result<History, AllocError> {
     })
 }
 
-/// Whether the last one of four left behind the link, and its packet was the first one.
-fn is_behind_the_link(alloc: Global, left: &[Left]) -> Result<bool, AllocError> {
-    let wanted = behind_the_link(alloc)?;
+/// Whether the last one of four left after the link, and its packet was the first one.
+fn is_after_the_link(alloc: Global, left: &[Left]) -> Result<bool, AllocError> {
+    let wanted = after_the_link(alloc)?;
     Ok(left.len() == 4 && left[3].number == 1 && left[3].history == wanted)
 }
 
@@ -86,11 +86,11 @@ fn has_crossed_twice(flight: &Flight) -> Result<bool, AllocError> {
     Ok(flying.len() == 1 && flying[0].records.len() == 4)
 }
 
-/// Whether what leaves behind the link has the records of the crossing, and what goes on has those of two.
+/// Whether what leaves after the link has the records of the crossing, and what goes on has those of two.
 fn keeps_records(alloc: Global, flight: &mut Flight) -> Result<bool, AllocError> {
     let _number = flight.inject(&at(1, 0))?;
     let has_stepped = handles(flight, 0)? && handles(flight, 0)?;
-    Ok(has_stepped && is_behind_the_link(alloc, flight.left())? && has_crossed_twice(flight)?)
+    Ok(has_stepped && is_after_the_link(alloc, flight.left())? && has_crossed_twice(flight)?)
 }
 
 /// Whether the first holds of a flight through these tables.

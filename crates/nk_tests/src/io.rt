@@ -1,4 +1,4 @@
-//! A read that goes on behind a fault, an input in pieces, a sink that is full, and one that counts.
+//! A read that goes on after a fault, an input in pieces, a sink that is full, and one that counts.
 use nk_io::{
     CountSink, MemSink, MemSource, PieceError, ReadError, Taken, next_piece, read_all, write_all,
 };
@@ -12,14 +12,14 @@ fn source(alloc: Global, bytes: &[u8]) -> Result<MemSource, AllocError> {
     Ok(MemSource::new(bytes, 3, fails))
 }
 
-/// Whether reading all ends at the fault, with the bytes behind it left.
+/// Whether reading all ends at the fault, with the bytes after it left.
 fn ends_at_the_fault(alloc: Global, source: &mut MemSource) -> bool {
     matches!(read_all(alloc, source, 100), Err(ReadError::ReadFault))
         && source.left() == b"defgh".as_slice()
         && source.calls() == 2
 }
 
-/// Whether reading goes on behind the fault.
+/// Whether reading goes on after the fault.
 fn goes_on(alloc: Global) -> Result<bool, Fail> {
     let mut source = source(alloc, b"abcdefgh")?;
     if !ends_at_the_fault(alloc, &mut source) {
@@ -35,7 +35,7 @@ fn a_read_fault_is_no_end(rt: HostRuntime) -> Result<(), Fail> {
     Ok(())
 }
 
-/// Whether the first piece is `abc`, and behind it the source fails.
+/// Whether the first piece is `abc`, and after it the source fails.
 fn first_piece_comes(source: &mut MemSource, taken: &mut Taken) -> Result<bool, PieceError> {
     let mut piece = [0; 4];
     let count = next_piece(source, taken, &mut piece)?;

@@ -1,7 +1,7 @@
 //! A predicate of its own over a program of no declaration.
 use nk_field::{Fid, List};
 use nk_grammar::{Ast, File};
-use nk_lex::{Bytes, Number, Word};
+use nk_lex::{Bytes, Ident, Number};
 use nk_names::reading::program;
 use nk_names::{FaultKind, NamesError, Program, resolve};
 use nk_policy::Pol;
@@ -19,7 +19,7 @@ fn empty(alloc: Global) -> Result<Program, Fail> {
 
 /// `pt=7`, on line 4.
 fn port_is_seven(alloc: Global) -> Result<Ast, AllocError> {
-    let field = Word {
+    let field = Ident {
         text: Bytes::of_text(alloc, "pt")?,
         line: 4,
     };

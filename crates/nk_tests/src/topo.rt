@@ -20,7 +20,7 @@ fn add_links(topo: &mut Topo) -> Result<(), TopoError> {
     topo.add_link(2, 5, 7, 1)
 }
 
-/// Links that are refused behind those two, and why.
+/// Links that are refused after those two, and why.
 const REFUSED: [((u16, u16, u16, u16), TopoError); 4] = [
     ((7, 2, 2, 4), TopoError::NoSuchPort(LinkEnd::Source)),
     ((7, 1, 9, 4), TopoError::NoSuchPort(LinkEnd::Target)),

@@ -11,7 +11,7 @@ use Rattle.std.proofs.lemmas.Bool.Decides.{nat_tests}
 use Rattle.nk_topo.specs.Topology.{SwitchPorts, Topology, IsTopology, placed, ports_among, ports_of, is_port, is_switch, is_target, link_from, target_among, starts_below, with_sorted, with_link}
 use Rattle.nk_topo.specs.Inside.{switches_with, topology_with, IsHeld, AreTargets, link_of}
 use Rattle.nk_topo.specs.Gathered.{switch_of, four_of, topology_from, IsGathered}
-use Rattle.nk_topo.proofs.Members.{In, placed_behind, placed_front}
+use Rattle.nk_topo.proofs.Members.{In, placed_after, placed_front}
 use Rattle.nk_topo.proofs.Orders.{fails_for}
 use Rattle.nk_topo.proofs.Insides.{ArePorts, are_ports, any_image, targets_with}
 use Rattle.nk_topo.proofs.Kept.{kept_with_switch, kept_with_link, none_from}
@@ -132,7 +132,7 @@ insert_placed cmp f before k v (e ∷ es) stands =
         map f (match_ordering o ((k, v) ∷ e ∷ es) ((e.0, v) ∷ es) (e ∷ insert_entry cmp es k v)) ≡ placed before (f (k, v)) (f e ∷ map f es)
     by Less s rest = sym (placed_front before (f (k, v)) (f e) (map f es) s)
     by Equal s rest = absurd s
-    by Greater s rest = ap (λ l. f e ∷ l) rest ∙ sym (placed_behind before (f (k, v)) (f e) (map f es) s)
+    by Greater s rest = ap (λ l. f e ∷ l) rest ∙ sym (placed_after before (f (k, v)) (f e) (map f es) s)
 
 -- another number
 number_stands : (n k : ℕ) → (k == n) ≡ false → Stands (nat_cmp n k) (nat_lt k n)

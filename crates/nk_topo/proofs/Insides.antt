@@ -250,15 +250,15 @@ target_at [] i sw pt = None
 target_at (l ∷ ls) zero sw pt = if (l.from_switch == sw) && (l.from_port == pt) then Some (l.to_switch, l.to_port) else None
 target_at (l ∷ ls) (suc i) sw pt = target_at ls i sw pt
 
--- no link behind one that doesn't begin below a port begins there, unless that one does
-none_behind : (l : Link) (ls : List Link) (sw pt : ℕ) → ((k : Link) → In ls k → IsTrue (starts_below k.from_switch k.from_port l)) →
+-- no link after one that doesn't begin below a port begins there, unless that one does
+none_following : (l : Link) (ls : List Link) (sw pt : ℕ) → ((k : Link) → In ls k → IsTrue (starts_below k.from_switch k.from_port l)) →
     starts_below sw pt l ≡ false → target_among ls sw pt ≡ None
-none_behind l [] sw pt all e = refl
-none_behind l (k ∷ ls) sw pt all e =
+none_following l [] sw pt all e = refl
+none_following l (k ∷ ls) sw pt all e =
     let below = all k (inl refl) in
     let other : ((k.from_switch == sw) && (k.from_port == pt)) ≡ false = grind (arith, nat_tests, below, e) in
     ap (λ b. if b then Some (k.to_switch, k.to_port) else target_among ls sw pt) other
-    ∙ none_behind l ls sw pt (λ m i. all m (inr i)) e
+    ∙ none_following l ls sw pt (λ m i. all m (inr i)) e
 
 -- among links in order the one from a port is at its place
 among_at : (ls : List Link) (sw pt : ℕ) → InOrder (λ k l. IsTrue (starts_below l.from_switch l.from_port k)) ls →
@@ -278,7 +278,7 @@ among_at (l ∷ ls) sw pt up = by (starts_below sw pt l) refl (among_at ls sw pt
         let more : 1 + prefix_len (starts_below sw pt) ls ≡ suc (prefix_len (starts_below sw pt) ls) = omega arith in
         ap (λ b. if b then Some (l.to_switch, l.to_port) else target_among ls sw pt) other
         ∙ rest ∙ ap (λ k. target_at (l ∷ ls) k sw pt) (sym more)
-    by false e rest = same ((l.from_switch == sw) && (l.from_port == pt)) (none_behind l ls sw pt up.0 e)
+    by false e rest = same ((l.from_switch == sw) && (l.from_port == pt)) (none_following l ls sw pt up.0 e)
 
 -- what stands at a place
 at_place : (ls : List (ℕ × ℕ × ℕ × ℕ)) (i sw pt : ℕ) (l : ℕ × ℕ × ℕ × ℕ) → i < length ls → l ≡ get_or ls i l →

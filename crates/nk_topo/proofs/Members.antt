@@ -69,10 +69,10 @@ pairs_from_order R [] h = λ i j d lt less. absurd (omega (arith, less))
 pairs_from_order R (x ∷ xs) h =
     AllPairs-cons R x xs (all_from_members (R x) xs h.0) (pairs_from_order R xs h.1)
 
--- what is put behind an element that comes before it stands behind it
-pub placed_behind : {X : Type 0} (before : X → Bool) (x y : X) (ys : List X) → before y ≡ true →
+-- what is put after an element that comes before it stands after it
+pub placed_after : {X : Type 0} (before : X → Bool) (x y : X) (ys : List X) → before y ≡ true →
     placed before x (y ∷ ys) ≡ y ∷ placed before x ys
-placed_behind before x y ys e =
+placed_after before x y ys e =
     let more : 1 + prefix_len before ys ≡ suc (prefix_len before ys) = omega arith in
     ap (λ b. insert (y ∷ ys) (cond b (1 + prefix_len before ys) 0) x) e ∙ ap (λ k. insert (y ∷ ys) k x) more
 
@@ -92,5 +92,5 @@ in_placed before x (y ∷ ys) z h =
         ⊎_elim
         (λ s. inr (inl s))
         (λ i. ⊎_elim (λ s. inl s) (λ j. inr (inr j)) (rest i))
-        (subst (λ l. In l z) (placed_behind before x y ys e) h)
+        (subst (λ l. In l z) (placed_after before x y ys e) h)
     in_either false e rest = subst (λ l. In l z) (placed_front before x y ys e) h

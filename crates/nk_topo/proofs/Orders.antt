@@ -7,7 +7,7 @@ use Rattle.std.proofs.lemmas.List.Sorted.{sum_by-IsPermutation}
 use Rattle.std.proofs.lemmas.List.Recursion.{is_sum_by}
 use Rattle.std.proofs.lemmas.Bool.Decides.{nat_tests, eqb_tells}
 use Rattle.nk_topo.specs.Topology.{placed, ascending, has_double}
-use Rattle.nk_topo.proofs.Members.{In, InOrder, order_from_pairs, pairs_from_order, placed_behind, placed_front, in_placed}
+use Rattle.nk_topo.proofs.Members.{In, InOrder, order_from_pairs, pairs_from_order, placed_after, placed_front, in_placed}
 
 -- what comes before x stands to it in R, and x to the others
 abbrev pub Fits : {X : Type 0} → (X → X → Type 0) → (X → Bool) → X → X → Type 0
@@ -22,7 +22,7 @@ order_placed {X} R trans before x (y ∷ ys) fits up =
   where
     by : (b : Bool) → before y ≡ b → InOrder R (placed before x ys) → InOrder R (placed before x (y ∷ ys))
     by true e rest =
-        subst (InOrder R) (sym (placed_behind before x y ys e)) (
+        subst (InOrder R) (sym (placed_after before x y ys e)) (
           (λ z i. ⊎_elim (λ s. subst (R y) (sym s) ((fits y (inl refl)).0 e)) (λ j. up.0 z j) (in_placed before x ys z i)),
           rest,
         )
@@ -133,7 +133,7 @@ not_below x n (y ∷ ys) all some =
     not_below x n ys (λ z i. all z (inr i)) (omega (arith, rest)))
     (eqb_tells y n)
 
--- nor is it below it where it stands behind the first
+-- nor is it below it where it stands after the first
 not_below_first : (x n : ℕ) (xs : List ℕ) → InOrder (λ p q. p ≤ q) (x ∷ xs) → 0 < times n (x ∷ xs) → x ≤ n
 not_below_first x n xs up some =
     not_below x n (x ∷ xs) (λ y i. ⊎_elim (λ s. omega (arith, s)) (λ j. up.0 y j) i) some
@@ -204,18 +204,18 @@ ascending_rises (n ∷ ns) e =
     (ascending_rises ns (right_false (list_any (λ m. m == n) ns) (has_double ns) e))
 
 -- in a list that climbs, a number below the next one stands once
-double_behind : (xs : List ℕ) (k : ℕ) → InOrder (λ p q. p ≤ q) xs → suc k < length xs → get_or xs k 0 ≢ get_or xs (suc k) 0 →
+double_after : (xs : List ℕ) (k : ℕ) → InOrder (λ p q. p ≤ q) xs → suc k < length xs → get_or xs k 0 ≢ get_or xs (suc k) 0 →
     has_double (drop k xs) ≡ has_double (drop (suc k) xs)
-double_behind [] k up lt other = absurd (omega (arith, lt))
-double_behind (x ∷ []) k up lt other = absurd (omega (arith, lt))
-double_behind (x ∷ y ∷ ys) zero up lt other =
+double_after [] k up lt other = absurd (omega (arith, lt))
+double_after (x ∷ []) k up lt other = absurd (omega (arith, lt))
+double_after (x ∷ y ∷ ys) zero up lt other =
     let first = up.0 y (inl refl) in
     ap (λ b. b || has_double (y ∷ ys)) (passes_for_none (λ m. m == x) (y ∷ ys) (λ z i.
     let above : y ≤ z = ⊎_elim (λ s. omega (arith, s)) (λ j. up.1.0 z j) i in
     grind (arith, nat_tests, first, above, other)))
-double_behind (x ∷ y ∷ ys) (suc k) up lt other =
+double_after (x ∷ y ∷ ys) (suc k) up lt other =
     let less : suc k < length (y ∷ ys) = omega (arith, lt) in
-    double_behind (y ∷ ys) k up.1 less other
+    double_after (y ∷ ys) k up.1 less other
 
 -- a number that is the next one too stands twice
 double_at : (xs : List ℕ) (k : ℕ) → suc k < length xs → get_or xs k 0 ≡ get_or xs (suc k) 0 → has_double (drop k xs) ≡ true
@@ -247,7 +247,7 @@ double_more xs i up some lt other before =
     let within : suc (i - 1) < length xs = omega arith in
     let differs : get_or xs (i - 1) 0 ≢ get_or xs (suc (i - 1)) 0 = subst (λ k. get_or xs (i - 1) 0 ≢ get_or xs k 0) (sym next) other in
     let step : has_double (drop (i - 1) xs) ≡ has_double (drop (suc (i - 1)) xs) =
-    double_behind xs (i - 1) (order_from_pairs (λ p q. p ≤ q) xs up) within differs in
+    double_after xs (i - 1) (order_from_pairs (λ p q. p ≤ q) xs up) within differs in
     ap (λ k. has_double (drop k xs)) (place ∙ sym next) ∙ sym step ∙ before
 
 -- or at the end

@@ -58,9 +58,9 @@ links_parted ls sw pt up =
     parted (starts_below sw pt) (λ k l. IsTrue (starts_below l.from_switch l.from_port k)) (below_port sw pt) ls up
 
 -- and so do elements whose images do
-pub parted_from_images : {X Y : Type 0} (f : X → Y) (p : Y → Bool) (xs : List X) →
+pub partition_from_images : {X Y : Type 0} (f : X → Y) (p : Y → Bool) (xs : List X) →
     IsPartitionedBy p (map f xs) → IsPartitionedBy (λ x. p (f x)) xs
-parted_from_images f p xs h i j d le lt passes =
+partition_from_images f p xs h i j d le lt passes =
     let within : i < length xs = omega arith in
     let bound : j < length (map f xs) = simp length-map lt in
     let image_i = get_or-map f xs i d (f d) within in

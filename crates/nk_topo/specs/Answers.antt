@@ -6,8 +6,8 @@ use Rattle.nk_topo.specs.declared.topo.LinkEnd.TheVariants.{Source, Target}
 use Rattle.nk_topo.specs.Topology.{Topology, Link, is_switch, is_port, is_target, link_from, has_double}
 
 -- the answer is this one, or that memory ran out
-abbrev pub Returns : Result (Unit {0}) TopoError → Result (Unit {0}) TopoError → Type 0
-Returns result answer = result ≢ Err NoMemory → result ≡ answer
+abbrev pub TopoReturns : Result (Unit {0}) TopoError → Result (Unit {0}) TopoError → Type 0
+TopoReturns result answer = result ≢ Err NoMemory → result ≡ answer
 
 -- of a new switch: the switch is declared already, or else a port is given twice, or else it is added
 abbrev pub switch_answer : Topology → ℕ → List ℕ → Result (Unit {0}) TopoError

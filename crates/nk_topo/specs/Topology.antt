@@ -80,7 +80,7 @@ pub record IsTopology (t : Topology) : Type 0 where
   pub sources : AllPairs (λ k l. IsTrue (starts_below l.from_switch l.from_port k)) t.links
   pub links : AreLinks t
 
--- x put behind the elements that come before it
+-- x put after the elements that come before it
 abbrev pub placed : {X : Type 0} → (X → Bool) → X → List X → List X
 placed before x xs = insert xs (prefix_len before xs) x
 

@@ -4,7 +4,7 @@ ghost use Rattle.nk_topo.specs.Topology.{Topology, no_topology, with_sorted, wit
 ghost use Rattle.nk_topo.specs.Topology as declared;
 ghost use Rattle.nk_topo.specs.Inside.{link_of};
 ghost use Rattle.nk_topo.specs.Gathered.{four_of};
-ghost use Rattle.nk_topo.specs.Answers.{Returns, switch_answer, link_answer};
+ghost use Rattle.nk_topo.specs.Answers.{TopoReturns, switch_answer, link_answer};
 
 use crate::search::{find_in, repeats, sorted};
 use crate::topo::{LinkEnd, Topo, TopoError};
@@ -93,7 +93,7 @@ impl TopoBuilder {
     /// It is refused, and nothing changes, where the switch is declared already, or else where a port is given twice.
     pub fn add_switch(&mut self, n: u16, ports: &[u16]) -> Result<(), TopoError>
         ensures added { OnOk result (self.new ≡ with_switch self.old n ports.now) }
-        ensures answer { Returns result (switch_answer self.old n ports.now) }
+        ensures answer { TopoReturns result (switch_answer self.old n ports.now) }
         ensures kept { OnErr result (self.new ≡ self.old) }
     {
         if self.is_switch(n) {
@@ -129,7 +129,7 @@ impl TopoBuilder {
     /// the target is none; a link begins at the source already; one ends at the target already.
     pub fn add_link(&mut self, a: u16, m: u16, b: u16, n: u16) -> Result<(), TopoError>
         ensures added { OnOk result (self.new ≡ with_link self.old (link_of (a, m, b, n))) }
-        ensures answer { Returns result (link_answer self.old (link_of (a, m, b, n))) }
+        ensures answer { TopoReturns result (link_answer self.old (link_of (a, m, b, n))) }
         ensures kept { OnErr result (self.new ≡ self.old) }
     {
         if !self.is_port(a, m) {

@@ -4,7 +4,7 @@ ghost use Rattle.std.specs.List.{list_any};
 ghost use Rattle.nk_topo.specs.Topology.{IsTopology, no_topology, numbers_of, ports_of, with_sorted, with_switch, with_link};
 ghost use Rattle.nk_topo.specs.Topology as declared;
 ghost use Rattle.nk_topo.specs.Inside.{link_of};
-ghost use Rattle.nk_topo.specs.Answers.{Returns, switch_answer, link_answer};
+ghost use Rattle.nk_topo.specs.Answers.{TopoReturns, switch_answer, link_answer};
 
 use crate::search::{find_in, link_place, place_in, repeats, sorted};
 use std::alloc::{AllocError, Global};
@@ -47,7 +47,7 @@ pub enum TopoError {
 /// Switches with their ports, and links between declared ports: at most one begins at a port, and at most one ends there.
 /// A contract sees it as a `Topology`: switches ascend by number, the ports of each ascend, and links ascend by source.
 ///
-/// All are kept sorted, so adding a switch or a link moves those behind it. A `TopoBuilder` is quicker where they come in
+/// All are kept sorted, so adding a switch or a link moves those after it. A `TopoBuilder` is quicker where they come in
 /// any order.
 pub struct Topo {
     pub(crate) numbers: Vec<u16>,
@@ -166,7 +166,7 @@ impl Topo {
     /// already, or else where a port is given twice.
     pub fn add_switch(&mut self, n: u16, ports: &[u16]) -> Result<(), TopoError>
         ensures added { OnOk result (self.new ≡ with_switch self.old n ports.now) }
-        ensures answer { Returns result (switch_answer self.old n ports.now) }
+        ensures answer { TopoReturns result (switch_answer self.old n ports.now) }
         ensures kept { OnErr result (self.new ≡ self.old) }
     {
         if self.is_switch(n) {
@@ -204,7 +204,7 @@ impl Topo {
     /// already; one ends at the target already.
     pub fn add_link(&mut self, a: u16, m: u16, b: u16, n: u16) -> Result<(), TopoError>
         ensures added { OnOk result (self.new ≡ with_link self.old (link_of (a, m, b, n))) }
-        ensures answer { Returns result (link_answer self.old (link_of (a, m, b, n))) }
+        ensures answer { TopoReturns result (link_answer self.old (link_of (a, m, b, n))) }
         ensures kept { OnErr result (self.new ≡ self.old) }
     {
         if !self.is_port(a, m) {

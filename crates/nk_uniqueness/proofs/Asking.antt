@@ -6,7 +6,7 @@ use Rattle.nk_field.specs.Packet.{FieldTable, IsFieldTable}
 use Rattle.nk_policy.specs.After.{drop_policy}
 use Rattle.nk_policy.specs.Policy.{marked_from, dups_of}
 use Rattle.nk_names.specs.declared.Program.{Program}
-use Rattle.nk_names.specs.ProgramOf.{said_by}
+use Rattle.nk_names.specs.ProgramOf.{program_by}
 use Rattle.nk_cert.specs.Certificates.{CertificateValue}
 use Rattle.nk_cert.specs.Verdicts.{Finding, IsFinding}
 use Rattle.nk_query.specs.Asked.{Asked, Question, NamesQuestion, NoneBreaks, IsBreaking, IsLeastBreak, rest_are_predicates}
@@ -21,7 +21,7 @@ use Rattle.nk_names.proofs.Alike.{fields_alike}
 use Rattle.nk_uniqueness.proofs.Comparing.{OnePrinted, OneFinding}
 use Rattle.nk_compile.proofs.Orders.{one_least}
 
-module _ (program other : Program) (same : said_by program ≡ said_by other) where
+module _ (program other : Program) (same : program_by program ≡ program_by other) where
   -- what is told of the question of these names is told of this one
   told_of : (asked : Asked) (x y : Question) (a : Queried) → NamesQuestion program asked x → NamesQuestion other asked y
       → IsToldOf other.fields y a → IsToldOf program.fields x a
@@ -47,7 +47,7 @@ told_of_asked : (program : Program) (asked : Asked) (a : Answer) → IsAsked pro
 told_of_asked program asked (Holds c) h = h
 told_of_asked program asked (Breaks f) h = (h.0, h.1, h.2.0)
 
-module _ (program other : Program) (same : said_by program ≡ said_by other) where
+module _ (program other : Program) (same : program_by program ≡ program_by other) where
   -- of a question that is named a cause holds in each program that says the same
   not_predicates : (asked : Asked) → IsHindranceByName program asked NotAPredicate → IsHindranceByName other asked TooLarge → ⊥
   not_predicates asked h k =

@@ -2,7 +2,7 @@
 use Rattle.std.proofs.Common.{◌≡◌, ℕ, List, sym}
 use Rattle.nk_names.specs.declared.Program.{Program}
 use Rattle.nk_names.specs.Accepted.{IsStartPacket}
-use Rattle.nk_names.specs.ProgramOf.{said_by}
+use Rattle.nk_names.specs.ProgramOf.{program_by}
 use Rattle.nk_names.proofs.Alike.{fields_alike, topo_alike, one_policy}
 use Rattle.nk_table.specs.declared.Tables.{Tables}
 use Rattle.nk_compile.specs.WholeTable.{IsTableOf}
@@ -11,7 +11,7 @@ use Rattle.nk_compile.proofs.ReasonByName.{alike}
 use Rattle.nk_uniqueness.specs.Packets.{HavePackets}
 use Rattle.nk_uniqueness.proofs.OneTable.{one_table}
 
-module _ (program other : Program) (same : said_by program ≡ said_by other) (name : List ℕ) where
+module _ (program other : Program) (same : program_by program ≡ program_by other) (name : List ℕ) where
   -- the tables that compiling a name gives are one
   pub one_compiled : (t u : Tables) → HavePackets program.fields program.topo → IsCompiled program name t → IsCompiled other name u → t ≡ u
   one_compiled t u there h k =

@@ -5,7 +5,7 @@ use Rattle.nk_field.specs.Order.{Found}
 use Rattle.nk_field.specs.Packet.{FieldTable, IsFieldTable}
 use Rattle.nk_policy.specs.Policy.{Policy, marked_from, dups_of}
 use Rattle.nk_names.specs.declared.Program.{Program}
-use Rattle.nk_names.specs.ProgramOf.{said_by}
+use Rattle.nk_names.specs.ProgramOf.{program_by}
 use Rattle.nk_cert.specs.Equality.{Side, on_left, on_right, IsOfOneAlone, IsLeastDifference}
 use Rattle.nk_cert.specs.Certificates.{CertificateValue}
 use Rattle.nk_cert.specs.Printed.{IsPrinted}
@@ -67,7 +67,7 @@ told_for : (program : Program) (left right : List ℕ) (a : Compared) → IsComp
 told_for program left right (Related c) h = h
 told_for program left right (Broken f) h = h
 
-module _ (program other : Program) (same : said_by program ≡ said_by other) (left right : List ℕ) where
+module _ (program other : Program) (same : program_by program ≡ program_by other) (left right : List ℕ) where
   -- what is told of two names is one
   pub one_told_for : OnePrinted → IsFieldTable program.fields → (a b : Told) → IsToldFor program left right a → IsToldFor other left right b → a ≡ b
   one_told_for law table a b h k =

@@ -12,7 +12,7 @@ use Rattle.nk_table.specs.declared.Tables.{Tables}
 use Rattle.nk_compile.specs.declared.refusal.Refusal.{Refusal}
 use Rattle.nk_compile.specs.declared.refusal.CompileError.{CompileError}
 use Rattle.nk_compile.specs.declared.refusal.CompileError.TheVariants.{NoMemory, Refused}
-use Rattle.nk_compile.specs.Answers.{IsError, IsAnswer, IsPolicyAnswer}
+use Rattle.nk_compile.specs.Answers.{IsError, IsCompileResult, IsPolicyAnswer}
 use Rattle.nk_compile.specs.Headline.{IsCompiledPolicy}
 use Rattle.nk_compile.specs.Refusals.{IsReason}
 use Rattle.nk_compile.specs.WholeTable.{IsTableOf}
@@ -78,7 +78,7 @@ one_policy_answer program other p a b same_fields same_topo there h k =
 
 -- what is answered of a policy is what is answered of its name
 pub policy_answer_named : (program : Program) (name : List ℕ) (p : Policy) (a : Answer) → policy_named program name ≡ Some p
-    → IsPolicyAnswer program p a → IsAnswer program name a
+    → IsPolicyAnswer program p a → IsCompileResult program name a
 policy_answer_named program name p (Ok t) named h = (p, named, h.0, h.1, h.2)
 policy_answer_named program name p (Err NoMemory) named h = tt
 policy_answer_named program name p (Err (Refused r)) named h = reason_named program name p named r h

@@ -10,7 +10,7 @@ use Rattle.nk_topo.specs.Topology.{Topology, SwitchPorts}
 use Rattle.nk_policy.specs.Policy.{Policy}
 use Rattle.nk_names.specs.declared.Program.{Program}
 use Rattle.nk_names.specs.Accepted.{IsStartPacket}
-use Rattle.nk_names.specs.ProgramOf.{said_by}
+use Rattle.nk_names.specs.ProgramOf.{program_by}
 use Rattle.nk_names.proofs.Alike.{fields_alike, topo_alike, one_policy}
 use Rattle.nk_store.specs.Diagram.{leaf_at}
 use Rattle.nk_table.specs.declared.Bucket.{Bucket}
@@ -28,7 +28,7 @@ use Rattle.nk_compile.proofs.ReasonByName.{alike}
 use Rattle.nk_compact.specs.declared.compact.Apart.{Apart}
 use Rattle.nk_compact.specs.declared.compact.Compact.{Compact}
 use Rattle.nk_compact.specs.Compacted.{IsOfFirstSetAlone, IsLeastAlone, IsFirstSet, IsApartIn, classes_apart, AreAparts, IsCompactOf, IsCompacted}
-use Rattle.nk_compact.specs.MergedTable.{GivesBehind, IsOfClass, IsMetMember, IsFirstPlace, IsActingMember, ActsFor, IsClassTree, HasClassRowsAt, IsClassTable, IsMergedTable}
+use Rattle.nk_compact.specs.MergedTable.{GivesAfter, IsOfClass, IsMetMember, IsFirstPlace, IsActingMember, ActsFor, IsClassTree, HasClassRowsAt, IsClassTable, IsMergedTable}
 use Rattle.nk_compact.proofs.CompactReasons.{one_classes}
 use Rattle.nk_uniqueness.specs.Packets.{HavePackets}
 use Rattle.nk_uniqueness.proofs.OneTable.{number_is, same_by_key}
@@ -138,7 +138,7 @@ module _ (fields : FieldTable) (p : Policy) where
   Sided s t first second alone f = ((alone ≡ first) × IsLeastAlone fields p s t f) ⊎ ((alone ≡ second) × IsLeastAlone fields p t s f)
 
   clash : (s t : List ℕ) (f g : Found) → f ≡ g → IsOfFirstSetAlone fields p s t f → IsOfFirstSetAlone fields p t s g → ⊥
-  clash s t f g e a b = b.2 (subst (λ z. GivesBehind p s z.start z.records z.last) e a.1)
+  clash s t f g e a b = b.2 (subst (λ z. GivesAfter p s z.start z.records z.last) e a.1)
 
   one_sided : (s t : List ℕ) (first second m n : ℕ) (f g : Found) → Sided s t first second m f → Sided s t first second n g → (m ≡ n) × (f ≡ g)
   one_sided s t first second m n f g (inl a) (inl b) =
@@ -207,7 +207,7 @@ one_compact fields topo p c d have h k =
     (subst (λ cs. AreAparts fields p k.tags cs c.aparts) classes (subst (λ ts. AreAparts fields p ts h.classes c.aparts) tags h.apart)) k.apart in
     λ n. record { tables = tables n; aparts = aparts n }
 
-module _ (program other : Program) (same : said_by program ≡ said_by other) (name : List ℕ) where
+module _ (program other : Program) (same : program_by program ≡ program_by other) (name : List ℕ) where
   -- and so is what compacting a name gives
   pub one_compacted : (c d : Compact) → HavePackets program.fields program.topo → IsCompacted program name c → IsCompacted other name d → c ≡ d
   one_compacted c d have h k =

@@ -9,11 +9,11 @@ use Rattle.nk_policy.specs.Policy.{Policy}
 use Rattle.nk_table.specs.declared.Table.{Table}
 use Rattle.nk_table.specs.declared.Tables.{Tables}
 use Rattle.nk_group.specs.Groups.{groups_of, rows_after}
-use Rattle.nk_compile.specs.NumberedBehind.{tags_behind, IsTableBehind}
+use Rattle.nk_compile.specs.NumberedAfter.{tags_after, IsTableAfter}
 use Rattle.nk_compile.specs.PrintedTable.{IsTreeOfTag}
 use Rattle.nk_compile.specs.WholeTable.{HasRowsAt, TagTree, rows_of_trees, IsSwitchTable, IsTableOf}
 use Rattle.nk_uniqueness.specs.Packets.{HavePackets}
-use Rattle.nk_compile.proofs.Behind.{behind_none}
+use Rattle.nk_compile.proofs.After.{after_none}
 use Rattle.nk_compile.proofs.OneTagList.{one_tag_list}
 use Rattle.nk_uniqueness.proofs.Trees.{one_tag_tree}
 
@@ -68,19 +68,19 @@ module _ (fields : FieldTable) (few : length fields.maxima ≤ 18) (tag : ℕ) (
       let rows = h.rows ∙ ap (λ ts. rows_after [] (rows_of_trees fields.maxima tag ts)) trees ∙ sym k.rows in
       λ n. record { switch = e n; groups = groups n; rows = rows n }
 
--- the tables that are printed for a policy behind so many tags are one
-pub one_table_behind : (first : ℕ) (fields : FieldTable) (topo : Topology) (Start : List ℕ → Type 0) (p : Policy) (t u : Tables) → HavePackets fields topo
-    → IsTableBehind first fields topo Start p t → IsTableBehind first fields topo Start p u → t ≡ u
-one_table_behind first fields topo Start p t u there h k =
+-- the tables that are printed for a policy after so many tags are one
+pub one_table_after : (first : ℕ) (fields : FieldTable) (topo : Topology) (Start : List ℕ → Type 0) (p : Policy) (t u : Tables) → HavePackets fields topo
+    → IsTableAfter first fields topo Start p t → IsTableAfter first fields topo Start p u → t ≡ u
+one_table_after first fields topo Start p t u there h k =
     let tag_is : h.tag ≡ k.tag = number_is h.tag k.tag (sym h.tag_declared ∙ k.tag_declared) in
     let tags_are : h.tags ≡ k.tags = one_tag_list p Start h.tags k.tags h.in_order k.in_order in
-    let h_each : All (IsSwitchTable fields k.tag p (tags_behind first k.tags)) t.tables =
-    subst (λ g. All (IsSwitchTable fields g p (tags_behind first k.tags)) t.tables) tag_is (subst (λ ts. All (IsSwitchTable fields h.tag p (tags_behind first ts)) t.tables) tags_are h.each) in
+    let h_each : All (IsSwitchTable fields k.tag p (tags_after first k.tags)) t.tables =
+    subst (λ g. All (IsSwitchTable fields g p (tags_after first k.tags)) t.tables) tag_is (subst (λ ts. All (IsSwitchTable fields h.tag p (tags_after first ts)) t.tables) tags_are h.each) in
     let tables =
     same_by_key (λ (s : Table). s.switch) t.tables u.tables (h.switches ∙ sym k.switches) (λ a b i j e.
-    one_switch_table fields there.few k.tag p (tags_behind first k.tags) a b (within a i) e
-    (members_from_all (IsSwitchTable fields k.tag p (tags_behind first k.tags)) t.tables h_each a i)
-    (members_from_all (IsSwitchTable fields k.tag p (tags_behind first k.tags)) u.tables k.each b j)) in
+    one_switch_table fields there.few k.tag p (tags_after first k.tags) a b (within a i) e
+    (members_from_all (IsSwitchTable fields k.tag p (tags_after first k.tags)) t.tables h_each a i)
+    (members_from_all (IsSwitchTable fields k.tag p (tags_after first k.tags)) u.tables k.each b j)) in
     λ n. record { fields = (h.same_fields ∙ sym k.same_fields) n; topo = (h.same_topology ∙ sym k.same_topology) n; tables = tables n }
   where
     -- a table's switch is declared
@@ -93,4 +93,4 @@ one_table_behind first fields topo Start p t u there h k =
 pub one_table : (fields : FieldTable) (topo : Topology) (Start : List ℕ → Type 0) (p : Policy) (t u : Tables) → HavePackets fields topo
     → IsTableOf fields topo Start p t → IsTableOf fields topo Start p u → t ≡ u
 one_table fields topo Start p t u there h k =
-    one_table_behind 0 fields topo Start p t u there (behind_none fields topo Start p t h) (behind_none fields topo Start p u k)
+    one_table_after 0 fields topo Start p t u there (after_none fields topo Start p t h) (after_none fields topo Start p u k)

@@ -5,21 +5,21 @@ use Rattle.nk_policy.specs.Policy.{Policy}
 use Rattle.nk_names.specs.declared.Program.{Program}
 use Rattle.nk_names.specs.Accepted.{IsStartPacket, IsAccepted}
 use Rattle.nk_names.specs.Named.{policy_named}
-use Rattle.nk_names.specs.ProgramOf.{said_by}
+use Rattle.nk_names.specs.ProgramOf.{program_by}
 use Rattle.nk_names.proofs.Alike.{fields_alike, topo_alike, one_policy}
 use Rattle.nk_compile.specs.declared.pair.TablePair.{TablePair}
 use Rattle.nk_compile.specs.declared.refusal.Refusal.{Refusal}
 use Rattle.nk_compile.specs.declared.refusal.CompileError.{CompileError}
 use Rattle.nk_compile.specs.declared.refusal.CompileError.TheVariants.{NoMemory, Refused}
 use Rattle.nk_compile.specs.Counted.{HasTagSets}
-use Rattle.nk_compile.specs.NumberedBehind.{IsTableBehind}
+use Rattle.nk_compile.specs.NumberedAfter.{IsTableAfter}
 use Rattle.nk_compile.specs.PairAnswers.{FitTogether, IsCompiledPair, IsPairRefused, IsPairAnswer}
 use Rattle.nk_compile.specs.WholeTable.{IsTableOf}
 use Rattle.nk_compile.proofs.ReasonByName.{alike}
 use Rattle.nk_compile.proofs.PairReasonByName.{fitting_never_refused, one_pair_refusal}
 use Rattle.nk_uniqueness.specs.Packets.{HavePackets}
 use Rattle.nk_compile.proofs.OneTagList.{one_tag_list}
-use Rattle.nk_uniqueness.proofs.OneTable.{one_table, one_table_behind}
+use Rattle.nk_uniqueness.proofs.OneTable.{one_table, one_table_after}
 
 abbrev Answer : Type 0
 Answer = Result TablePair CompileError
@@ -30,7 +30,7 @@ with_tables t = Ok t
 abbrev with_reason : Refusal → Answer
 with_reason r = Err (Refused r)
 
-module _ (program other : Program) (same : said_by program ≡ said_by other) (old new : List ℕ) where
+module _ (program other : Program) (same : program_by program ≡ program_by other) (old new : List ℕ) where
   -- names that are compiled aren't refused
   pub never_both : (a : TablePair) (r : Refusal) → IsCompiledPair program old new a → IsPairRefused other old new r → ⊥
   never_both a r h k =
@@ -53,13 +53,13 @@ module _ (program other : Program) (same : said_by program ≡ said_by other) (o
       one_table fields topo (IsStartPacket fields topo) h.p a.old b.old there h.printed_old
       (alike (λ f t z. IsTableOf f t (IsStartPacket f t) z b.old) other.fields fields other.topo topo k.p h.p e d p_is k.printed_old) in
       let news =
-      one_table_behind b.old_tags fields topo (IsStartPacket fields topo) h.q a.new b.new there
-      (subst (λ n. IsTableBehind n fields topo (IsStartPacket fields topo) h.q a.new) many h.printed_new)
-      (alike (λ f t z. IsTableBehind b.old_tags f t (IsStartPacket f t) z b.new) other.fields fields other.topo topo k.q h.q e d q_is k.printed_new) in
+      one_table_after b.old_tags fields topo (IsStartPacket fields topo) h.q a.new b.new there
+      (subst (λ n. IsTableAfter n fields topo (IsStartPacket fields topo) h.q a.new) many h.printed_new)
+      (alike (λ f t z. IsTableAfter b.old_tags f t (IsStartPacket f t) z b.new) other.fields fields other.topo topo k.q h.q e d q_is k.printed_new) in
       λ n. record { old = olds n; new = news n; old_tags = many n }
 
 -- two answers
-pub one_pair_answer : (program other : Program) → said_by program ≡ said_by other → (old new : List ℕ) (a b : Answer) → HavePackets program.fields program.topo
+pub one_pair_answer : (program other : Program) → program_by program ≡ program_by other → (old new : List ℕ) (a b : Answer) → HavePackets program.fields program.topo
     → IsPairAnswer program old new a → IsPairAnswer other old new b → (a ≡ Err NoMemory) ⊎ ((b ≡ Err NoMemory) ⊎ (a ≡ b))
 one_pair_answer program other same old new (Ok t) (Ok u) there h k = inr (inr (ap with_tables (one_pair program other same old new t u there h k)))
 one_pair_answer program other same old new (Ok t) (Err NoMemory) there h k = inr (inl refl)
@@ -70,7 +70,7 @@ one_pair_answer program other same old new (Err (Refused r)) (Err NoMemory) ther
 one_pair_answer program other same old new (Err (Refused r)) (Err (Refused s)) there h k = inr (inr (ap with_reason (one_pair_refusal program other same old new r s h k)))
 
 -- what is answered to two accepted policies whose tags fit together
-pub fitting_answer : (program other : Program) → said_by program ≡ said_by other → (old new : List ℕ) (p q : Policy) (a : Answer)
+pub fitting_answer : (program other : Program) → program_by program ≡ program_by other → (old new : List ℕ) (p q : Policy) (a : Answer)
     → policy_named program old ≡ Some p → policy_named program new ≡ Some q → IsAccepted program p → IsAccepted program q
     → FitTogether program.fields program.topo p q → IsPairAnswer other old new a
     → (a ≡ Err NoMemory) ⊎ ((r : TablePair) × (a ≡ Ok r) × IsCompiledPair other old new r)
@@ -80,7 +80,7 @@ fitting_answer program other same old new p q (Err (Refused r)) e f k l fit h =
     absurd (fitting_never_refused program other same old new p q r e f k l fit h)
 
 -- and to two names that are refused
-pub refused_pair_answer : (program other : Program) → said_by program ≡ said_by other → (old new : List ℕ) (r : Refusal) (a : Answer)
+pub refused_pair_answer : (program other : Program) → program_by program ≡ program_by other → (old new : List ℕ) (r : Refusal) (a : Answer)
     → IsPairRefused program old new r → IsPairAnswer other old new a → (a ≡ Err NoMemory) ⊎ (a ≡ Err (Refused r))
 refused_pair_answer program other same old new r (Ok t) k h = absurd (never_both other program (sym same) old new t r h k)
 refused_pair_answer program other same old new r (Err NoMemory) k h = inl refl

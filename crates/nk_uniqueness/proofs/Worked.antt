@@ -178,9 +178,9 @@ zeros_are_packet = record {
 pub small_difference : IsSmallDifference
 small_difference = ((zeros_are_packet, (refl, refl), λ g. g), ((on_left, (zeros_are_packet, (refl, refl), λ g. g)), least))
   where
-    behind : (f : Found) (s : Side) → IsOfOneAlone built_in id_policy drop_policy s f → (zeros_stay ≡ f) ⊎ IsLess zeros_stay f
-    behind f on_right h = absurd h.1
-    behind f on_left h =
+    following : (f : Found) (s : Side) → IsOfOneAlone built_in id_policy drop_policy s f → (zeros_stay ≡ f) ⊎ IsLess zeros_stay f
+    following f on_right h = absurd h.1
+    following f on_left h =
         let last : f.start ≡ f.last = sym h.1.1 in
         let records : [] ≡ f.records = sym h.1.0 in
         ⊎_elim
@@ -189,4 +189,4 @@ small_difference = ((zeros_are_packet, (refl, refl), λ g. g), ((on_left, (zeros
         (zeros_first 18 f.start h.0.places)
 
     least : (f : Found) → ((s : Side) × IsOfOneAlone built_in id_policy drop_policy s f) → (zeros_stay ≡ f) ⊎ IsLess zeros_stay f
-    least f h = behind f h.0 h.1
+    least f h = following f h.0 h.1

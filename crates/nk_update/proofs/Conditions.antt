@@ -11,7 +11,7 @@ use Rattle.nk_table.specs.declared.Group.{Group}
 use Rattle.nk_table.specs.declared.Bucket.{Bucket}
 use Rattle.nk_table.specs.declared.Target.TheVariants as target
 use Rattle.nk_table.specs.declared.Exit.TheVariants.{Back, Port}
-use Rattle.nk_table.specs.Rules.{agrees, agrees_at, highest, rows_of, groups_of, buckets_for, buckets_of_row, sent_by, sent_for}
+use Rattle.nk_table.specs.Rules.{agrees, agrees_at, highest, rows_of, groups_at_switch, buckets_for, buckets_of_row, sent_by, sent_for}
 use Rattle.nk_table.specs.Hops.{Copy, crossing, across, next_of, waiting, moved_to}
 use Rattle.nk_table.specs.Worked.{one_crossing, two_fields, row, bucket}
 use Rattle.nk_update.specs.Plans.{HasOldTag, HasNewTag, NamesOneOf, AreNumberedFrom, IsPlannable}
@@ -76,22 +76,22 @@ worked_is_plannable =
           (none_of (HasNewTag worked_pair));
       old_numbers = record {
         groups = λ sw. no_group sw;
-        named = λ sw. let P : Row → Type 0 = λ r. NamesOneOf (length (groups_of one_crossing.tables sw)) r.target in
+        named = λ sw. let P : Row → Type 0 = λ r. NamesOneOf (length (groups_at_switch one_crossing.tables sw)) r.target in
             chosen (All P) (1 == sw) (2 == sw) (old_row ∷ []) (old_back ∷ old_out ∷ []) (one_of P old_row tt) (two_of P old_back old_out tt tt) (none_of P);
       };
       new_numbers = record {
         groups = λ sw. no_group' sw;
-        named = λ sw. let P : Row → Type 0 = λ r. NamesOneOf (length (groups_of sending_back.tables sw)) r.target in
+        named = λ sw. let P : Row → Type 0 = λ r. NamesOneOf (length (groups_at_switch sending_back.tables sw)) r.target in
             chosen (All P) (1 == sw) (2 == sw) (new_row ∷ []) [] (one_of P new_row tt) (none_of P) (none_of P);
       };
       old_switches = λ sw n. undeclared sw (old_row ∷ []) (old_back ∷ old_out ∷ []) n;
       new_switches = λ sw n. undeclared sw (new_row ∷ []) [] n;
     }
   where
-    no_group : (sw : ℕ) → AreNumberedFrom 1 (groups_of one_crossing.tables sw)
+    no_group : (sw : ℕ) → AreNumberedFrom 1 (groups_at_switch one_crossing.tables sw)
     no_group sw = chosen (AreNumberedFrom 1) (1 == sw) (2 == sw) [] [] tt tt tt
 
-    no_group' : (sw : ℕ) → AreNumberedFrom 1 (groups_of sending_back.tables sw)
+    no_group' : (sw : ℕ) → AreNumberedFrom 1 (groups_at_switch sending_back.tables sw)
     no_group' sw = chosen (AreNumberedFrom 1) (1 == sw) (2 == sw) [] [] tt tt tt
 
 -- the rows of the switch with groups
@@ -177,20 +177,20 @@ record IsSentBy (t : Tables) (x y : List ℕ) : Type 0 where
   pub bucket : Bucket
   pub there : In (rows_of t.tables (slice_index x 0)) row
   pub matches : agrees t.fields.maxima x row ≡ true
-  pub among : In (buckets_for (groups_of t.tables (slice_index x 0)) row.target) bucket
+  pub among : In (buckets_for (groups_at_switch t.tables (slice_index x 0)) row.target) bucket
   pub sends : sent_by x bucket ≡ Some y
 
 sent_row : (t : Tables) (x y : List ℕ) → In (sent_for t x) y → IsSentBy t x y
 sent_row t x y i =
     let sw = slice_index x 0 in
     let rows = rows_of t.tables sw in
-    let groups = groups_of t.tables sw in
+    let groups = groups_at_switch t.tables sw in
     let mx = t.fields.maxima in
     let found = highest [] (filter (agrees mx x) rows) in
     let r = from_images (sent_by x) (buckets_of_row groups found) y i in
     by found refl r.0 r.1 r.2
   where
-    by : (o : Option Row) → highest [] (filter (agrees t.fields.maxima x) (rows_of t.tables (slice_index x 0))) ≡ o → (b : Bucket) → In (buckets_of_row (groups_of t.tables (slice_index x 0)) o) b
+    by : (o : Option Row) → highest [] (filter (agrees t.fields.maxima x) (rows_of t.tables (slice_index x 0))) ≡ o → (b : Bucket) → In (buckets_of_row (groups_at_switch t.tables (slice_index x 0)) o) b
         → sent_by x b ≡ Some y → IsSentBy t x y
     by None e b j s = absurd j
     by (Some r) e b j s =
@@ -218,7 +218,7 @@ port_sent : (m : Bool) (z y : List ℕ) → (if m then None else Some z) ≡ Som
 port_sent true z y e = absurd (clash y e)
 port_sent false z y e = sym (same_some z y e)
 
--- the packet behind the link
+-- the packet after the link
 abbrev sent_over : List ℕ → List ℕ
 sent_over x = moved_to (2, 1) (slice_set (slice_set x 3 1) 1 2)
 
@@ -279,7 +279,7 @@ old_crossed c l d i =
     let m = from_joined (across one_crossing c.records) (sent_for one_crossing x) d i in
     let y = m.0 in
     let s = sent_row one_crossing x y m.1 in
-    let gs = groups_of one_crossing.tables (slice_index x 0) in
+    let gs = groups_at_switch one_crossing.tables (slice_index x 0) in
     let o = over_link one_crossing c.records y ((1 == slice_index y 0) && (2 == slice_index y 1)) d m.2 in
     ⊎_elim
     (λ r.
@@ -307,7 +307,7 @@ new_crosses_nowhere c d i =
     let m = from_joined (across sending_back c.records) (sent_for sending_back x) d i in
     let y = m.0 in
     let s = sent_row sending_back x y m.1 in
-    let gs = groups_of sending_back.tables (slice_index x 0) in
+    let gs = groups_at_switch sending_back.tables (slice_index x 0) in
     let o = over_link sending_back c.records y ((1 == slice_index y 0) && (2 == slice_index y 1)) d m.2 in
     ⊎_elim
     (λ r.

@@ -15,7 +15,7 @@ use Rattle.nk_table.specs.declared.Row.{Row}
 use Rattle.nk_table.specs.declared.Group.{Group}
 use Rattle.nk_table.specs.declared.Target.{Target}
 use Rattle.nk_table.specs.declared.Target.TheVariants as target
-use Rattle.nk_table.specs.Rules.{agrees, agrees_at, rows_of, groups_of, is_above_all, highest, buckets_in, buckets_for, buckets_of_row, sent_by, sent_for}
+use Rattle.nk_table.specs.Rules.{agrees, agrees_at, rows_of, groups_at_switch, is_above_all, highest, buckets_in, buckets_for, buckets_of_row, sent_by, sent_for}
 use Rattle.nk_update.specs.declared.plans.Plan.{Plan}
 use Rattle.nk_update.specs.Plans.{Pair, tag_digits, asked_of, plan_table, switches_of, HasOldTag, HasNewTag, NamesOneOf, AreNumberedFrom, IsPlannable, is_tagged, is_tagged_row, old_stands, new_stands, numbered_on, target_on, row_on, rows_at, groups_at}
 use Rattle.nk_update.specs.Steps.{steps_of, plan_of, table_after, tables_after, AreFourTables}
@@ -193,7 +193,7 @@ buckets_on n gs hs rows h = by (highest [] rows) refl
     by None e = refl
     by (Some r) e = h r (found_in [] rows r e)
 
--- a group that is there is found before those behind
+-- a group that is there is found before those after
 old_found : (n : ℕ) (gs hs : List Group) (g : ℕ) → AreNumberedFrom n gs → n ≤ g → g < n + length gs → buckets_in (gs ++ hs) g ≡ buckets_in gs g
 old_found n [] hs g a le lt = absurd (omega (arith, le, lt))
 old_found n (x ∷ xs) hs g a le lt = by (x.number == g) refl (λ more less. old_found (n + 1) xs hs g a.1 more less)
@@ -230,13 +230,13 @@ numbered_found n (x ∷ xs) g =
     ap (λ b. if b then x.buckets else buckets_in (map (numbered_on n) xs) (g + n)) (same_test x.number g n)
     ∙ ap (λ l. if x.number == g then x.buckets else l) (numbered_found n xs g)
 
--- what an old row's target does, with more groups behind
+-- what an old row's target does, with more groups after
 old_target : (gs hs : List Group) (to : Target) → AreNumberedFrom 1 gs → NamesOneOf (length gs) to → buckets_for (gs ++ hs) to ≡ buckets_for gs to
 old_target gs hs (target.Group g) a n = let lt : g < 1 + length gs = omega (arith, n.1) in old_found 1 gs hs g a n.0 lt
 old_target gs hs (target.Bucket b) a n = refl
 old_target gs hs target.Discard a n = refl
 
--- what a new row's target does, behind the old groups or alone
+-- what a new row's target does, after the old groups or alone
 new_target : (b : Bool) (olds news : List Group) (to : Target) → AreNumberedFrom 1 olds → NamesOneOf (length news) to →
     buckets_for ((if b then olds else []) ++ map (numbered_on (length olds)) news) (target_on (length olds) to) ≡ buckets_for news to
 new_target true olds news (target.Group g) a n =
@@ -260,11 +260,11 @@ rows_made tb s (n ∷ ns) sw i = by ((tb n).switch == sw) refl i (rows_made tb s
     by true e i r = ap (λ k. (tb k).rows) (sym (s n) ∙ true_eq (tb n).switch sw e)
     by false e i r = ⊎_elim (λ h. absurd (false_eq (tb n).switch sw e (s n ∙ sym h))) (λ j. r j) i
 
-groups_made : (tb : ℕ → Table) → ((n : ℕ) → (tb n).switch ≡ n) → (ns : List ℕ) (sw : ℕ) → In ns sw → groups_of (map tb ns) sw ≡ (tb sw).groups
+groups_made : (tb : ℕ → Table) → ((n : ℕ) → (tb n).switch ≡ n) → (ns : List ℕ) (sw : ℕ) → In ns sw → groups_at_switch (map tb ns) sw ≡ (tb sw).groups
 groups_made tb s [] sw i = absurd i
 groups_made tb s (n ∷ ns) sw i = by ((tb n).switch == sw) refl i (groups_made tb s ns sw)
   where
-    by : (b : Bool) → (tb n).switch == sw ≡ b → In (n ∷ ns) sw → (In ns sw → groups_of (map tb ns) sw ≡ (tb sw).groups) → (if b then (tb n).groups else groups_of (map tb ns) sw) ≡ (tb sw).groups
+    by : (b : Bool) → (tb n).switch == sw ≡ b → In (n ∷ ns) sw → (In ns sw → groups_at_switch (map tb ns) sw ≡ (tb sw).groups) → (if b then (tb n).groups else groups_at_switch (map tb ns) sw) ≡ (tb sw).groups
     by true e i r = ap (λ k. (tb k).groups) (sym (s n) ∙ true_eq (tb n).switch sw e)
     by false e i r = ⊎_elim (λ h. absurd (false_eq (tb n).switch sw e (s n ∙ sym h))) (λ j. r j) i
 
@@ -302,7 +302,7 @@ module _ (p : Pair) (ok : IsPlannable p) (d : ℕ) (most : d ≤ 3) (pk : List �
   news = rows_of p.new.tables here
 
   abbrev shift : ℕ
-  shift = length (groups_of p.old.tables here)
+  shift = length (groups_at_switch p.old.tables here)
 
   abbrev mx : List ℕ
   mx = p.old.fields.maxima
@@ -330,7 +330,7 @@ module _ (p : Pair) (ok : IsPlannable p) (d : ℕ) (most : d ≤ 3) (pk : List �
   -- the switch's own table acts
   there_sent : sent_for stage pk ≡ filter_map (sent_by pk) (buckets_of_row (groups_at p.old p.new d here) (highest [] (filter (agrees mx pk) (rows_at p.old p.new p.tag d here))))
   there_sent =
-      ap (λ ts. filter_map (sent_by pk) (buckets_of_row (groups_of ts here) (highest [] (filter (agrees mx pk) (rows_of ts here)))))
+      ap (λ ts. filter_map (sent_by pk) (buckets_of_row (groups_at_switch ts here) (highest [] (filter (agrees mx pk) (rows_of ts here)))))
       (mapped_twice (table_after d) (steps_of p.old p.new p.tag) switches)
       ∙ ⊎_elim
       (λ i.
@@ -339,7 +339,7 @@ module _ (p : Pair) (ok : IsPlannable p) (d : ℕ) (most : d ≤ 3) (pk : List �
       ∙ ap (λ rs. filter_map (sent_by pk) (buckets_of_row (groups_at p.old p.new d here) (highest [] (filter (agrees mx pk) rs))))
       (rows_made made made_at switches here i ∙ ap (λ (t : Table). t.rows) (table_is p d most here)))
       (λ n.
-      ap (λ rs. filter_map (sent_by pk) (buckets_of_row (groups_of (map made switches) here) (highest [] (filter (agrees mx pk) rs)))) (none_made made made_at switches here n)
+      ap (λ rs. filter_map (sent_by pk) (buckets_of_row (groups_at_switch (map made switches) here) (highest [] (filter (agrees mx pk) rs)))) (none_made made made_at switches here n)
       ∙ sym (ap (λ rs. filter_map (sent_by pk) (buckets_of_row (groups_at p.old p.new d here) (highest [] (filter (agrees mx pk) (filter (old_stands (tag_digits p.old p.tag) p.tag d) rs ++ map (row_on shift) (filter (new_stands (tag_digits p.old p.tag) p.tag d) news)))))) (no_rows n).0
       ∙ ap (λ rs. filter_map (sent_by pk) (buckets_of_row (groups_at p.old p.new d here) (highest [] (filter (agrees mx pk) (map (row_on shift) (filter (new_stands (tag_digits p.old p.tag) p.tag d) rs)))))) (no_rows n).1))
       (in_decided numbers_decided switches here)
@@ -355,8 +355,8 @@ module _ (p : Pair) (ok : IsPlannable p) (d : ℕ) (most : d ≤ 3) (pk : List �
       → ((r : Row) → In news r → agrees mx pk r ≡ true → new_stands (tag_digits p.old p.tag) p.tag d r ≡ true → ⊥)
       → sent_for stage pk ≡ sent_for p.old pk
   by_old le stand none =
-      let groups = groups_of p.old.tables here in
-      let more = if nat_le 1 d then map (numbered_on shift) (groups_of p.new.tables here) else [] in
+      let groups = groups_at_switch p.old.tables here in
+      let more = if nat_le 1 d then map (numbered_on shift) (groups_at_switch p.new.tables here) else [] in
       let rows = filter (agrees mx pk) olds in
       let all : filter (agrees mx pk) (rows_at p.old p.new p.tag d here) ≡ rows =
       matching
@@ -375,8 +375,8 @@ module _ (p : Pair) (ok : IsPlannable p) (d : ℕ) (most : d ≤ 3) (pk : List �
       → ((r : Row) → In news r → agrees mx pk r ≡ true → new_stands (tag_digits p.old p.tag) p.tag d r ≡ true)
       → sent_for stage pk ≡ sent_for p.new pk
   by_new le none stand =
-      let groups = groups_of p.old.tables here in
-      let later = groups_of p.new.tables here in
+      let groups = groups_at_switch p.old.tables here in
+      let later = groups_at_switch p.new.tables here in
       let rows = filter (agrees mx pk) news in
       let all : filter (agrees mx pk) (rows_at p.old p.new p.tag d here) ≡ map (row_on shift) rows =
       matching
@@ -472,7 +472,7 @@ module _ (p : Pair) (ok : IsPlannable p) (d : ℕ) (most : d ≤ 3) (pk : List �
   nothing_sent n =
       let none = no_rows n in (
         by_none (λ r i a s. subst (λ l. In l r) none.0 i) (λ r i a s. subst (λ l. In l r) none.1 i),
-        ap (λ l. filter_map (sent_by pk) (buckets_of_row (groups_of p.new.tables here) (highest [] (filter (agrees p.new.fields.maxima pk) l)))) none.1,
+        ap (λ l. filter_map (sent_by pk) (buckets_of_row (groups_at_switch p.new.tables here) (highest [] (filter (agrees p.new.fields.maxima pk) l)))) none.1,
       )
 
 -- more than three steps are three
@@ -552,7 +552,7 @@ pub four_tables : (old new : Tables) (f sw : ℕ) → AreFourTables old new f sw
 four_tables old new f sw =
     let olds = rows_of old.tables sw in
     let news = rows_of new.tables sw in
-    let n = length (groups_of old.tables sw) in
+    let n = length (groups_at_switch old.tables sw) in
     let d = tag_digits old f in
     let on : List Row → List Row = λ l. map (row_on n) l in
     record {
@@ -561,7 +561,7 @@ four_tables old new f sw =
           ap (λ l. l ++ on (filter (new_stands d f 0) news)) (kept_all (old_stands d f 0) olds (λ r. either_way true (is_tagged_row d f r)))
           ∙ ap (λ l. olds ++ on l) (all_out (new_stands d f 0) news (λ r. either_way false (is_tagged_row d f r)))
           ∙ append-nil olds;
-      before_groups = append-nil (groups_of old.tables sw);
+      before_groups = append-nil (groups_at_switch old.tables sw);
       added_rows =
           ap (λ l. l ++ on (filter (new_stands d f 1) news)) (kept_all (old_stands d f 1) olds (λ r. either_way true (is_tagged_row d f r)))
           ∙ ap (λ l. olds ++ on l) (kept_same (new_stands d f 1) (is_tagged_row d f) news (λ r. by_test (is_tagged_row d f r)));

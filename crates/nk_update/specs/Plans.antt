@@ -10,7 +10,7 @@ use Rattle.nk_table.specs.declared.Row.{Row}
 use Rattle.nk_table.specs.declared.Group.{Group}
 use Rattle.nk_table.specs.declared.Target.{Target}
 use Rattle.nk_table.specs.declared.Target.TheVariants as target
-use Rattle.nk_table.specs.Rules.{rows_of, groups_of}
+use Rattle.nk_table.specs.Rules.{rows_of, groups_at_switch}
 
 -- the old tables and the new ones; the greatest of the old tags; the place of the tag
 pub record Pair : Type 0 where
@@ -57,8 +57,8 @@ AreNumberedFrom n (g ∷ gs) = (g.number ≡ n) × AreNumberedFrom (n + 1) gs
 
 -- the groups of each switch are numbered from 1, and its rows name none but these
 pub record NumbersInOrder (t : Tables) : Type 0 where
-  pub groups : (sw : ℕ) → AreNumberedFrom 1 (groups_of t.tables sw)
-  pub named : (sw : ℕ) → All (λ (r : Row). NamesOneOf (length (groups_of t.tables sw)) r.target) (rows_of t.tables sw)
+  pub groups : (sw : ℕ) → AreNumberedFrom 1 (groups_at_switch t.tables sw)
+  pub named : (sw : ℕ) → All (λ (r : Row). NamesOneOf (length (groups_at_switch t.tables sw)) r.target) (rows_of t.tables sw)
 
 -- the declared switches
 abbrev pub switches_of : Tables → List ℕ
@@ -99,7 +99,7 @@ old_stands digits f steps r = if is_tagged_row digits f r then nat_le steps 2 el
 abbrev pub new_stands : (digits f steps : ℕ) → Row → Bool
 new_stands digits f steps r = if is_tagged_row digits f r then nat_le 1 steps else nat_le 2 steps
 
--- group numbers that go on behind n groups
+-- group numbers that go on after n groups
 abbrev pub numbered_on : ℕ → Group → Group
 numbered_on n g = record { number = g.number + n; buckets = g.buckets }
 
@@ -112,17 +112,17 @@ abbrev pub row_on : ℕ → Row → Row
 row_on n r = record { priority = r.priority; matches = r.matches; target = target_on n r.target }
 
 -- The rows of a switch after so many plan steps: the old ones that still stand, and the new ones that stand already, whose
--- groups are numbered on behind the old ones.
+-- groups are numbered on after the old ones.
 abbrev pub rows_at : (old new : Tables) (tag steps sw : ℕ) → List Row
 rows_at old new tag steps sw =
     filter (old_stands (tag_digits old tag) tag steps) (rows_of old.tables sw)
-    ++ map (row_on (length (groups_of old.tables sw))) (filter (new_stands (tag_digits old tag) tag steps) (rows_of new.tables sw))
+    ++ map (row_on (length (groups_at_switch old.tables sw))) (filter (new_stands (tag_digits old tag) tag steps) (rows_of new.tables sw))
 
--- its groups: the old ones until the third step, the new ones, with their numbers behind those, from the first on
+-- its groups: the old ones until the third step, the new ones, with their numbers after those, from the first on
 abbrev pub groups_at : (old new : Tables) (steps sw : ℕ) → List Group
 groups_at old new steps sw =
-    (if nat_le steps 2 then groups_of old.tables sw else [])
-    ++ (if nat_le 1 steps then map (numbered_on (length (groups_of old.tables sw))) (groups_of new.tables sw) else [])
+    (if nat_le steps 2 then groups_at_switch old.tables sw else [])
+    ++ (if nat_le 1 steps then map (numbered_on (length (groups_at_switch old.tables sw))) (groups_at_switch new.tables sw) else [])
 
 -- the switch's table after so many plan steps
 abbrev pub plan_table : (old new : Tables) (tag steps sw : ℕ) → Table

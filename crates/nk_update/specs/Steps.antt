@@ -4,7 +4,7 @@ use Rattle.nk_table.specs.declared.Tables.{Tables}
 use Rattle.nk_table.specs.declared.Table.{Table}
 use Rattle.nk_table.specs.declared.Row.{Row}
 use Rattle.nk_table.specs.declared.Group.{Group}
-use Rattle.nk_table.specs.Rules.{rows_of, groups_of}
+use Rattle.nk_table.specs.Rules.{rows_of, groups_at_switch}
 use Rattle.nk_update.specs.declared.plans.Plan.{Plan}
 use Rattle.nk_update.specs.declared.plans.PlanTables.{PlanTables}
 use Rattle.nk_update.specs.Plans.{Pair, tag_digits, is_tagged_row, numbered_on, row_on, plan_table, switches_of}
@@ -43,22 +43,22 @@ tables_after plan steps = record { fields = plan.fields; topo = plan.topo; table
 abbrev pub tagged_rows : (digits tag : ℕ) → List Row → List Row
 tagged_rows digits tag rows = filter (is_tagged_row digits tag) rows
 
--- rows whose groups are numbered behind the old ones of a switch; such groups
-abbrev pub rows_behind : (old : Tables) (sw : ℕ) → List Row → List Row
-rows_behind old sw rows = map (row_on (length (groups_of old.tables sw))) rows
+-- rows whose groups are numbered after the old ones of a switch; such groups
+abbrev pub rows_following : (old : Tables) (sw : ℕ) → List Row → List Row
+rows_following old sw rows = map (row_on (length (groups_at_switch old.tables sw))) rows
 
-abbrev pub groups_behind : (old : Tables) (sw : ℕ) → List Group → List Group
-groups_behind old sw groups = map (numbered_on (length (groups_of old.tables sw))) groups
+abbrev pub groups_following : (old : Tables) (sw : ℕ) → List Group → List Group
+groups_following old sw groups = map (numbered_on (length (groups_at_switch old.tables sw))) groups
 
 -- The four tables of a switch: the old one; with the new tagged rows and all new groups; with the new rows of tag 0 in the
 -- old ones' place; and without the old tagged rows and groups.
 pub record AreFourTables (old new : Tables) (tag sw : ℕ) (s : PlanTables) : Type 0 where
   pub switch : s.switch ≡ sw
   pub before_rows : s.before.rows ≡ rows_of old.tables sw
-  pub before_groups : s.before.groups ≡ groups_of old.tables sw
-  pub added_rows : s.added.rows ≡ rows_of old.tables sw ++ rows_behind old sw (tagged_rows (tag_digits old tag) tag (rows_of new.tables sw))
-  pub added_groups : s.added.groups ≡ groups_of old.tables sw ++ groups_behind old sw (groups_of new.tables sw)
-  pub replaced_rows : s.replaced.rows ≡ tagged_rows (tag_digits old tag) tag (rows_of old.tables sw) ++ rows_behind old sw (rows_of new.tables sw)
-  pub replaced_groups : s.replaced.groups ≡ groups_of old.tables sw ++ groups_behind old sw (groups_of new.tables sw)
-  pub removed_rows : s.removed.rows ≡ rows_behind old sw (rows_of new.tables sw)
-  pub removed_groups : s.removed.groups ≡ groups_behind old sw (groups_of new.tables sw)
+  pub before_groups : s.before.groups ≡ groups_at_switch old.tables sw
+  pub added_rows : s.added.rows ≡ rows_of old.tables sw ++ rows_following old sw (tagged_rows (tag_digits old tag) tag (rows_of new.tables sw))
+  pub added_groups : s.added.groups ≡ groups_at_switch old.tables sw ++ groups_following old sw (groups_at_switch new.tables sw)
+  pub replaced_rows : s.replaced.rows ≡ tagged_rows (tag_digits old tag) tag (rows_of old.tables sw) ++ rows_following old sw (rows_of new.tables sw)
+  pub replaced_groups : s.replaced.groups ≡ groups_at_switch old.tables sw ++ groups_following old sw (groups_at_switch new.tables sw)
+  pub removed_rows : s.removed.rows ≡ rows_following old sw (rows_of new.tables sw)
+  pub removed_groups : s.removed.groups ≡ groups_following old sw (groups_at_switch new.tables sw)

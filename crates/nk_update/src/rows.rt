@@ -59,7 +59,7 @@ fn new_stands(digits: u8, f: Fid, steps: u64, row: &Row) -> bool
     }
 }
 
-/// The row with its group's number behind n groups.
+/// The row with its group's number after n groups.
 fn numbered_on(row: &Row, n: u64, most: u64) -> Result<Row, AllocError>
     requires named { plans.NamesOneOf most row.now.target }
     requires few { most + n ≤ u64.MAX }
@@ -78,7 +78,7 @@ fn numbered_on(row: &Row, n: u64, most: u64) -> Result<Row, AllocError>
     })
 }
 
-/// Puts a row behind others, if it stands.
+/// Puts a row after others, if it stands.
 fn keep(rows: &mut List<Row>, row: &Row, stands: bool) -> Result<(), AllocError>
     ensures { OnOk result (rows.new ≡ rows.old ++ (if stands then row.now ∷ [] else [])) }
 {
@@ -106,7 +106,7 @@ fn standing(
     Ok(rows)
 }
 
-/// Puts a new row behind others, its group's number behind n groups, if it stands.
+/// Puts a new row after others, its group's number after n groups, if it stands.
 fn keep_new(
     rows: &mut List<Row>,
     row: &Row,

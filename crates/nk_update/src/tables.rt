@@ -1,6 +1,6 @@
 //! The table of a switch while plan steps are done.
 ghost use Rattle.std.specs.Prelude.{◌≡◌, IfOk};
-ghost use Rattle.nk_table.specs.Rules.{groups_of};
+ghost use Rattle.nk_table.specs.Rules.{groups_at_switch};
 ghost use Rattle.nk_update.specs.Plans as plans;
 ghost use Rattle.nk_update.specs.Plans.{NumbersInOrder};
 
@@ -12,7 +12,7 @@ use std::alloc::{AllocError, Global};
 
 /// The groups of a switch, none where it has no table.
 fn groups_at<'a>(tables: &'a [Table], switch: u16) -> &'a [Group]
-    ensures { result.now ≡ groups_of tables.now switch }
+    ensures { result.now ≡ groups_at_switch tables.now switch }
 {
     for table in tables {
         if table.switch == switch {

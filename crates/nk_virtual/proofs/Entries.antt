@@ -12,7 +12,7 @@ use Rattle.nk_virtual.specs.Fabrics.{IsAtStartOf, moved_along}
 use Rattle.nk_virtual.specs.Questions.{tag_tests, at_entry, from_entry, move}
 use Rattle.nk_virtual.proofs.Literals.{plain}
 
--- behind a test
+-- after a test
 pub test_first : (f n : ℕ) (R : Way Packet) (z : Packet) (w : List Packet) (y : Packet)
     → followed_by (keep_where f n) R z w y ↔ ((slice_index z f ≡ n) × R z w y)
 test_first f n R z w y = (
@@ -23,7 +23,7 @@ test_first f n R z w y = (
   λ h. ([], w, z, refl, (h.0, refl, refl), h.1),
 )
 
--- behind an assignment
+-- after an assignment
 pub set_first : (f n : ℕ) (R : Way Packet) (z : Packet) (w : List Packet) (y : Packet)
     → followed_by (set_field f n) R z w y ↔ R (slice_set z f n) w y
 set_first f n R z w y = (
@@ -31,7 +31,7 @@ set_first f n R z w y = (
   λ h. ([], w, slice_set z f n, refl, (refl, refl), h),
 )
 
--- with nothing behind
+-- with nothing after
 pub last_alone : (R : Way Packet) (z : Packet) (w : List Packet) (y : Packet) → followed_by R keep z w y ↔ R z w y
 last_alone R z w y = (
   λ r.

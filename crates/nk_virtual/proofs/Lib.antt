@@ -14,8 +14,8 @@ pub mod Only
 pub mod Over
 pub mod Parts
 pub mod Places
-pub mod Seen
-pub mod Sight
+pub mod StaticCauses
+pub mod StaticFaults
 pub mod Staying
 pub mod Telling
 pub mod Untagged

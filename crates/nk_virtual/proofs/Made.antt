@@ -15,23 +15,23 @@ use Rattle.nk_names.specs.Accepted.{is_link_outside}
 use Rattle.nk_names.specs.ProgramValue.{VirtualLink, IsLet}
 use Rattle.nk_names.specs.WellFormed.{IsWellFormed}
 use Rattle.nk_names.proofs.Good.{few_dups, dups_marked, marked_again, negates_marked, over_in_range}
-use Rattle.nk_sight.specs.Seen.{seen_of}
+use Rattle.nk_static.specs.StaticFaults.{static_fault_of}
 use Rattle.nk_virtual.specs.Answers.{IsBuilt, IsBuilding, IsPhysicalOf, IsAnswerOver}
 use Rattle.nk_virtual.specs.Fabrics.{IsCarried, IsVirtual}
 use Rattle.nk_virtual.specs.Physical.{physical}
 use Rattle.nk_virtual.specs.Reasons.{IsUsable}
 use Rattle.nk_virtual.specs.declared.refusal.VirtualError.{VirtualError}
 use Rattle.nk_virtual.specs.declared.refusal.VirtualError.TheVariants.{NoMemory, Refused}
-use Rattle.nk_virtual.specs.declared.refusal.VirtualRefusal.TheVariants.{NoPolicy, NoTag, Seen, OffTarget, NotCarried, TooLarge}
-use Rattle.nk_virtual.proofs.Seen.{HasNone, unseen, nothing_seen}
-use Rattle.nk_virtual.proofs.Sight.{physical_tag_free, physical_dups, physical_switch, physical_links}
+use Rattle.nk_virtual.specs.declared.refusal.VirtualRefusal.TheVariants.{NoPolicy, NoTag, Static, OffTarget, NotCarried, TooLarge}
+use Rattle.nk_virtual.proofs.StaticCauses.{HasNone, unseen, nothing_seen}
+use Rattle.nk_virtual.proofs.StaticFaults.{physical_tag_free, physical_dups, physical_switch, physical_links}
 use Rattle.nk_virtual.proofs.Staying.{physical_uses, physical_negates}
 use Rattle.nk_virtual.proofs.Untagged.{physical_lies, virtual_laid, numbered}
 
 module _ (fields : FieldTable) (topo : Topology) (links : List VirtualLink) (tag : ℕ) (p : Policy)
     (table : IsFieldTable fields) (declared : fields.tag ≡ Some tag)
     (usable : All (IsUsable fields topo tag) links) (fabrics : All (λ k. IsLet fields k.fabric) links) (fit : IsLet fields p)
-    (plain : seen_of tag (map (λ k. k.ends) links) p ≡ None) where
+    (plain : static_fault_of tag (map (λ k. k.ends) links) p ≡ None) where
   -- the physical policy
   abbrev made : Policy
   made = marked_from (physical links p) 1
@@ -71,7 +71,7 @@ module _ (fields : FieldTable) (topo : Topology) (links : List VirtualLink) (tag
         complements = negates_marked (physical links p) 1 complements;
       }
 
-  shown : seen_of tag topo.links made ≡ None
+  shown : static_fault_of tag topo.links made ≡ None
   shown =
       let u = unseen tag (map (λ k. k.ends) links) p plain in
       nothing_seen tag topo.links made record {
@@ -114,7 +114,7 @@ module _ (fields : FieldTable) (topo : Topology) (links : List VirtualLink) (tag
   built_answer (Err NoMemory) b = tt
   built_answer (Err (Refused NoPolicy)) b = absurd b
   built_answer (Err (Refused NoTag)) b = absurd b
-  built_answer (Err (Refused (Seen sight))) b = absurd b
+  built_answer (Err (Refused (Static static_kind))) b = absurd b
   built_answer (Err (Refused (OffTarget switch port start history))) b = absurd b
   built_answer (Err (Refused (NotCarried switch port start))) b = absurd b
   built_answer (Err (Refused TooLarge)) b = (plain, b)

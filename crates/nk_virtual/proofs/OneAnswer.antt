@@ -6,14 +6,14 @@ use Rattle.nk_topo.specs.Topology.{Topology}
 use Rattle.nk_policy.specs.Policy.{Policy, marked_from}
 use Rattle.nk_names.specs.declared.Program.{Program}
 use Rattle.nk_names.specs.Named.{policy_named}
-use Rattle.nk_names.specs.ProgramOf.{Said, said_by}
+use Rattle.nk_names.specs.ProgramOf.{DeclaredProgram, program_by}
 use Rattle.nk_names.specs.ProgramValue.{VirtualLink, HaveOneSource}
 use Rattle.nk_names.proofs.Alike.{fields_alike, topo_alike, named_alike, one_policy}
 use Rattle.nk_virtual.specs.Answers.{IsPhysical}
 use Rattle.nk_virtual.specs.Physical.{physical}
 use Rattle.nk_virtual.specs.Reasons.{IsReasonAgainst, IsVirtualReason}
 use Rattle.nk_virtual.specs.declared.refusal.VirtualRefusal.{VirtualRefusal}
-use Rattle.nk_virtual.specs.declared.refusal.VirtualRefusal.TheVariants.{NoPolicy, NoTag, Seen, OffTarget, NotCarried, TooLarge}
+use Rattle.nk_virtual.specs.declared.refusal.VirtualRefusal.TheVariants.{NoPolicy, NoTag, Static, OffTarget, NotCarried, TooLarge}
 use Rattle.nk_virtual.proofs.OneReason.{none_some, one_against, none_against}
 
 -- why a name is refused: it has no policy, or there is a reason against its policy
@@ -25,7 +25,7 @@ why : (program : Program) (name : List ℕ) (r : VirtualRefusal) → IsVirtualRe
     → ((r ≡ NoPolicy) × (policy_named program name ≡ None)) ⊎ HasReason program name r
 why program name NoPolicy h = inl (refl, h)
 why program name NoTag h = inr h
-why program name (Seen sight) h = inr h
+why program name (Static static_kind) h = inr h
 why program name (OffTarget switch port start history) h = inr h
 why program name (NotCarried switch port start) h = inr h
 why program name TooLarge h = inr h
@@ -37,9 +37,9 @@ against_alike f g t u k l p q r ef et ek ep h =
     subst (λ x. IsReasonAgainst g u l x r) ep
     (subst (λ x. IsReasonAgainst g u x p r) ek (subst (λ x. IsReasonAgainst g x k p r) et (subst (λ x. IsReasonAgainst x t k p r) ef h)))
 
-module _ (program other : Program) (same : said_by program ≡ said_by other) (name : List ℕ) where
+module _ (program other : Program) (same : program_by program ≡ program_by other) (name : List ℕ) where
   virtuals_alike : program.virtuals ≡ other.virtuals
-  virtuals_alike = ap (λ (s : Said). s.virtuals) same
+  virtuals_alike = ap (λ (s : DeclaredProgram). s.virtuals) same
 
   -- the reason against the other program's policy is one against this one's
   moved : (r : VirtualRefusal) (p q : Policy) → policy_named program name ≡ Some p → policy_named other name ≡ Some q

@@ -12,18 +12,18 @@ use Rattle.nk_field.specs.Packet.{FieldTable}
 use Rattle.nk_topo.specs.Topology.{Topology, starts_below}
 use Rattle.nk_policy.specs.Policy.{Policy, size_of}
 use Rattle.nk_names.specs.ProgramValue.{VirtualLink, HaveOneSource}
-use Rattle.nk_sight.specs.Seen.{seen_of}
-use Rattle.nk_sight.specs.declared.sight.Sight.{Sight}
+use Rattle.nk_static.specs.StaticFaults.{static_fault_of}
+use Rattle.nk_static.specs.declared.faults.StaticFault.{StaticFault}
 use Rattle.nk_virtual.specs.Answers.{IsPhysicalOf}
 use Rattle.nk_virtual.specs.Carriage.{IsOnTarget, IsFirstOffTarget, IsFirstNotCarried, history_from}
 use Rattle.nk_virtual.specs.Physical.{physical}
 use Rattle.nk_virtual.specs.Reasons.{BeginsBefore, IsUsable, IsFlawOf, IsFirstFlaw, IsFlawOver, IsLaterFlaw, IsReasonAgainst}
 use Rattle.nk_virtual.specs.declared.refusal.VirtualRefusal.{VirtualRefusal}
-use Rattle.nk_virtual.specs.declared.refusal.VirtualRefusal.TheVariants.{NoPolicy, NoTag, Seen, OffTarget, NotCarried, TooLarge}
+use Rattle.nk_virtual.specs.declared.refusal.VirtualRefusal.TheVariants.{NoPolicy, NoTag, Static, OffTarget, NotCarried, TooLarge}
 use Rattle.nk_virtual.proofs.OneCarriage.{one_off_target, one_not_carried, none_off_target, carried_not_off, carried_has_all}
 
-sight_is : (a b : Sight) → Some a ≡ Some b → a ≡ b
-sight_is a b e = cc
+static_fault_is : (a b : StaticFault) → Some a ≡ Some b → a ≡ b
+static_fault_is a b e = cc
 
 pub none_some : {A : Type 0} (a : A) → None ≡ Some a → ⊥
 none_some a e = cc
@@ -34,27 +34,27 @@ number_is a b e = cc
 module _ (fields : FieldTable) (topo : Topology) (tag : ℕ) (k : VirtualLink) where
   -- the three kinds of flaw
   abbrev Shows : VirtualRefusal → Type 0
-  Shows r = (sight : Sight) × (r ≡ Seen sight) × (seen_of tag topo.links k.fabric ≡ Some sight)
+  Shows r = (static_kind : StaticFault) × (r ≡ Static static_kind) × (static_fault_of tag topo.links k.fabric ≡ Some static_kind)
 
   abbrev IsOff : VirtualRefusal → Type 0
   IsOff r =
       (start : Packet) × (history : History)
       × (r ≡ OffTarget k.ends.from_switch k.ends.from_port start history)
-      × (seen_of tag topo.links k.fabric ≡ None)
+      × (static_fault_of tag topo.links k.fabric ≡ None)
       × IsFirstOffTarget fields k (history_from start history)
 
   abbrev IsLeft : VirtualRefusal → Type 0
   IsLeft r =
       (start : Packet)
       × (r ≡ NotCarried k.ends.from_switch k.ends.from_port start)
-      × (seen_of tag topo.links k.fabric ≡ None)
+      × (static_fault_of tag topo.links k.fabric ≡ None)
       × IsOnTarget fields k
       × IsFirstNotCarried fields k start
 
   kind_of : (r : VirtualRefusal) → IsFlawOf fields topo tag k r → Shows r ⊎ (IsOff r ⊎ IsLeft r)
   kind_of NoPolicy h = absurd h
   kind_of NoTag h = absurd h
-  kind_of (Seen sight) h = inl (sight, refl, h)
+  kind_of (Static static_kind) h = inl (static_kind, refl, h)
   kind_of (OffTarget switch port start history) h =
       inr (inl (start, history, cc (h.1.0, h.1.1), h.0, h.2))
   kind_of (NotCarried switch port start) h =
@@ -77,7 +77,7 @@ module _ (fields : FieldTable) (topo : Topology) (tag : ℕ) (k : VirtualLink) w
   one_flaw r s h j = by (kind_of r h) (kind_of s j)
     where
       by : Shows r ⊎ (IsOff r ⊎ IsLeft r) → Shows s ⊎ (IsOff s ⊎ IsLeft s) → r ≡ s
-      by (inl a) (inl b) = a.1 ∙ ap Seen (sight_is a.0 b.0 (sym a.2 ∙ b.2)) ∙ sym b.1
+      by (inl a) (inl b) = a.1 ∙ ap Static (static_fault_is a.0 b.0 (sym a.2 ∙ b.2)) ∙ sym b.1
       by (inl a) (inr (inl b)) = absurd (none_some a.0 (sym b.3 ∙ a.2))
       by (inl a) (inr (inr b)) = absurd (none_some a.0 (sym b.2 ∙ a.2))
       by (inr (inl a)) (inl b) = absurd (none_some b.0 (sym a.3 ∙ b.2))
@@ -154,11 +154,11 @@ no_first fields topo tag links r usable h =
 -- ---- the policy's
 
 module _ (links : List VirtualLink) (tag : ℕ) (p : Policy) where
-  abbrev seen_over : Option Sight
-  seen_over = seen_of tag (map (λ k. k.ends) links) p
+  abbrev seen_over : Option StaticFault
+  seen_over = static_fault_of tag (map (λ k. k.ends) links) p
 
   abbrev ShowsOver : VirtualRefusal → Type 0
-  ShowsOver r = (sight : Sight) × (r ≡ Seen sight) × (seen_over ≡ Some sight)
+  ShowsOver r = (static_kind : StaticFault) × (r ≡ Static static_kind) × (seen_over ≡ Some static_kind)
 
   abbrev IsLarge : VirtualRefusal → Type 0
   IsLarge r = (r ≡ TooLarge) × (seen_over ≡ None) × (1048576 < size_of (physical links p))
@@ -166,7 +166,7 @@ module _ (links : List VirtualLink) (tag : ℕ) (p : Policy) where
   kind_over : (r : VirtualRefusal) → IsFlawOver links tag p r → ShowsOver r ⊎ IsLarge r
   kind_over NoPolicy h = absurd h
   kind_over NoTag h = absurd h
-  kind_over (Seen sight) h = inl (sight, refl, h)
+  kind_over (Static static_kind) h = inl (static_kind, refl, h)
   kind_over (OffTarget switch port start history) h = absurd h
   kind_over (NotCarried switch port start) h = absurd h
   kind_over TooLarge h = inr (refl, h.0, h.1)
@@ -175,7 +175,7 @@ module _ (links : List VirtualLink) (tag : ℕ) (p : Policy) where
   one_over r s h j = by (kind_over r h) (kind_over s j)
     where
       by : ShowsOver r ⊎ IsLarge r → ShowsOver s ⊎ IsLarge s → r ≡ s
-      by (inl a) (inl b) = a.1 ∙ ap Seen (sight_is a.0 b.0 (sym a.2 ∙ b.2)) ∙ sym b.1
+      by (inl a) (inl b) = a.1 ∙ ap Static (static_fault_is a.0 b.0 (sym a.2 ∙ b.2)) ∙ sym b.1
       by (inl a) (inr b) = absurd (none_some a.0 (sym b.1 ∙ a.2))
       by (inr a) (inl b) = absurd (none_some b.0 (sym a.1 ∙ b.2))
       by (inr a) (inr b) = a.0 ∙ sym b.0
@@ -199,7 +199,7 @@ module _ (fields : FieldTable) (topo : Topology) (links : List VirtualLink) (p :
   kind_against : (r : VirtualRefusal) → IsReasonAgainst fields topo links p r → IsUntaggable r ⊎ IsLater r
   kind_against NoPolicy h = absurd h
   kind_against NoTag h = inl (refl, h)
-  kind_against (Seen sight) h = inr h
+  kind_against (Static static_kind) h = inr h
   kind_against (OffTarget switch port start history) h = inr h
   kind_against (NotCarried switch port start) h = inr h
   kind_against TooLarge h = inr h

@@ -29,7 +29,7 @@ tests_way x f (m ∷ ms) z w y =
           let a = first.0 r in
           let b = rest.0 a.1 in
           (here a.0 b.0, b.1),
-      λ h. first.1 (this h.0, rest.1 (behind h.0, h.1)),
+      λ h. first.1 (this h.0, rest.1 (following h.0, h.1)),
     )
   where
     here : slice_index z f ≡ slice_index x f
@@ -48,9 +48,9 @@ tests_way x f (m ∷ ms) z w y =
         let same : f ≡ f + 0 = omega arith in
         ap (slice_index z) same ∙ all 0 (omega arith) ∙ ap (slice_index x) (sym same)
 
-    behind : ((i : ℕ) → i < length (m ∷ ms) → slice_index z (f + i) ≡ slice_index x (f + i))
+    following : ((i : ℕ) → i < length (m ∷ ms) → slice_index z (f + i) ≡ slice_index x (f + i))
         → (i : ℕ) → i < length ms → slice_index z ((f + 1) + i) ≡ slice_index x ((f + 1) + i)
-    behind all i lt =
+    following all i lt =
         let next : (f + 1) + i ≡ f + suc i = omega arith in
         ap (slice_index z) next ∙ all (suc i) (omega (arith, lt)) ∙ ap (slice_index x) (sym next)
 

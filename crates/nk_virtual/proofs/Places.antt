@@ -136,7 +136,7 @@ none_before (l ∷ links) (suc i) k h =
     (λ f. ap (λ b. b || list_any test (map (λ j. j.ends) (take i links))) f ∙ rest)
     (cases_Bool (test l.ends))
 
--- one more, behind those before it
+-- one more, after those before it
 pub listed_more : (links : List VirtualLink) (i : ℕ) (k : VirtualLink) (e : ℕ × ℕ × ℕ × ℕ) (keys keys' : List (ℕ × ℕ × ℕ × ℕ))
     → AllPairs (λ j l. HaveOneSource j l → ⊥) links → i < length links → k ≡ get_or links i k → link_of e ≡ k.ends
     → keys' ≡ insert_key same_ends keys e

@@ -26,7 +26,7 @@ built_in_is = record {
   tag_past_port = λ f e. absurd cc;
 }
 
--- the tag is a field behind the port
+-- the tag is a field after the port
 tag_place : (f : ℕ) → Some 3 ≡ Some f → (2 ≤ f) × (f < 4)
 tag_place f e = let s : 3 ≡ f = cc in (omega (arith, s), omega (arith, s))
 

@@ -8,12 +8,12 @@ use Rattle.nk_policy.specs.Policy.{Policy, size_of}
 use Rattle.nk_names.specs.declared.Program.{Program}
 use Rattle.nk_names.specs.Named.{policy_named}
 use Rattle.nk_names.specs.ProgramValue.{VirtualLink}
-use Rattle.nk_sight.specs.Seen.{seen_of}
+use Rattle.nk_static.specs.StaticFaults.{static_fault_of}
 use Rattle.nk_virtual.specs.Carriage.{IsOnTarget, IsFirstOffTarget, IsFirstNotCarried, history_from}
 use Rattle.nk_virtual.specs.Fabrics.{IsCarried}
 use Rattle.nk_virtual.specs.Physical.{physical}
 use Rattle.nk_virtual.specs.declared.refusal.VirtualRefusal.{VirtualRefusal}
-use Rattle.nk_virtual.specs.declared.refusal.VirtualRefusal.TheVariants.{NoPolicy, NoTag, Seen, OffTarget, NotCarried, TooLarge}
+use Rattle.nk_virtual.specs.declared.refusal.VirtualRefusal.TheVariants.{NoPolicy, NoTag, Static, OffTarget, NotCarried, TooLarge}
 
 -- the virtual link begins at a lower switch than the other, or at a lower port of the same one
 abbrev pub BeginsBefore : VirtualLink → VirtualLink → Type 0
@@ -21,7 +21,7 @@ BeginsBefore j k = IsTrue (starts_below k.ends.from_switch k.ends.from_port j.en
 
 -- nothing is seen of the fabric over the declared links, and it carries its virtual link
 pub record IsUsable (fields : FieldTable) (topo : Topology) (tag : ℕ) (k : VirtualLink) : Type 0 where
-  pub plain : seen_of tag topo.links k.fabric ≡ None
+  pub plain : static_fault_of tag topo.links k.fabric ≡ None
   pub carried : IsCarried fields k
 
 -- the numbers are of the switch and the port where the virtual link begins
@@ -30,13 +30,13 @@ IsSourceOf k switch port = (switch ≡ k.ends.from_switch) × (port ≡ k.ends.f
 
 -- what is wrong with a virtual link, the first in order
 abbrev pub IsFlawOf : FieldTable → Topology → ℕ → VirtualLink → VirtualRefusal → Type 0
-IsFlawOf fields topo tag k (Seen sight) = seen_of tag topo.links k.fabric ≡ Some sight
+IsFlawOf fields topo tag k (Static static_kind) = static_fault_of tag topo.links k.fabric ≡ Some static_kind
 IsFlawOf fields topo tag k (OffTarget switch port start history) =
-    (seen_of tag topo.links k.fabric ≡ None)
+    (static_fault_of tag topo.links k.fabric ≡ None)
     × IsSourceOf k switch port
     × IsFirstOffTarget fields k (history_from start history)
 IsFlawOf fields topo tag k (NotCarried switch port start) =
-    (seen_of tag topo.links k.fabric ≡ None)
+    (static_fault_of tag topo.links k.fabric ≡ None)
     × IsSourceOf k switch port
     × IsOnTarget fields k
     × IsFirstNotCarried fields k start
@@ -62,9 +62,9 @@ IsFirstVerdict fields topo tag links (Some r) = IsFirstFlaw fields topo tag link
 -- what is wrong with a policy over usable virtual links: what is seen of it, a literal of no virtual link last, and then the
 -- size of its physical policy
 abbrev pub IsFlawOver : List VirtualLink → ℕ → Policy → VirtualRefusal → Type 0
-IsFlawOver links tag p (Seen sight) = seen_of tag (map (λ k. k.ends) links) p ≡ Some sight
+IsFlawOver links tag p (Static static_kind) = static_fault_of tag (map (λ k. k.ends) links) p ≡ Some static_kind
 IsFlawOver links tag p TooLarge =
-    (seen_of tag (map (λ k. k.ends) links) p ≡ None) × (1048576 < size_of (physical links p))
+    (static_fault_of tag (map (λ k. k.ends) links) p ≡ None) × (1048576 < size_of (physical links p))
 IsFlawOver links tag p _ = ⊥
 
 -- the same where the tag is known: the first flaw of a virtual link, and where all are usable that of the policy

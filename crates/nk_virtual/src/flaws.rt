@@ -9,7 +9,7 @@ use crate::judging::{Carriage, carriage_of};
 use crate::refusal::VirtualRefusal;
 use nk_field::{Fid, Fields};
 use nk_names::VirtualLink;
-use nk_sight::seen;
+use nk_static::static_fault;
 use nk_topo::Topo;
 use std::alloc::{AllocError, Global};
 
@@ -25,7 +25,7 @@ pub(crate) struct Flaw {
 }
 
 /// What is wrong with the first virtual link that isn't usable: of those, the one that begins at the lowest switch, and there at
-/// the lowest port. A link that begins behind one that isn't usable isn't judged. The only error is that memory ran out.
+/// the lowest port. A link that begins after one that isn't usable isn't judged. The only error is that memory ran out.
 pub(crate) fn first_flaw(
     alloc: Global,
     fields: &Fields,
@@ -100,8 +100,8 @@ fn verdict_of(
     ensures { IfOk result (IsVerdictOf fields.now topo.now tag k.now) }
 {
     let link = written(alloc, k)?;
-    if let Some(sight) = seen(&link.fabric, topo, tag) {
-        return Ok(Some(VirtualRefusal::Seen(sight)));
+    if let Some(static_kind) = static_fault(&link.fabric, topo, tag) {
+        return Ok(Some(VirtualRefusal::Static(static_kind)));
     }
     match carriage_of(alloc, fields, &link)? {
         Carriage::Carried => Ok(None),

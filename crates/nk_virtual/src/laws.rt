@@ -17,7 +17,7 @@ ghost use Rattle.nk_virtual.specs.Carriage.{IsOnTarget, IsOffTarget, IsNotCarrie
 ghost use Rattle.nk_virtual.specs.Endings.{without_records};
 ghost use Rattle.nk_virtual.specs.Fabrics.{LiesOver, IsVirtual, IsCarried, IsAtStartOf, moved_along};
 ghost use Rattle.nk_names.specs.declared.Program.{Program};
-ghost use Rattle.nk_names.specs.ProgramOf.{said_by};
+ghost use Rattle.nk_names.specs.ProgramOf.{program_by};
 ghost use Rattle.nk_names.specs.ProgramValue.{VirtualLink, AreVirtual};
 ghost use Rattle.nk_virtual.specs.Answers.{IsPhysical};
 ghost use Rattle.nk_virtual.specs.Reasons.{IsVirtualReason};
@@ -130,12 +130,12 @@ pub fn one_carriage()
 /// At most one thing is answered to a name, unless memory runs out, in programs that say the same: the first reason why it has no
 /// physical policy is one, there is none beside a physical policy, and of that there is one.
 pub fn one_thing_is_answered_of_a_name()
-    ensures reasons { (program other : Program) (name : List ℕ) (r s : VirtualRefusal) → said_by program ≡ said_by other
+    ensures reasons { (program other : Program) (name : List ℕ) (r s : VirtualRefusal) → program_by program ≡ program_by other
         → AreVirtual program.fields program.topo program.fabrics program.virtuals
         → IsVirtualReason program name r → IsVirtualReason other name s → r ≡ s }
-    ensures none { (program other : Program) (name : List ℕ) (q : Policy) (r : VirtualRefusal) → said_by program ≡ said_by other
+    ensures none { (program other : Program) (name : List ℕ) (q : Policy) (r : VirtualRefusal) → program_by program ≡ program_by other
         → IsPhysical program name q → IsVirtualReason other name r → ⊥ }
-    ensures policies { (program other : Program) (name : List ℕ) (q s : Policy) → said_by program ≡ said_by other
+    ensures policies { (program other : Program) (name : List ℕ) (q s : Policy) → program_by program ≡ program_by other
         → IsPhysical program name q → IsPhysical other name s → q ≡ s }
 {}
 

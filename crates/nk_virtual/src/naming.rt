@@ -12,7 +12,7 @@ use crate::refusal::{VirtualError, VirtualRefusal};
 use nk_field::Fid;
 use nk_names::{NamedPolicy, Program};
 use nk_policy::Pol;
-use nk_sight::seen_among;
+use nk_static::static_fault_among;
 use std::alloc::Global;
 
 /// The physical policy of a named policy over a program's virtual links: the policy with each literal of a virtual link replaced
@@ -57,8 +57,8 @@ fn answer_over(alloc: Global, program: &Program, tag: Fid, p: &Pol) -> Result<Po
 {
     let links = program.virtual_links();
     let ends = ends_of(alloc, links)?;
-    if let Some(sight) = seen_among(p, &ends, tag) {
-        return Err(VirtualError::Refused(VirtualRefusal::Seen(sight)));
+    if let Some(static_kind) = static_fault_among(p, &ends, tag) {
+        return Err(VirtualError::Refused(VirtualRefusal::Static(static_kind)));
     }
     expanded(alloc, links, &ends, p)
 }

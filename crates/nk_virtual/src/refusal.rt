@@ -3,7 +3,7 @@ ghost use Rattle.std.specs.Prelude.{◌≡◌};
 ghost use Rattle.nk_virtual.specs.declared.refusal.VirtualError.TheVariants.{NoMemory};
 
 use nk_field::{History, Packet};
-use nk_sight::Sight;
+use nk_static::StaticFault;
 use std::alloc::AllocError;
 use thiserror::Error;
 
@@ -20,7 +20,7 @@ pub enum VirtualRefusal {
     NoTag,
     /// The text of a virtual link's fabric shows this over the declared links, or that of the policy over the virtual links.
     #[error("{0}")]
-    Seen(Sight),
+    Static(StaticFault),
     /// A fabric has a history, from a packet in range without a tag at the start of its virtual link, that ends elsewhere than
     /// at the packet moved to where the link ends.
     #[error("off target, link {switch}:{port}")]

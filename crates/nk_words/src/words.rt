@@ -52,7 +52,7 @@ pub enum Command {
     /// packet is a text such as `sw=1,pt=2,dst=3`.
     Update(Bytes, Bytes, u64, u64, Bytes),
     /// `compact NAME`: the table of every switch for the policy of this name, with one tag for all tag sets
-    /// behind which the same histories are left.
+    /// after which the same histories are left.
     Compact(Bytes),
     /// `virtual NAME`: the table of every switch for the physical policy of the virtual one of this name, with each virtual
     /// link by its fabric.

@@ -4,7 +4,7 @@ use Rattle.std.specs.Prelude.{slice_index, slice_set}
 use Rattle.nk_policy.specs.Policy.{test, assign, link, no_part, part}
 use Rattle.nk_policy.specs.Meaning.{Way, keep, keep_where, set_field, record_as, followed_by, way_of_all, Gives}
 use Rattle.nk_policy.specs.Progress.{Marked, Front, numbered, no_dup, at_dup, within_either, RecordsAt, AllRecordAt}
-use Rattle.nk_worked.specs.TwoSwitches.{over_one_link, behind_link}
+use Rattle.nk_worked.specs.TwoSwitches.{over_one_link, following_link}
 
 -- a kept packet goes on
 past_keep : {A : Type 0} (rest : Way A) (pk : List ℕ) (w : List A) (y : List ℕ)
@@ -20,7 +20,7 @@ past_test f n rest pk w y h = (
   subst (λ z. rest z w y) h.4.2 (subst (λ v. rest h.2 v y) (sym (h.3 ∙ ap (λ u. u ++ h.1) h.4.1)) h.5),
 )
 
--- behind an assignment the packet is another one
+-- after an assignment the packet is another one
 past_set : {A : Type 0} (f n : ℕ) (rest : Way A) (pk : List ℕ) (w : List A) (y : List ℕ)
     → followed_by (set_field f n) rest pk w y → rest (slice_set pk f n) w y
 past_set f n rest pk w y h =
@@ -92,7 +92,7 @@ front_past_set f n rest pk u x l h =
     let r = skipped no_dup rest (set_field f n) pk u x l (λ n. n) h in
     subst (λ z. rest z u x l) r.4.1 (subst (λ v. rest r.2 v x l) (sym (r.3 ∙ ap (λ a. a ++ r.1) r.4.0)) r.5)
 
--- where a run can be: at the first dup with nothing recorded before, or at the second behind the first
+-- where a run can be: at the first dup with nothing recorded before, or at the second after the first
 abbrev pub At : List ℕ → Marked → List ℕ → ℕ → Type 0
 At pk u x l =
     ((u ≡ []) × (x ≡ pk) × (l ≡ 1))
@@ -170,19 +170,19 @@ recorded r =
       ),
     )
 
--- behind the link the packet goes to port 2
-pub rest_sets : (pk : List ℕ) (w : List (List ℕ)) (y : List ℕ) → Gives behind_link pk w y → (w ≡ []) × (y ≡ slice_set pk 1 2)
+-- after the link the packet goes to port 2
+pub rest_sets : (pk : List ℕ) (w : List (List ℕ)) (y : List ℕ) → Gives following_link pk w y → (w ≡ []) × (y ≡ slice_set pk 1 2)
 rest_sets pk w y h =
     let k = past_keep keep pk h.0 h.2 h.4 in
     let z : way_of_all (part (assign 1 2) no_part) (λ l x. x) pk w y = subst (λ z. way_of_all (part (assign 1 2) no_part) (λ l x. x) z w y) k.1 (subst (λ v. way_of_all (part (assign 1 2) no_part) (λ l x. x) h.2 v y) (sym (h.3 ∙ ap (λ u. u ++ h.1) k.0)) h.5) in
     past_set 1 2 keep pk w y z
 
-pub rest_given : (pk : List ℕ) → Gives behind_link pk [] (slice_set pk 1 2)
+pub rest_given : (pk : List ℕ) → Gives following_link pk [] (slice_set pk 1 2)
 rest_given pk =
     ([], [], pk, refl, ([], [], pk, refl, (refl, refl), (refl, refl)), ([], [], slice_set pk 1 2, refl, (refl, refl), (refl, refl)))
 
 -- and is recorded no more
-pub rest_records_nothing : (pk : List ℕ) (u : Marked) (x : List ℕ) (l : ℕ) → RecordsAt behind_link pk u x l → ⊥
+pub rest_records_nothing : (pk : List ℕ) (u : Marked) (x : List ℕ) (l : ℕ) → RecordsAt following_link pk u x l → ⊥
 rest_records_nothing pk u x l h =
     ⊎_elim
     (λ a. ⊎_elim (λ n. n) (λ r. r.5) a)

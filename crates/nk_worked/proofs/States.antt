@@ -8,7 +8,7 @@ use Rattle.nk_policy.specs.After.{after}
 use Rattle.nk_policy.specs.Meaning.{Gives}
 use Rattle.nk_policy.specs.Progress.{RecordsAt}
 use Rattle.nk_compile.specs.PrintedTable.{IsOfTag, IsResult}
-use Rattle.nk_worked.specs.TwoSwitches.{over_one_link, behind_link, one_set}
+use Rattle.nk_worked.specs.TwoSwitches.{over_one_link, following_link, one_set}
 use Rattle.nk_worked.proofs.Crossing.{near, far, crossed, at_dups, recorded, rest_sets, rest_given, rest_records_nothing}
 
 -- none is not some
@@ -71,7 +71,7 @@ leads_over r = (
 )
 
 -- tag 1 stands for what is left after the link
-pub is_after_link : (s : Policy) → IsOfTag over_one_link one_set 1 s → s ≡ behind_link
+pub is_after_link : (s : Policy) → IsOfTag over_one_link one_set 1 s → s ≡ following_link
 is_after_link s h =
     let g = is_the_set 0 h.0 h.2 in
     let l : h.1 ≡ 1 = only_one 1 h.1 (subst (λ ls. Contains ls h.1) g.1 h.3) in
@@ -82,7 +82,7 @@ none_in : (s : List ℕ) → s ≢ [] → ((l : ℕ) → Contains s l → ⊥) �
 none_in [] filled never = filled refl
 none_in (l ∷ ls) filled never = never l (contains_from_in (l ∷ ls) l (inl refl))
 
--- where tag 1 leads on: to port 2, and no tag behind it
+-- where tag 1 leads on: to port 2, and no tag after it
 pub second_result : (pk x : List ℕ) (t : ℕ) → IsResult over_one_link one_set 1 pk x t → (x ≡ slice_set pk 1 2) × (t ≡ 0)
 second_result pk x zero r = ((rest_sets pk [] x (subst (λ s. Gives s pk [] x) (is_after_link r.0 r.1) r.2)).1, refl)
 second_result pk x (suc t) r =
@@ -92,4 +92,4 @@ second_result pk x (suc t) r =
 
 -- it does
 pub leads_out : (pk : List ℕ) → IsResult over_one_link one_set 1 pk (slice_set pk 1 2) 0
-leads_out pk = (behind_link, (1 ∷ [], 1, refl, there 1, refl), rest_given pk)
+leads_out pk = (following_link, (1 ∷ [], 1, refl, there 1, refl), rest_given pk)

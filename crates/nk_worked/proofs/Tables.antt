@@ -111,7 +111,7 @@ names_differ =
     (distinct_with (codes "sw" ∷ codes "pt" ∷ []) (codes "dst") (distinct_with (codes "sw" ∷ []) (codes "pt") one_name refl) refl)
     refl
 
--- the tag is a field behind the port
+-- the tag is a field after the port
 tag_place : (f : ℕ) → Some 3 ≡ Some f → (2 ≤ f) × (f < 4)
 tag_place f e = let s : 3 ≡ f = cc in (omega (arith, s), omega (arith, s))
 

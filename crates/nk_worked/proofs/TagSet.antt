@@ -21,7 +21,7 @@ use Rattle.nk_worked.proofs.States.{not_empty, only_one, there, one_ascends}
 pub starts : IsStartPacket dst_and_tag one_link entering_packet
 starts = record { packet = is_packet 1 1 (omega arith) (omega arith); located = refl; untagged = refl }
 
--- what it has behind the switch and the port
+-- what it has after the switch and the port
 abbrev pub its_rest : List ℕ
 its_rest = 3 ∷ 0 ∷ 0 ∷ 0 ∷ 0 ∷ 0 ∷ 0 ∷ 0 ∷ 0 ∷ 0 ∷ 0 ∷ 0 ∷ 0 ∷ 0 ∷ 0 ∷ 0 ∷ []
 

@@ -22,8 +22,8 @@ dst_and_tag = record {
 }
 
 -- what is left of the policy after dup 2: pt:=2
-abbrev pub behind_link : Policy
-behind_link = seq_of (part (seq_of (part id_policy no_part)) (part (assign 1 2) no_part))
+abbrev pub following_link : Policy
+following_link = seq_of (part (seq_of (part id_policy no_part)) (part (assign 1 2) no_part))
 
 -- the one tag set, for which tag 1 stands
 abbrev pub one_set : List (List ℕ)

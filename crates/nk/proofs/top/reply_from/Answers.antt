@@ -2,7 +2,7 @@ use Rattle.std.proofs.Common.{refl, subst, sym}
 use Rattle.nk_reply.specs.Meant.{IsMeantBy}
 use Rattle.nk_reply.specs.Reply.{answer_in}
 use Rattle.nk_reply.specs.Use.{use_of}
-use Rattle.nk_following.specs.Tracing.{IsTraceAnswer}
+use Rattle.nk_trace_commands.specs.Tracing.{IsTraceAnswer}
 use Rattle.nk.proofs.Meant.{read_meant}
 use Rattle.nk.proofs.top.reply_from.Goals as goal
 

@@ -1,4 +1,4 @@
-use Rattle.nk_store.specs.Held.{look}
+use Rattle.nk_store.specs.StoreState.{look}
 use Rattle.std.proofs.lemmas.Result.{IfOk-weaker}
 use Rattle.nk_apply.proofs.Predicates.{ends_by, ends_aimed}
 use Rattle.nk_algebra.proofs.aims.aim.Goals as goal

@@ -2,7 +2,7 @@ use Rattle.std.proofs.Common.{ℕ, ◌≡◌, ◌≤◌, ◌<◌, ◌+◌, ◌�
 use Rattle.std.proofs.lemmas.Bool.Decides.{nat_tests}
 use Rattle.std.proofs.lemmas.Result.{IfOk-weaker}
 use Rattle.nk_store.specs.Nodes.{child_at}
-use Rattle.nk_store.specs.Held.{IsId, look, AreParts}
+use Rattle.nk_store.specs.StoreState.{IsId, look, AreParts}
 use Rattle.nk_store.proofs.Looks.{each_weaker}
 use Rattle.nk_store.proofs.Stores.{grows_on}
 use Rattle.nk_algebra.specs.Choices.{first_of}

@@ -1,5 +1,5 @@
 use Rattle.std.proofs.Common.{◌+◌, ◌*◌, ◌-◌, ◌≤◌}
-use Rattle.nk_store.specs.Held.{Grows}
+use Rattle.nk_store.specs.StoreState.{Grows}
 use Rattle.nk_algebra.specs.Choices.{first_of, AreChosen}
 use Rattle.nk_apply.proofs.Built.{Built}
 use Rattle.nk_algebra.proofs.Cuts.{cut_leaf}

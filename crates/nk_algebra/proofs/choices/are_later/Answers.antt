@@ -1,5 +1,5 @@
 use Rattle.std.proofs.Common.{ℕ, sym, subst, arith}
-use Rattle.nk_store.specs.Held.{IsId}
+use Rattle.nk_store.specs.StoreState.{IsId}
 use Rattle.nk_algebra.proofs.Chosen.{each_place}
 use Rattle.nk_algebra.proofs.choices.are_later.Goals as goal
 

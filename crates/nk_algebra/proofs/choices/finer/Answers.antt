@@ -1,6 +1,6 @@
 use Rattle.std.proofs.Common.{◌≤◌, ◌+◌, ◌∙◌, ap, sym, subst, arith}
 use Rattle.nk_store.specs.Nodes.{child_at}
-use Rattle.nk_store.specs.Held.{IsId, look, top, AreParts}
+use Rattle.nk_store.specs.StoreState.{IsId, look, root_field, AreParts}
 use Rattle.nk_apply.proofs.Built.{Built, built_parts, built_leaf}
 use Rattle.nk_algebra.proofs.Cuts.{found_piece, served, piece_leaf, piece_push, piece_past, split_child}
 use Rattle.nk_algebra.proofs.choices.finer.Goals as goal
@@ -12,7 +12,7 @@ part_near-until-requires-clause-id c =
 
 pub part_near-until-requires-clause-first : goal.part_near-until-requires-clause-first
 part_near-until-requires-clause-first c =
-    served (λ k. c.args.f ≤ top c.args.st.now k) c.args.st.now c.args.f c.loop-pieces.from c.args.parts.now c.found_near-last.result c.requires.choices c.requires.first
+    served (λ k. c.args.f ≤ root_field c.args.st.now k) c.args.st.now c.args.f c.loop-pieces.from c.args.parts.now c.found_near-last.result c.requires.choices c.requires.first
     (found_piece c.args.st.now c.args.f c.loop-pieces.from c.max-max.result c.args.parts.now c.as_slice.result.now c.found_near-last.result c.requires.choices c.found_near-last.ensures.found c.as_slice.ensures c.loop-pieces.invariant.within c.max-max.ensures)
 
 pub returns-then-end-max-clause-parts : goal.returns-then-end-max-clause-parts

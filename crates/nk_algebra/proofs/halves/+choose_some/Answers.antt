@@ -1,6 +1,6 @@
 use Rattle.std.proofs.Common.{◌+◌, ◌-◌, ◌/◌, ◌≤◌, ◌≡◌, subst, arith}
 use Rattle.std.proofs.lemmas.Result.{IfOk-weaker}
-use Rattle.nk_store.specs.Held.{HasLeaves}
+use Rattle.nk_store.specs.StoreState.{HasLeaves}
 use Rattle.nk_algebra.specs.Halves.{chosen}
 use Rattle.nk_algebra.proofs.Halved.{chosen_halves}
 use Rattle.nk_algebra.proofs.halves.+choose_some.Goals as goal

@@ -1,6 +1,6 @@
 use Rattle.std.proofs.Common.{ℕ, sym, subst, ap}
 use Rattle.std.proofs.lemmas.Result.{IfOk-weaker}
-use Rattle.nk_store.specs.Held.{IsId}
+use Rattle.nk_store.specs.StoreState.{IsId}
 use Rattle.nk_algebra.proofs.Chosen.{each_place}
 use Rattle.nk_algebra.proofs.Halved.{chosen_one}
 use Rattle.nk_algebra.proofs.halves.choose_one.Goals as goal

@@ -2,7 +2,7 @@ use Rattle.std.proofs.Common.{◌+◌, ◌∙◌, sym, subst, ap}
 use Rattle.std.proofs.lemmas.Result.{IfOk-weaker}
 use Rattle.nk_store.proofs.Stores.{grows_on}
 use Rattle.nk_store.specs.Nodes.{child_at}
-use Rattle.nk_store.specs.Held.{look}
+use Rattle.nk_store.specs.StoreState.{look}
 use Rattle.nk_algebra.specs.Choices.{AreChoices}
 use Rattle.nk_apply.specs.Seqs.{seq_leaf}
 use Rattle.nk_apply.proofs.Turned.{set_within}

@@ -1,5 +1,5 @@
 use Rattle.std.proofs.Common.{◌+◌, ◌*◌, ◌-◌, ◌≤◌}
-use Rattle.nk_store.specs.Held.{Grows, look}
+use Rattle.nk_store.specs.StoreState.{Grows, look}
 use Rattle.nk_apply.specs.Seqs.{seq_leaf}
 use Rattle.nk_algebra.proofs.Chosen.{Serving, value_leaf}
 use Rattle.nk_algebra.proofs.seqs.+seq.Given as goal

@@ -1,6 +1,6 @@
 use Rattle.std.proofs.Common.{◌+◌, ◌-◌, ◌/◌, ◌≤◌, arith}
 use Rattle.std.proofs.lemmas.Result.{IfOk-weaker}
-use Rattle.nk_store.specs.Held.{look}
+use Rattle.nk_store.specs.StoreState.{look}
 use Rattle.nk_apply.specs.Seqs.{outs_of, out_made}
 use Rattle.nk_apply.proofs.OverPlaces.{one_made, halves_made, out_strict, outs_made_grown}
 use Rattle.nk_algebra.proofs.seqs.+seq_some.Goals as goal

@@ -3,7 +3,7 @@ use Rattle.std.proofs.lemmas.Result.{IfOk-weaker}
 use Rattle.nk_store.specs.declared.node.Out.{Out}
 use Rattle.nk_store.specs.declared.node.Node.TheVariants.{Leaf}
 use Rattle.nk_store.specs.Leaves.{Suits, IsActFrom}
-use Rattle.nk_store.specs.Held.{IsNodeOf}
+use Rattle.nk_store.specs.StoreState.{IsNodeOf}
 use Rattle.nk_algebra.proofs.Acts.{every_at}
 use Rattle.nk_apply.proofs.Sequences.{outs_leaf, not_case, out_read}
 use Rattle.nk_apply.specs.Seqs.{no_out}

@@ -1,5 +1,5 @@
 use Rattle.std.proofs.Common.{◌∙◌, sym, ap, subst, length}
-use Rattle.nk_store.specs.Held.{IsNodeOf}
+use Rattle.nk_store.specs.StoreState.{IsNodeOf}
 use Rattle.nk_apply.proofs.Sequences.{outs_leaf}
 use Rattle.nk_algebra.proofs.seqs.out_count.Goals as goal
 

@@ -1,5 +1,5 @@
 use Rattle.std.proofs.Common.{◌-◌, ◌≤◌}
-use Rattle.nk_store.specs.Held.{Grows}
+use Rattle.nk_store.specs.StoreState.{Grows}
 use Rattle.nk_apply.proofs.Built.{Built}
 use Rattle.nk_apply.proofs.Intervals.{all_at}
 use Rattle.nk_apply.proofs.few.few_parts.Given as goal

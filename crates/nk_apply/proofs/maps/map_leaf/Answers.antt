@@ -1,6 +1,6 @@
 use Rattle.std.proofs.Common.{◌∙◌, sym, subst, arith}
 use Rattle.std.proofs.lemmas.Result.{IfOk-weaker}
-use Rattle.nk_store.specs.Held.{IsNodeOf}
+use Rattle.nk_store.specs.StoreState.{IsNodeOf}
 use Rattle.nk_apply.proofs.MadeOf.{leaf_made}
 use Rattle.nk_apply.proofs.maps.map_leaf.Goals as goal
 
@@ -13,4 +13,4 @@ returns-clause-ok g c = IfOk-weaker c.leaf.result _ _
 pub returns-clause-later : goal.returns-clause-later
 returns-clause-later g c =
     let node = subst (IsNodeOf c.args.st.now c.args.d) c.in-Leaf.is c.view.ensures.means in
-    IfOk-weaker c.leaf.result _ _ (λ r h. omega (arith, h, node.top_is)) c.leaf.ensures.later
+    IfOk-weaker c.leaf.result _ _ (λ r h. omega (arith, h, node.root_field_is)) c.leaf.ensures.later

@@ -1,8 +1,8 @@
 use Rattle.std.proofs.Common.{◌+◌, ◌∙◌, sym, subst, ap, get_or, arith, ℕ, List}
-use Rattle.nk_store.specs.Held.{look, AreParts, HasLeaves}
+use Rattle.nk_store.specs.StoreState.{look, AreParts, HasLeaves}
 use Rattle.std.proofs.lemmas.Result.{IfOk-weaker}
 use Rattle.nk_store.specs.declared.node.Out.{Out}
-use Rattle.nk_apply.specs.Subs.{sub}
+use Rattle.nk_apply.specs.Cofactors.{cofactor}
 use Rattle.nk_apply.proofs.Sequences.{same_looks}
 use Rattle.nk_apply.proofs.Shorts.{leaves_grown}
 use Rattle.nk_store.proofs.Stores.{grows_on}
@@ -50,7 +50,7 @@ merge-returns-clause-ok g t c = leaves_grown _ _ c.in_ok-d.d _ c.keep.ensures.gr
 
 pub merge-returns-clause-later : goal.merge-returns-clause-later
 merge-returns-clause-later g t c =
-    let same = c.keep.ensures.grows.tops c.in_ok-d.d c.in_ok-d.ensures.ok.id in
+    let same = c.keep.ensures.grows.root_fields c.in_ok-d.d c.in_ok-d.ensures.ok.id in
     omega (arith, same, c.in_ok-d.ensures.later)
 
 pub merge-keep-requires-clause-leaves : goal.merge-keep-requires-clause-leaves
@@ -74,7 +74,7 @@ merge_case-returns-clause-ok g t c =
       id = h.id;
       leaf = λ pk w.
           h.leaf pk w ∙ c.in_ok-parts.ensures.ok (get_or pk c.args.f 0) pk w
-          ∙ ap (λ xs. g.J.Join.joined c.args.j.now xs (look st (sub st c.args.f (get_or pk c.args.f 0) c.args.b) pk)) (sym (first.left.leaf pk))
+          ∙ ap (λ xs. g.J.Join.joined c.args.j.now xs (look st (cofactor st c.args.f (get_or pk c.args.f 0) c.args.b) pk)) (sym (first.left.leaf pk))
           ∙ ap (λ ys. g.J.Join.joined c.args.j.now (look st c.args.a pk) ys) (sym (first.right.leaf pk));
     }) c.case.ensures.ok
 

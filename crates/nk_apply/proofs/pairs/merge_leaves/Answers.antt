@@ -1,7 +1,7 @@
 use Rattle.std.proofs.Common.{sym, subst}
 use Rattle.nk_store.specs.declared.node.Node.TheVariants.{Leaf}
 use Rattle.nk_store.specs.Leaves.{Every, Suits}
-use Rattle.nk_store.specs.Held.{IsNodeOf}
+use Rattle.nk_store.specs.StoreState.{IsNodeOf}
 use Rattle.nk_apply.proofs.pairs.merge_leaves.Goals as goal
 
 pub leaf_in_order-requires-clause-suits : goal.leaf_in_order-requires-clause-suits

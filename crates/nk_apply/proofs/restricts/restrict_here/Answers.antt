@@ -1,5 +1,5 @@
 use Rattle.std.proofs.Common.{◌∙◌, ap, min}
-use Rattle.nk_apply.proofs.Parts.{part_has_leaves, part_top, split_at}
+use Rattle.nk_apply.proofs.Parts.{part_has_leaves, part_root_field, split_at}
 use Rattle.nk_apply.proofs.restricts.restrict_here.Goals as goal
 
 pub returns-clause-leaves : goal.returns-clause-leaves
@@ -8,4 +8,4 @@ returns-clause-leaves c = part_has_leaves c.args.st.now c.args.f c.args.d c.args
     c.part_at-c.ensures c.view-child.ensures.still c.requires.field
 
 pub returns-clause-later : goal.returns-clause-later
-returns-clause-later c = part_top c.args.st.now c.args.f c.args.d c.min-v.result c.part_at-c.result c.view-first.result.now c.part_at-c.ensures c.view-first.ensures.node c.view-first.ensures.means c.requires.first c.requires.field
+returns-clause-later c = part_root_field c.args.st.now c.args.f c.args.d c.min-v.result c.part_at-c.result c.view-first.result.now c.part_at-c.ensures c.view-first.ensures.node c.view-first.ensures.means c.requires.first c.requires.field

@@ -1,6 +1,6 @@
 use Rattle.std.proofs.Common.{◌≤◌, drop, length}
 use Rattle.nk_field.specs.Act.{applied}
-use Rattle.nk_store.specs.Held.{HasLeaves, look, Grows}
+use Rattle.nk_store.specs.StoreState.{HasLeaves, look, Grows}
 use Rattle.nk_apply.proofs.restricts.shift.Given as goal
 
 abbrev pub invariant-loop-i : goal.invariant-loop-i

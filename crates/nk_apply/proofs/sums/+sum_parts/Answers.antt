@@ -1,7 +1,7 @@
 use Rattle.std.proofs.Common.{◌≤◌, ◌<◌, ◌+◌, ◌-◌, ◌/◌, ◌∙◌, sym, subst, arith}
 use Rattle.std.proofs.lemmas.List.{get_or_default}
 use Rattle.std.proofs.lemmas.Result.{IfOk-weaker}
-use Rattle.nk_store.specs.Held.{AreParts}
+use Rattle.nk_store.specs.StoreState.{AreParts}
 use Rattle.nk_apply.specs.Unions.{HaveParts}
 use Rattle.nk_apply.proofs.PartSums.{one_sum, halves_sum, parts_grow}
 use Rattle.nk_apply.proofs.sums.+sum_parts.Goals as goal

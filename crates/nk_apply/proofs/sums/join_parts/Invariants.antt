@@ -1,5 +1,5 @@
 use Rattle.std.proofs.Common.{◌-◌, ◌≤◌, []}
-use Rattle.nk_store.specs.Held.{Grows, HasLeaves}
+use Rattle.nk_store.specs.StoreState.{Grows, HasLeaves}
 use Rattle.nk_apply.proofs.Built.{Built}
 use Rattle.nk_apply.proofs.PartSums.{both_at}
 use Rattle.nk_apply.proofs.sums.join_parts.Given as goal

@@ -1,8 +1,8 @@
 use Rattle.std.proofs.Common.{◌≡◌, ◌≢◌, sym, subst, arith}
 use Rattle.std.proofs.lemmas.Bool.Decides.{nat_tests}
 use Rattle.std.proofs.lemmas.Result.{IfOk-weaker}
-use Rattle.nk_store.specs.Held.{look}
-use Rattle.nk_apply.specs.Subs.{sub}
+use Rattle.nk_store.specs.StoreState.{look}
+use Rattle.nk_apply.specs.Cofactors.{cofactor}
 use Rattle.nk_apply.specs.Unions.{HaveParts}
 use Rattle.nk_apply.proofs.Parts.{view_case, whole_other, whole_leaf}
 use Rattle.nk_apply.proofs.PartSums.{case_parts, whole_parts}
@@ -14,7 +14,7 @@ returns-then-eq c =
     let same : c.in-Case.g ≡ c.args.f = grind (arith, nat_tests, c.eq.ensures, c.if-eq.true) in
     let known = view_case st c.args.d c.args.f c.in-Case.g c.view.result.now c.in-Case.parts c.view.ensures.node c.view.ensures.means c.in-Case.is same in
     IfOk-weaker c.copy.result _ _
-    (λ v e. subst (HaveParts st c.args.f (λ v pk. look st (sub st c.args.f v c.args.d) pk)) (sym e) (case_parts st c.args.f c.args.d c.in-Case.parts known.0 known.1)) c.copy.ensures
+    (λ v e. subst (HaveParts st c.args.f (λ v pk. look st (cofactor st c.args.f v c.args.d) pk)) (sym e) (case_parts st c.args.f c.args.d c.in-Case.parts known.0 known.1)) c.copy.ensures
 
 pub returns-else-eq : goal.returns-else-eq
 returns-else-eq c =

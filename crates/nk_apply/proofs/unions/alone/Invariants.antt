@@ -1,4 +1,4 @@
-use Rattle.nk_store.specs.Held.{HasLeaves}
+use Rattle.nk_store.specs.StoreState.{HasLeaves}
 use Rattle.nk_apply.specs.Unions.{unions}
 use Rattle.nk_apply.proofs.unions.alone.Given as goal
 

@@ -2,7 +2,7 @@ use Rattle.std.proofs.Common.{◌+◌, ◌∙◌, sym, subst, ap, arith, get_or}
 use Rattle.std.proofs.lemmas.Result.{IfOk-weaker}
 use Rattle.nk_store.proofs.Stores.{grows_on}
 use Rattle.nk_store.specs.Nodes.{child_at}
-use Rattle.nk_store.specs.Held.{look, top, AreParts}
+use Rattle.nk_store.specs.StoreState.{look, root_field, AreParts}
 use Rattle.nk_apply.proofs.Built.{Built, built_parts, built_leaf}
 use Rattle.nk_apply.proofs.MadeOf.{entries_grow, entries_put, made_now, on_any}
 use Rattle.nk_apply.proofs.Turned.{turned, turned_push, turned_past, turned_made, set_within}
@@ -28,7 +28,7 @@ walk_node-returns-clause-ok g t c =
 
 pub walk_node-returns-clause-later : goal.walk_node-returns-clause-later
 walk_node-returns-clause-later g t c =
-    let least = c.laws.ensures.least (top c.args.st.now c.args.d) in
+    let least = c.laws.ensures.least (root_field c.args.st.now c.args.d) in
     IfOk-weaker c.case.result _ _ (λ r h. omega (arith, least, c.requires.first, h)) c.case.ensures.later
 
 pub walk_node-returns-clause-seen : goal.walk_node-returns-clause-seen
@@ -37,7 +37,7 @@ walk_node-returns-clause-seen g t c =
 
 pub walk_parts-returns-then-end-max-clause-parts : goal.walk_parts-returns-then-end-max-clause-parts
 walk_parts-returns-then-end-max-clause-parts g t c =
-    let beyond = c.laws.ensures.behind c.args.g (top c.loop-parts.st c.part_near-end.result.1) c.requires.before c.part_near-end.ensures.child.later in
+    let beyond = c.laws.ensures.following c.args.g (root_field c.loop-parts.st c.part_near-end.result.1) c.requires.before c.part_near-end.ensures.child.later in
     let all = turned_push (g.M.NodeMap.taken c.args.m.now) (g.M.NodeMap.made c.args.m.now) c.args.st.now c.loop-parts.st c.walk_once.new.st c.args.g c.args.d c.loop-parts.from c.loop-parts.parts c.part_near-end.result c.in_ok-to.to c.loop-parts.invariant.built c.loop-parts.invariant.grows c.walk_once.ensures.grows c.requires.id c.requires.split c.part_near-end.ensures c.in_ok-to.ensures.ok (omega (arith, beyond, c.in_ok-to.ensures.later)) in
     subst (AreParts c.walk_once.new.st c.args.g) (sym c.in_ok-push.ensures.ok)
     (built_parts (turned (g.M.NodeMap.taken c.args.m.now) (g.M.NodeMap.made c.args.m.now c.args.st.now.maxes) c.args.st.now c.args.g c.args.d) c.walk_once.new.st c.args.g c.part_near-end.result.0 _ all c.requires.field
@@ -45,7 +45,7 @@ walk_parts-returns-then-end-max-clause-parts g t c =
 
 pub walk_parts-returns-then-end-max-clause-ok : goal.walk_parts-returns-then-end-max-clause-ok
 walk_parts-returns-then-end-max-clause-ok g t c = λ v pk w.
-    let beyond = c.laws.ensures.behind c.args.g (top c.loop-parts.st c.part_near-end.result.1) c.requires.before c.part_near-end.ensures.child.later in
+    let beyond = c.laws.ensures.following c.args.g (root_field c.loop-parts.st c.part_near-end.result.1) c.requires.before c.part_near-end.ensures.child.later in
     let all = turned_push (g.M.NodeMap.taken c.args.m.now) (g.M.NodeMap.made c.args.m.now) c.args.st.now c.loop-parts.st c.walk_once.new.st c.args.g c.args.d c.loop-parts.from c.loop-parts.parts c.part_near-end.result c.in_ok-to.to c.loop-parts.invariant.built c.loop-parts.invariant.grows c.walk_once.ensures.grows c.requires.id c.requires.split c.part_near-end.ensures c.in_ok-to.ensures.ok (omega (arith, beyond, c.in_ok-to.ensures.later)) in
     ap (λ ps. look c.walk_once.new.st (child_at 0 ps v) pk) c.in_ok-push.ensures.ok
     ∙ built_leaf (turned (g.M.NodeMap.taken c.args.m.now) (g.M.NodeMap.made c.args.m.now c.args.st.now.maxes) c.args.st.now c.args.g c.args.d) c.walk_once.new.st c.args.g c.part_near-end.result.0 _ all
@@ -53,7 +53,7 @@ walk_parts-returns-then-end-max-clause-ok g t c = λ v pk w.
 
 pub walk_parts-loop-parts-preserved : goal.walk_parts-loop-parts-preserved
 walk_parts-loop-parts-preserved g t c =
-    let beyond = c.laws.ensures.behind c.args.g (top c.loop-parts.st c.part_near-end.result.1) c.requires.before c.part_near-end.ensures.child.later in
+    let beyond = c.laws.ensures.following c.args.g (root_field c.loop-parts.st c.part_near-end.result.1) c.requires.before c.part_near-end.ensures.child.later in
     let all = turned_push (g.M.NodeMap.taken c.args.m.now) (g.M.NodeMap.made c.args.m.now) c.args.st.now c.loop-parts.st c.walk_once.new.st c.args.g c.args.d c.loop-parts.from c.loop-parts.parts c.part_near-end.result c.in_ok-to.to c.loop-parts.invariant.built c.loop-parts.invariant.grows c.walk_once.ensures.grows c.requires.id c.requires.split c.part_near-end.ensures c.in_ok-to.ensures.ok (omega (arith, beyond, c.in_ok-to.ensures.later)) in
     record {
       grows = grows_on _ _ _ c.loop-parts.invariant.grows c.walk_once.ensures.grows;

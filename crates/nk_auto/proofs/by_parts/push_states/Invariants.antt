@@ -1,5 +1,5 @@
 use Rattle.std.proofs.Common.{◌≡◌, ℕ, List, ◌++◌, take}
-use Rattle.nk_store.specs.Held.{Grows}
+use Rattle.nk_store.specs.StoreState.{Grows}
 use Rattle.nk_auto.specs.OfParts.{AreOfParts}
 use Rattle.nk_auto.proofs.by_parts.push_states.Given as goal
 

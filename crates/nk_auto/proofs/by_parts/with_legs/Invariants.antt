@@ -1,6 +1,6 @@
 use Rattle.std.proofs.Common.{◌≤◌, length, drop}
 use Rattle.nk_policy.specs.Tree.{tree_of}
-use Rattle.nk_store.specs.Held.{Grows}
+use Rattle.nk_store.specs.StoreState.{Grows}
 use Rattle.nk_auto.specs.OfParts.{IsOfPart}
 use Rattle.nk_auto.proofs.by_parts.with_legs.Given as goal
 

@@ -4,7 +4,7 @@ use Rattle.std.proofs.lemmas.List.{drop_all}
 use Rattle.std.proofs.lemmas.Result.{IfOk-weaker}
 use Rattle.nk_policy.specs.Policy.{seq_of, star_of, no_part, part}
 use Rattle.nk_policy.specs.Tree.{tree_of, trees_of}
-use Rattle.nk_store.specs.Held.{IsId}
+use Rattle.nk_store.specs.StoreState.{IsId}
 use Rattle.nk_store.proofs.Stores.{grows_on}
 use Rattle.nk_apply.specs.Predicates.{IsPredicate}
 use Rattle.nk_auto.specs.Continued.{IsSilent, IsContinued}
@@ -47,15 +47,15 @@ with_part-returns-in-Some-clause-ok t c =
     let predicate = subst (λ (o : Option ℕ). IfSome o (λ d. IsPredicate c.guard_of.new.st d)) c.in-Some.is c.in_ok-d.ensures.predicate in
     let guards = subst (λ (o : Option ℕ). IfSome o (λ d. NeverRecords p)) c.in-Some.is c.in_ok-d.ensures.guard in
     IfOk-weaker c.guarded_by.result _ _
-    (λ b h ps k behind. h p ps k guards made predicate (guarded_grow c.args.st.now c.guard_of.new.st c.args.behind.guard c.args.behind.rest k (seq_of ps) c.guard_of.ensures.grows behind))
+    (λ b h ps k following. h p ps k guards made predicate (guarded_grow c.args.st.now c.guard_of.new.st c.args.following.guard c.args.following.rest k (seq_of ps) c.guard_of.ensures.grows following))
     c.guarded_by.ensures.ok
 
 pub with_part-returns-clause-ok : goal.with_part-returns-clause-ok
 with_part-returns-clause-ok t c =
     let p = tree_of c.args.p.now in
     IfOk-weaker c.unguarded.result _ _
-    (λ b h ps k behind.
-    let here = guarded_grow c.args.st.now c.guard_of.new.st c.args.behind.guard c.args.behind.rest k (seq_of ps) c.guard_of.ensures.grows behind in
+    (λ b h ps k following.
+    let here = guarded_grow c.args.st.now c.guard_of.new.st c.args.following.guard c.args.following.rest k (seq_of ps) c.guard_of.ensures.grows following in
     let onward = continued_grow c.put_together.new.st c.continued.new.st c.in_ok-next.next (seq_of ps) k c.continued.ensures.grows (c.in_ok-next.ensures.ok (seq_of ps) k here) in
     h (seq_of (part p ps)) k (cons_continued c.continued.new.st c.in_ok-rest.rest c.in_ok-next.next k p ps c.in_ok-rest.ensures.ok onward))
     c.unguarded.ensures.ok
@@ -64,25 +64,25 @@ pub continued_all-loop-i-init : goal.continued_all-loop-i-init
 continued_all-loop-i-init t c = record {
   grows = c.unguarded.ensures.grows;
   within = omega arith;
-  behind =
-      subst (λ ps. IsGuarded c.unguarded.new.st c.in_ok-behind.behind.guard c.in_ok-behind.behind.rest (seq_of (trees_of ps)) c.args.next) (sym (drop_all (length c.args.ps.now) c.args.ps.now (omega arith)))
-      (c.in_ok-behind.ensures.ok (seq_of no_part) c.args.next (unit_continued c.args.st.now c.args.next c.requires));
+  following =
+      subst (λ ps. IsGuarded c.unguarded.new.st c.in_ok-following.following.guard c.in_ok-following.following.rest (seq_of (trees_of ps)) c.args.next) (sym (drop_all (length c.args.ps.now) c.args.ps.now (omega arith)))
+      (c.in_ok-following.ensures.ok (seq_of no_part) c.args.next (unit_continued c.args.st.now c.args.next c.requires));
 }
 
 pub continued_all-loop-i-preserved : goal.continued_all-loop-i-preserved
 continued_all-loop-i-preserved t c = record {
   grows = grows_on _ _ _ c.loop-i.invariant.grows c.with_part.ensures.grows;
   within = omega (arith, c.loop-i.invariant.within);
-  behind =
-      subst (λ ps. IsGuarded c.with_part.new.st c.in_ok-behind-2.behind.guard c.in_ok-behind-2.behind.rest (seq_of ps) c.args.next) (sym (trees_before c.args.ps.now c.loop-i.i c.index-ps-i.result c.loop-i-test.true c.loop-i.invariant.within c.index-ps-i.is))
-      (c.in_ok-behind-2.ensures.ok (trees_of (drop c.loop-i.i c.args.ps.now)) c.args.next c.loop-i.invariant.behind);
+  following =
+      subst (λ ps. IsGuarded c.with_part.new.st c.in_ok-following-2.following.guard c.in_ok-following-2.following.rest (seq_of ps) c.args.next) (sym (trees_before c.args.ps.now c.loop-i.i c.index-ps-i.result c.loop-i-test.true c.loop-i.invariant.within c.index-ps-i.is))
+      (c.in_ok-following-2.ensures.ok (trees_of (drop c.loop-i.i c.args.ps.now)) c.args.next c.loop-i.invariant.following);
 }
 
 pub continued_all-returns-clause-ok : goal.continued_all-returns-clause-ok
 continued_all-returns-clause-ok t c =
     let zero_is : c.loop-i.i ≡ 0 = omega (arith, c.loop-i-test.false) in
     IfOk-weaker c.put_together.result _ _
-    (λ d h. subst (λ n. IsContinued c.put_together.new.st d (seq_of (trees_of (drop n c.args.ps.now))) c.args.next) zero_is (h (seq_of (trees_of (drop c.loop-i.i c.args.ps.now))) c.args.next c.loop-i.invariant.behind))
+    (λ d h. subst (λ n. IsContinued c.put_together.new.st d (seq_of (trees_of (drop n c.args.ps.now))) c.args.next) zero_is (h (seq_of (trees_of (drop c.loop-i.i c.args.ps.now))) c.args.next c.loop-i.invariant.following))
     c.put_together.ensures.ok
 
 pub continued_star-returns-clause-ok : goal.continued_star-returns-clause-ok
@@ -166,13 +166,13 @@ both_all-loop-i-preserved t c =
     record {
       grows = grows_on _ _ _ c.loop-i.invariant.grows (grows_on _ _ _ c.both_ways.ensures.grows c.put_before.ensures.grows);
       within = omega (arith, c.loop-i.invariant.within);
-      behind =
+      following =
           subst (λ ps. AreWays c.put_before.new.st c.in_ok-more.more.silent c.in_ok-more.more.records c.args.nothing (seq_of ps)) (sym (trees_before c.args.ps.now c.loop-i.i c.index-ps-i.result c.loop-i-test.true c.loop-i.invariant.within c.index-ps-i.is))
           (c.in_ok-more.ensures.ok (tree_of c.index-ps-i.result) others c.args.nothing c.in_ok-first.ensures.ok
-          (ways_grow c.loop-i.st c.both_ways.new.st c.loop-i.behind.silent c.loop-i.behind.records c.args.nothing (seq_of others) c.both_ways.ensures.grows c.loop-i.invariant.behind));
+          (ways_grow c.loop-i.st c.both_ways.new.st c.loop-i.following.silent c.loop-i.following.records c.args.nothing (seq_of others) c.both_ways.ensures.grows c.loop-i.invariant.following));
     }
 
 pub both_all-returns-clause-ok : goal.both_all-returns-clause-ok
 both_all-returns-clause-ok t c =
     let zero_is : c.loop-i.i ≡ 0 = omega (arith, c.loop-i-test.false) in
-    subst (λ n. AreWays c.loop-i.st c.loop-i.behind.silent c.loop-i.behind.records c.args.nothing (seq_of (trees_of (drop n c.args.ps.now)))) zero_is c.loop-i.invariant.behind
+    subst (λ n. AreWays c.loop-i.st c.loop-i.following.silent c.loop-i.following.records c.args.nothing (seq_of (trees_of (drop n c.args.ps.now)))) zero_is c.loop-i.invariant.following

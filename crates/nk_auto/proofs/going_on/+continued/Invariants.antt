@@ -1,7 +1,7 @@
 use Rattle.std.proofs.Common.{◌≤◌, [], length, drop}
 use Rattle.nk_policy.specs.Policy.{seq_of}
 use Rattle.nk_policy.specs.Tree.{trees_of}
-use Rattle.nk_store.specs.Held.{Grows, HasLeaves}
+use Rattle.nk_store.specs.StoreState.{Grows, HasLeaves}
 use Rattle.nk_auto.specs.Continued.{IsSilent}
 use Rattle.nk_auto.specs.Guarded.{IsGuarded}
 use Rattle.nk_auto.specs.TwoWays.{AreWays}
@@ -24,7 +24,7 @@ abbrev pub invariant-continued_all-loop-i : goal.invariant-continued_all-loop-i
 invariant-continued_all-loop-i l = record {
   grows : Grows l.fn.st l.st;
   within : l.i ≤ length l.ps;
-  behind : IsGuarded l.st l.behind.guard l.behind.rest (seq_of (trees_of (drop l.i l.ps))) l.fn.next;
+  following : IsGuarded l.st l.following.guard l.following.rest (seq_of (trees_of (drop l.i l.ps))) l.fn.next;
 }
 
 abbrev pub decreases-continued_all-loop-i : goal.decreases-continued_all-loop-i
@@ -48,7 +48,7 @@ abbrev pub invariant-both_all-loop-i : goal.invariant-both_all-loop-i
 invariant-both_all-loop-i l = record {
   grows : Grows l.fn.st l.st;
   within : l.i ≤ length l.ps;
-  behind : AreWays l.st l.behind.silent l.behind.records l.nothing (seq_of (trees_of (drop l.i l.ps)));
+  following : AreWays l.st l.following.silent l.following.records l.nothing (seq_of (trees_of (drop l.i l.ps)));
 }
 
 abbrev pub decreases-both_all-loop-i : goal.decreases-both_all-loop-i

@@ -4,7 +4,7 @@ use Rattle.std.proofs.lemmas.Bool.Decides.{nat_tests}
 use Rattle.std.proofs.lemmas.Result.{IfOk-weaker}
 use Rattle.nk_policy.specs.Policy.{sum_of, seq_of}
 use Rattle.nk_policy.specs.Tree.{tree_of, trees_of}
-use Rattle.nk_store.specs.Held.{HasLeaves}
+use Rattle.nk_store.specs.StoreState.{HasLeaves}
 use Rattle.nk_store.proofs.Stores.{grows_on}
 use Rattle.nk_auto.specs.Continued.{IsSilent}
 use Rattle.nk_auto.proofs.Grown.{leaves_grow}
@@ -43,9 +43,9 @@ silent_all-loop-i-preserved t c = record {
   within = omega (arith, c.loop-i.invariant.within);
   nothing = leaves_grow c.loop-i.st c.ended_then.new.st c.in_ok-nothing.nothing (λ pk. []) (grows_on _ _ _ c.silent.ensures.grows c.ended_then.ensures.grows) c.loop-i.invariant.nothing;
   rest =
-      let behind = silent_grow c.loop-i.st c.silent.new.st c.loop-i.rest (seq_of (trees_of (drop c.loop-i.i c.args.ps.now))) c.silent.ensures.grows c.loop-i.invariant.rest in
+      let following = silent_grow c.loop-i.st c.silent.new.st c.loop-i.rest (seq_of (trees_of (drop c.loop-i.i c.args.ps.now))) c.silent.ensures.grows c.loop-i.invariant.rest in
       subst (λ ps. IsSilent c.ended_then.new.st c.in_ok-rest-2.rest (seq_of ps)) (sym (trees_before c.args.ps.now c.loop-i.i c.index-ps-i.result c.loop-i-test.true c.loop-i.invariant.within c.index-ps-i.is))
-      (cons_silent c.silent.new.st c.ended_then.new.st c.in_ok-d.d c.loop-i.rest c.in_ok-rest-2.rest (tree_of c.index-ps-i.result) (trees_of (drop c.loop-i.i c.args.ps.now)) c.laws.ensures.tidy c.ended_then.ensures.grows c.in_ok-d.ensures.ok behind c.in_ok-rest-2.ensures.ok);
+      (cons_silent c.silent.new.st c.ended_then.new.st c.in_ok-d.d c.loop-i.rest c.in_ok-rest-2.rest (tree_of c.index-ps-i.result) (trees_of (drop c.loop-i.i c.args.ps.now)) c.laws.ensures.tidy c.ended_then.ensures.grows c.in_ok-d.ensures.ok following c.in_ok-rest-2.ensures.ok);
 }
 
 pub silent_all-returns-then-eq-clause-ok : goal.silent_all-returns-then-eq-clause-ok

@@ -1,7 +1,7 @@
 use Rattle.std.proofs.Common.{◌≤◌, [], length, drop}
 use Rattle.nk_policy.specs.Policy.{seq_of}
 use Rattle.nk_policy.specs.Tree.{trees_of}
-use Rattle.nk_store.specs.Held.{Grows, HasLeaves}
+use Rattle.nk_store.specs.StoreState.{Grows, HasLeaves}
 use Rattle.nk_auto.specs.Continued.{IsSilent}
 use Rattle.nk_auto.proofs.Sums.{AreOf}
 use Rattle.nk_auto.proofs.silence.+silent.Given as goal

@@ -7,12 +7,12 @@ use Rattle.nk_auto.proofs.Tested.{constant_grow, values_case}
 use Rattle.nk_auto.proofs.values.values_where.Goals as goal
 
 pub value_parts-requires-clause-inside : goal.value_parts-requires-clause-inside
-value_parts-requires-clause-inside c = record { leaves = c.in_ok-inside.ensures.ok; top_is = c.in_ok-inside.ensures.later }
+value_parts-requires-clause-inside c = record { leaves = c.in_ok-inside.ensures.ok; root_field_is = c.in_ok-inside.ensures.later }
 
 pub value_parts-requires-clause-outside : goal.value_parts-requires-clause-outside
 value_parts-requires-clause-outside c =
     constant_grow c.empty.new.st c.identity.new.st c.in_ok-outside.outside [] c.identity.ensures.grows
-    (record { leaves = c.in_ok-outside.ensures.ok; top_is = c.in_ok-outside.ensures.later })
+    (record { leaves = c.in_ok-outside.ensures.ok; root_field_is = c.in_ok-outside.ensures.later })
 
 pub case-requires : goal.case-requires
 case-requires c =

@@ -4,7 +4,7 @@ use Rattle.std.proofs.lemmas.List.{drop_all}
 use Rattle.std.proofs.lemmas.Result.{IfOk-weaker, on_ok_weaker}
 use Rattle.nk_policy.specs.Policy.{sum_of, seq_of, star_of, no_part, part}
 use Rattle.nk_policy.specs.Tree.{tree_of, trees_of}
-use Rattle.nk_store.specs.Held.{IsId}
+use Rattle.nk_store.specs.StoreState.{IsId}
 use Rattle.nk_store.proofs.Stores.{grows_on, grows_same}
 use Rattle.nk_apply.specs.Predicates.{IsPredicate}
 use Rattle.nk_auto.specs.Continued.{IsSilent, IsContinued, AreWritten}
@@ -13,7 +13,7 @@ use Rattle.nk_auto.proofs.Parts.{trees_before}
 use Rattle.nk_auto.proofs.Going.{continued_grow, unit_continued, cons_continued}
 use Rattle.nk_apply.proofs.MadeOf.{on_any}
 use Rattle.nk_auto.proofs.Writing.{unit_written, seq_written, sum_written, star_written, not_written, predicate_written, dupless_written, written_grow}
-use Rattle.nk_auto.proofs.Guarding.{guarded_grow, behind_written, counted_none}
+use Rattle.nk_auto.proofs.Guarding.{guarded_grow, after_written, counted_none}
 use Rattle.nk_auto.proofs.Sums.{AreOf, IsOnward, one_more_of, ids_of, sum_continued}
 use Rattle.nk_auto.proofs.with_states.+with_states.Goals as goal
 
@@ -49,7 +49,7 @@ part_with_states-returns-in-Some-clause-ok t c =
     let predicate = subst (λ (o : Option ℕ). IfSome o (λ d. IsPredicate c.guard_of.new.st d)) c.in-Some.is c.in_ok-d.ensures.predicate in
     let guards = subst (λ (o : Option ℕ). IfSome o (λ d. NeverRecords p)) c.in-Some.is c.in_ok-d.ensures.guard in
     IfOk-weaker c.guarded_by.result _ _
-    (λ b h ps k behind. h p ps k guards made predicate (guarded_grow c.args.st.now c.guard_of.new.st c.args.behind.guard c.args.behind.rest k (seq_of ps) c.guard_of.ensures.grows behind))
+    (λ b h ps k following. h p ps k guards made predicate (guarded_grow c.args.st.now c.guard_of.new.st c.args.following.guard c.args.following.rest k (seq_of ps) c.guard_of.ensures.grows following))
     c.guarded_by.ensures.ok
 
 pub part_with_states-returns-in-Some-clause-written : goal.part_with_states-returns-in-Some-clause-written
@@ -57,14 +57,14 @@ part_with_states-returns-in-Some-clause-written t c =
     let p = tree_of c.args.p.now in
     let guards = subst (λ (o : Option ℕ). IfSome o (λ d. NeverRecords p)) c.in-Some.is c.in_ok-d.ensures.guard in
     on_any c.guarded_by.result _
-    (λ before ps k behind w. behind_written c.args.st.now c.guarded_by.new.st before c.args.states.now c.args.base k p ps (grows_on _ _ _ c.guard_of.ensures.grows c.guarded_by.ensures.grows) guards.dupless w)
+    (λ before ps k following w. after_written c.args.st.now c.guarded_by.new.st before c.args.states.now c.args.base k p ps (grows_on _ _ _ c.guard_of.ensures.grows c.guarded_by.ensures.grows) guards.dupless w)
 
 pub part_with_states-returns-clause-ok : goal.part_with_states-returns-clause-ok
 part_with_states-returns-clause-ok t c =
     let p = tree_of c.args.p.now in
     IfOk-weaker c.unguarded.result _ _
-    (λ b h ps k behind.
-    let here = guarded_grow c.args.st.now c.guard_of.new.st c.args.behind.guard c.args.behind.rest k (seq_of ps) c.guard_of.ensures.grows behind in
+    (λ b h ps k following.
+    let here = guarded_grow c.args.st.now c.guard_of.new.st c.args.following.guard c.args.following.rest k (seq_of ps) c.guard_of.ensures.grows following in
     let onward = continued_grow c.put_together.new.st c.continued_with_states.new.st c.in_ok-next.next (seq_of ps) k c.continued_with_states.ensures.grows (c.in_ok-next.ensures.ok (seq_of ps) k here) in
     h (seq_of (part p ps)) k (cons_continued c.continued_with_states.new.st c.in_ok-rest.rest c.in_ok-next.next k p ps c.in_ok-rest.ensures.ok onward))
     c.unguarded.ensures.ok
@@ -73,23 +73,23 @@ pub part_with_states-returns-clause-written : goal.part_with_states-returns-clau
 part_with_states-returns-clause-written t c =
     let p = tree_of c.args.p.now in
     on_any c.unguarded.result _
-    (λ before ps k behind w.
-    let here = guarded_grow c.args.st.now c.guard_of.new.st c.args.behind.guard c.args.behind.rest k (seq_of ps) c.guard_of.ensures.grows behind in
+    (λ before ps k following w.
+    let here = guarded_grow c.args.st.now c.guard_of.new.st c.args.following.guard c.args.following.rest k (seq_of ps) c.guard_of.ensures.grows following in
     let grown = written_grow c.args.st.now c.put_together.new.st before c.args.states.now c.args.base (seq_of ps) k (grows_on _ _ _ c.guard_of.ensures.grows c.put_together.ensures.grows) w in
     written_grow c.continued_with_states.new.st c.unguarded.new.st before c.continued_with_states.new.states c.args.base (seq_of (part p ps)) k c.unguarded.ensures.grows
     (seq_written c.put_together.new.st c.continued_with_states.new.st before c.args.states.now c.continued_with_states.new.states c.args.base c.in_ok-next.next k p ps c.continued_with_states.ensures.grows grown (c.in_ok-next.ensures.ok (seq_of ps) k here) c.in_ok-rest.ensures.written))
 
 pub write_first-returns-then-not-may_record-clause-written : goal.write_first-returns-then-not-may_record-clause-written
-write_first-returns-then-not-may_record-clause-written t c = λ before ps k behind w.
-    behind_written c.args.st.now c.args.st.now before c.args.states.now c.args.base k (tree_of c.args.p.now) ps (grows_same c.args.st.now) (counted_none (tree_of c.args.p.now) (c.may_record.ensures.none c.if-not-may_record.true)) w
+write_first-returns-then-not-may_record-clause-written t c = λ before ps k following w.
+    after_written c.args.st.now c.args.st.now before c.args.states.now c.args.base k (tree_of c.args.p.now) ps (grows_same c.args.st.now) (counted_none (tree_of c.args.p.now) (c.may_record.ensures.none c.if-not-may_record.true)) w
 
 pub write_first-returns-clause-written : goal.write_first-returns-clause-written
 write_first-returns-clause-written t c =
     let p = tree_of c.args.p.now in
     on_ok_weaker c.write_states.result
-    (λ h before ps k behind w.
+    (λ h before ps k following w.
     let grown = written_grow c.args.st.now c.put_together.new.st before c.args.states.now c.args.base (seq_of ps) k c.put_together.ensures.grows w in
-    seq_written c.put_together.new.st c.write_states.new.st before c.args.states.now c.write_states.new.states c.args.base c.in_ok-next.next k p ps c.write_states.ensures.grows grown (c.in_ok-next.ensures.ok (seq_of ps) k behind) h)
+    seq_written c.put_together.new.st c.write_states.new.st before c.args.states.now c.write_states.new.states c.args.base c.in_ok-next.next k p ps c.write_states.ensures.grows grown (c.in_ok-next.ensures.ok (seq_of ps) k following) h)
     c.write_states.ensures.written
 
 pub all_with_states-loop-i-init : goal.all_with_states-loop-i-init
@@ -98,8 +98,8 @@ all_with_states-loop-i-init t c =
     record {
       grows = c.unguarded.ensures.grows;
       within = omega arith;
-      behind = subst (λ ps. IsGuarded c.unguarded.new.st c.in_ok-behind.behind.guard c.in_ok-behind.behind.rest (seq_of (trees_of ps)) c.args.next) none
-          (c.in_ok-behind.ensures.ok (seq_of no_part) c.args.next (unit_continued c.args.st.now c.args.next c.requires));
+      following = subst (λ ps. IsGuarded c.unguarded.new.st c.in_ok-following.following.guard c.in_ok-following.following.rest (seq_of (trees_of ps)) c.args.next) none
+          (c.in_ok-following.ensures.ok (seq_of no_part) c.args.next (unit_continued c.args.st.now c.args.next c.requires));
       written = subst (λ ps. AreWritten c.unguarded.new.st c.args.states.now c.args.states.now c.args.base (seq_of (trees_of ps)) c.args.next) none
           (unit_written c.unguarded.new.st c.args.states.now c.args.base c.args.next);
     }
@@ -111,17 +111,17 @@ all_with_states-loop-i-preserved t c =
     record {
       grows = grows_on _ _ _ c.loop-i.invariant.grows c.part_with_states.ensures.grows;
       within = omega (arith, c.loop-i.invariant.within);
-      behind = subst (λ ps. IsGuarded c.part_with_states.new.st c.in_ok-behind-2.behind.guard c.in_ok-behind-2.behind.rest (seq_of ps) c.args.next) here
-          (c.in_ok-behind-2.ensures.ok others c.args.next c.loop-i.invariant.behind);
+      following = subst (λ ps. IsGuarded c.part_with_states.new.st c.in_ok-following-2.following.guard c.in_ok-following-2.following.rest (seq_of ps) c.args.next) here
+          (c.in_ok-following-2.ensures.ok others c.args.next c.loop-i.invariant.following);
       written = subst (λ ps. AreWritten c.part_with_states.new.st c.args.states.now c.part_with_states.new.states c.args.base (seq_of ps) c.args.next) here
-          (c.in_ok-behind-2.ensures.written c.args.states.now others c.args.next c.loop-i.invariant.behind c.loop-i.invariant.written);
+          (c.in_ok-following-2.ensures.written c.args.states.now others c.args.next c.loop-i.invariant.following c.loop-i.invariant.written);
     }
 
 pub all_with_states-returns-clause-ok : goal.all_with_states-returns-clause-ok
 all_with_states-returns-clause-ok t c =
     let zero_is : c.loop-i.i ≡ 0 = omega (arith, c.loop-i-test.false) in
     IfOk-weaker c.put_together.result _ _
-    (λ d h. subst (λ n. IsContinued c.put_together.new.st d (seq_of (trees_of (drop n c.args.ps.now))) c.args.next) zero_is (h (seq_of (trees_of (drop c.loop-i.i c.args.ps.now))) c.args.next c.loop-i.invariant.behind))
+    (λ d h. subst (λ n. IsContinued c.put_together.new.st d (seq_of (trees_of (drop n c.args.ps.now))) c.args.next) zero_is (h (seq_of (trees_of (drop c.loop-i.i c.args.ps.now))) c.args.next c.loop-i.invariant.following))
     c.put_together.ensures.ok
 
 pub all_with_states-returns-clause-written : goal.all_with_states-returns-clause-written
@@ -193,10 +193,10 @@ write_all-returns-then-i-eq1-clause-written t c =
     let here : trees_of c.args.ps.now ≡ part (tree_of c.index-ps-0.result) others =
     trees_before c.args.ps.now 1 c.index-ps-0.result (omega arith) (omega (arith, c.loop-i.invariant.within, c.if-i-eq1.true)) c.index-ps-0.is in
     let written = subst (λ n. AreWritten c.loop-i.st c.args.states.now c.loop-i.states c.args.base (seq_of (trees_of (drop n c.args.ps.now))) c.args.next) c.if-i-eq1.true c.loop-i.invariant.written in
-    let behind = subst (λ n. IsGuarded c.loop-i.st c.loop-i.later.guard c.loop-i.later.rest (seq_of (trees_of (drop n c.args.ps.now))) c.args.next) c.if-i-eq1.true c.loop-i.invariant.later in
+    let following = subst (λ n. IsGuarded c.loop-i.st c.loop-i.later.guard c.loop-i.later.rest (seq_of (trees_of (drop n c.args.ps.now))) c.args.next) c.if-i-eq1.true c.loop-i.invariant.later in
     on_ok_weaker c.write_first.result
     (λ h. subst (λ ps. AreWritten c.write_first.new.st c.args.states.now c.write_first.new.states c.args.base (seq_of ps) c.args.next) (sym here)
-    (h c.args.states.now others c.args.next behind written))
+    (h c.args.states.now others c.args.next following written))
     c.write_first.ensures.written
 
 pub write_all-returns-clause-written : goal.write_all-returns-clause-written

@@ -1,7 +1,7 @@
 use Rattle.std.proofs.Common.{◌≤◌, length, drop}
 use Rattle.nk_policy.specs.Policy.{sum_of, seq_of}
 use Rattle.nk_policy.specs.Tree.{trees_of}
-use Rattle.nk_store.specs.Held.{Grows}
+use Rattle.nk_store.specs.StoreState.{Grows}
 use Rattle.nk_auto.specs.Continued.{AreWritten}
 use Rattle.nk_auto.specs.Guarded.{IsGuarded}
 use Rattle.nk_auto.proofs.Sums.{AreOf, IsOnward}
@@ -24,7 +24,7 @@ abbrev pub invariant-all_with_states-loop-i : goal.invariant-all_with_states-loo
 invariant-all_with_states-loop-i l = record {
   grows : Grows l.fn.st l.st;
   within : l.i ≤ length l.ps;
-  behind : IsGuarded l.st l.behind.guard l.behind.rest (seq_of (trees_of (drop l.i l.ps))) l.fn.next;
+  following : IsGuarded l.st l.following.guard l.following.rest (seq_of (trees_of (drop l.i l.ps))) l.fn.next;
   written : AreWritten l.st l.fn.states l.states l.base (seq_of (trees_of (drop l.i l.ps))) l.fn.next;
 }
 

@@ -9,8 +9,8 @@ use Rattle.nk_cert.proofs.RowSets.{entries_on, entry_pairs, told_by_all}
 use Rattle.nk_cert.proofs.Standing.{start_on}
 use Rattle.nk_cert.proofs.checking.judge_of.Goals as goal
 
-pub merge-requires-clause-level : goal.merge-requires-clause-level
-merge-requires-clause-level c =
+pub add_level-requires-clause-level : goal.add_level-requires-clause-level
+add_level-requires-clause-level c =
     packets_of c.row_entries.new.st c.row_entries.new.ss c.len-2.result c.in_ok-entries.entries
     (entry_pairs c.row_entries.new.st c.row_entries.new.ss c.len-2.result (row_values c.as_slice.result.now) c.in_ok-entries.entries c.in_ok-entries.ensures.ok)
 
@@ -20,11 +20,11 @@ returns-clause-ok c =
     let sized = subst (λ n. AreEntriesOf c.row_entries.new.st c.row_entries.new.ss n (row_values c.as_slice.result.now) c.in_ok-entries.entries) c.len-2.ensures c.in_ok-entries.ensures.ok in
     let later = subst (λ rs. AreEntriesOf c.row_entries.new.st c.row_entries.new.ss (length c.args.both.states) (row_values rs) c.in_ok-entries.entries) c.as_slice.ensures sized in
     record {
-      start_is = start_on c.start_entry.new.st c.merge.new.st c.start_entry.new.ss c.row_entries.new.ss (length c.args.both.states) (tree_of c.args.certificate.now.start) c.in_ok-start.start
-          (grows_on _ _ _ c.row_entries.ensures.grows c.merge.ensures.grows) c.row_entries.ensures.sets start;
-      later = entries_on c.row_entries.new.st c.merge.new.st c.row_entries.new.ss c.row_entries.new.ss (length c.args.both.states) (row_values c.args.certificate.now.rows) c.in_ok-entries.entries
-          c.merge.ensures.grows (sets_refl c.row_entries.new.ss) later;
-      all = told_by_all c.row_entries.new.st c.merge.new.st c.row_entries.new.ss (length c.args.both.states) (row_values c.args.certificate.now.rows) c.in_ok-entries.entries c.merge.new.met.entries
-          c.merge.ensures.grows later
-          (subst (λ m. IsMerged c.row_entries.new.st m c.in_ok-entries.entries c.merge.new.st c.merge.new.met.entries) c.new-told.ensures.empty c.in_ok-merge.ensures.ok);
+      start_is = start_on c.start_entry.new.st c.add_level.new.st c.start_entry.new.ss c.row_entries.new.ss (length c.args.both.states) (tree_of c.args.certificate.now.start) c.in_ok-start.start
+          (grows_on _ _ _ c.row_entries.ensures.grows c.add_level.ensures.grows) c.row_entries.ensures.sets start;
+      later = entries_on c.row_entries.new.st c.add_level.new.st c.row_entries.new.ss c.row_entries.new.ss (length c.args.both.states) (row_values c.args.certificate.now.rows) c.in_ok-entries.entries
+          c.add_level.ensures.grows (sets_refl c.row_entries.new.ss) later;
+      all = told_by_all c.row_entries.new.st c.add_level.new.st c.row_entries.new.ss (length c.args.both.states) (row_values c.args.certificate.now.rows) c.in_ok-entries.entries c.add_level.new.met.entries
+          c.add_level.ensures.grows later
+          (subst (λ m. IsMerged c.row_entries.new.st m c.in_ok-entries.entries c.add_level.new.st c.add_level.new.met.entries) c.new-told.ensures.empty c.in_ok-add_level.ensures.ok);
     }

@@ -1,4 +1,4 @@
-use Rattle.nk_store.specs.Held.{Grows}
+use Rattle.nk_store.specs.StoreState.{Grows}
 use Rattle.nk_determ.specs.Sets.{SetsGrow}
 use Rattle.nk_cert.specs.Values.{row_values}
 use Rattle.nk_cert.proofs.RowSets.{AreEntriesUpTo}

@@ -1,5 +1,5 @@
 use Rattle.std.proofs.Common.{◌≡◌, ℕ, List}
-use Rattle.nk_store.specs.Held.{Held, Grows}
+use Rattle.nk_store.specs.StoreState.{StoreState, Grows}
 use Rattle.nk_determ.specs.Sets.{SetsGrow}
 use Rattle.nk_reach.specs.Sides.{alone, ends_of}
 use Rattle.nk_cert.specs.Values.{row_values}
@@ -12,6 +12,6 @@ invariant-loop-i l = record {
   grows : Grows l.fn.st l.st;
   sets : SetsGrow l.fn.ss l.ss;
   can : CanJudge l.st l.ss l.judge.states l.judge.told.entries l.goal.ends l.goal.seen.entries;
-  same : (st : Held) (set pk : List ℕ) → alone (ends_of st l.goal.ends set pk) ≡ alone (ends_of st l.fn.goal.ends set pk);
+  same : (st : StoreState) (set pk : List ℕ) → alone (ends_of st l.goal.ends set pk) ≡ alone (ends_of st l.fn.goal.ends set pk);
   met : AreMet l.fn.st l.fn.ss l.judge.states (λ set pk. alone (ends_of l.fn.st l.fn.goal.ends set pk)) l.judge.told.entries (row_values l.later) l.judge.entries l.i;
 }

@@ -1,14 +1,14 @@
 use Rattle.std.proofs.Common.{◌∙◌, ap, subst}
 use Rattle.nk_store.proofs.Stores.{grows_on}
-use Rattle.nk_sets.specs.PacketSets.{has_out}
+use Rattle.nk_sets.specs.PacketSets.{has_some_out}
 use Rattle.nk_determ.specs.Sets.{IsSetOf}
-use Rattle.nk_reach.specs.Sides.{goal_on}
+use Rattle.nk_reach.specs.Sides.{property_grows}
 use Rattle.nk_reach.proofs.Growing.{states_grow, sets_same}
 use Rattle.nk_cert.proofs.Sided.{side_levels}
 use Rattle.nk_cert.proofs.leveling.levels_of_states.Goals as goal
 
 pub levels-requires-clause-fits : goal.levels-requires-clause-fits
-levels-requires-clause-fits c = goal_on c.new.new.st c.identity.new.st c.in_ok-goal.goal.ends c.in_ok-goal.goal.seen.entries c.in_ok-goal.ensures.fits c.identity.ensures.grows
+levels-requires-clause-fits c = property_grows c.new.new.st c.identity.new.st c.in_ok-goal.goal.ends c.in_ok-goal.goal.seen.entries c.in_ok-goal.ensures.fits c.identity.ensures.grows
 
 pub levels-requires-clause-states : goal.levels-requires-clause-states
 levels-requires-clause-states c =
@@ -21,7 +21,7 @@ returns-clause-ok c =
     c.in_ok-s.s c.in_ok-from.from c.levels.new.ss c.in_ok-goal.goal.ends c.levels.new.g.ends c.in_ok-lv.lv.levels c.in_ok-lv.lv.broken
     c.new.ensures.grows c.identity.ensures.grows c.levels.ensures.grows c.laws.ensures.tidy
     (sets_same c.intern.new.self c.levels.new.ss c.in_ok-s.s c.levels.ensures.sets is.within ∙ is.members)
-    c.in_ok-from.ensures.ok.id (λ pk r. ap has_out (c.in_ok-from.ensures.ok.leaf pk r.0))
+    c.in_ok-from.ensures.ok.id (λ pk r. ap has_some_out (c.in_ok-from.ensures.ok.leaf pk r.0))
     c.in_ok-goal.ensures.ids c.in_ok-goal.ensures.marked.count c.in_ok-goal.ensures.alone
     c.in_ok-lv.ensures.fits.ids c.in_ok-lv.ensures.labels c.in_ok-lv.ensures.same c.in_ok-lv.ensures.ok
 

@@ -15,8 +15,8 @@ loop-i-init c = record {
   later = subst (λ m. AreLaterPackets c.args.st.now c.args.lv.now.levels 0 c.args.st.now m) (sym c.new-met.ensures.empty) (none_later c.args.st.now c.args.lv.now.levels);
 }
 
-pub merge-requires-clause-level : goal.merge-requires-clause-level
-merge-requires-clause-level c =
+pub add_level-requires-clause-level : goal.add_level-requires-clause-level
+add_level-requires-clause-level c =
     let lt : c.loop-i.i < length c.args.lv.now.levels = omega (arith, c.loop-i-test.true, c.len-i-end.ensures) in
     let is : c.at-level.result.now ≡ get_or c.args.lv.now.levels c.loop-i.i [] = c.at-level.ensures ∙ get_or_same c.args.lv.now.levels c.loop-i.i c.at-level.result.now [] lt in
     subst (HaveSets c.loop-i.st) (sym is)
@@ -30,10 +30,10 @@ loop-i-preserved c =
     let at : c.loop-i.i ≡ suc (c.loop-i.i - 1) = omega arith in
     let next : (c.loop-i.i - 1) + 1 ≡ (c.loop-i.i + 1) - 1 = omega arith in
     record {
-      grows = grows_on _ _ _ c.loop-i.invariant.grows c.merge.ensures.grows;
-      later = subst (λ n. AreLaterPackets c.args.st.now c.args.lv.now.levels n c.merge.new.st c.merge.new.met.entries) next
-          (later_more c.args.st.now c.loop-i.st c.merge.new.st c.args.lv.now.levels (c.loop-i.i - 1) c.loop-i.met.entries c.merge.new.met.entries c.at-level.result.now c.loop-i.invariant.grows c.loop-i.invariant.later
-          (subst (HaveSets c.args.st.now) (sym is) (c.requires c.loop-i.i lt)) (is ∙ ap (λ i. get_or c.args.lv.now.levels i []) at) c.in_ok-merge.ensures.ok);
+      grows = grows_on _ _ _ c.loop-i.invariant.grows c.add_level.ensures.grows;
+      later = subst (λ n. AreLaterPackets c.args.st.now c.args.lv.now.levels n c.add_level.new.st c.add_level.new.met.entries) next
+          (later_more c.args.st.now c.loop-i.st c.add_level.new.st c.args.lv.now.levels (c.loop-i.i - 1) c.loop-i.met.entries c.add_level.new.met.entries c.at-level.result.now c.loop-i.invariant.grows c.loop-i.invariant.later
+          (subst (HaveSets c.args.st.now) (sym is) (c.requires c.loop-i.i lt)) (is ∙ ap (λ i. get_or c.args.lv.now.levels i []) at) c.in_ok-add_level.ensures.ok);
     }
 
 pub returns-clause-ok : goal.returns-clause-ok

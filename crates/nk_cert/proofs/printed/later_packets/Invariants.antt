@@ -1,5 +1,5 @@
 use Rattle.std.proofs.Common.{◌-◌}
-use Rattle.nk_store.specs.Held.{Grows}
+use Rattle.nk_store.specs.StoreState.{Grows}
 use Rattle.nk_cert.specs.Later.{AreLaterPackets}
 use Rattle.nk_cert.proofs.printed.later_packets.Given as goal
 

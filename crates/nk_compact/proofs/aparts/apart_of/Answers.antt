@@ -1,4 +1,4 @@
-use Rattle.nk_compact.proofs.TellingApart.{none_alike, some_told}
+use Rattle.nk_compact.proofs.Distinguishing.{none_alike, some_told}
 use Rattle.nk_compact.proofs.aparts.apart_of.Goals as goal
 
 pub unreachable-requires : goal.unreachable-requires

@@ -1,8 +1,8 @@
 use Rattle.std.proofs.Common.{length}
-use Rattle.nk_store.specs.Held.{Grows}
+use Rattle.nk_store.specs.StoreState.{Grows}
 use Rattle.nk_determ.specs.Sets.{SetsGrow}
-use Rattle.nk_merge.specs.Twice.{IsTwice}
-use Rattle.nk_compact.specs.Told.{AreToldApart, first_pairs}
+use Rattle.nk_merge.specs.DisjointCopies.{IsDisjointCopy}
+use Rattle.nk_compact.specs.Told.{AreDistinguished, first_pairs}
 use Rattle.nk_compact.proofs.aparts.aparts.Given as goal
 
 -- the rows so far are told
@@ -10,6 +10,6 @@ abbrev pub invariant-loop-i : goal.invariant-loop-i
 invariant-loop-i l = record {
   grows : Grows l.fn.st l.st;
   sets : SetsGrow l.fn.ss l.ss;
-  twice : IsTwice l.st l.states l.twice;
-  told : AreToldApart l.fn.st l.states l.fn.ss l.tags l.firsts (first_pairs (length l.firsts) l.i) l.all;
+  disjoint : IsDisjointCopy l.st l.states l.disjoint;
+  told : AreDistinguished l.fn.st l.states l.fn.ss l.tags l.firsts (first_pairs (length l.firsts) l.i) l.all;
 }

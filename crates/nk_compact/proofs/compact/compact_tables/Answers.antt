@@ -11,11 +11,11 @@ use Rattle.nk_compile.proofs.Levelled.{prepared_unopposed, prepared_compilable}
 use Rattle.nk_compact.specs.MergedTable.{IsMergedTable}
 use Rattle.nk_compact.specs.Compacted.{AreAparts}
 use Rattle.nk_compact.specs.Mergeable.{IsMetPackets}
-use Rattle.nk_compact.specs.Told.{AreToldApart, first_pairs}
+use Rattle.nk_compact.specs.Told.{AreDistinguished, first_pairs}
 use Rattle.nk_compact.proofs.AlikeTags.{told_all}
 use Rattle.nk_compact.proofs.Compacting.{distinct, known, tags_are, labels_small, level_ids, level_sets, states_there, over_there, auto_there, known_there, places_there, sets_there, dups_there, base_there, classes_there, met_there, mergeable_there, classes_few, firsts_in, classes_differ}
 use Rattle.nk_compact.proofs.Merging.{get_index}
-use Rattle.nk_compact.proofs.TellingApart.{base_on}
+use Rattle.nk_compact.proofs.Distinguishing.{base_on}
 use Rattle.nk_compact.proofs.compact.compact_tables.Goals as goal
 
 pub met_packets-requires-clause-known : goal.met_packets-requires-clause-known
@@ -174,5 +174,5 @@ returns-clause-made c =
           c.laws-2.ensures.tidy c.classes_of.new.ss c.args.tags.now c.in_ok-classes.classes.numbers c.in_ok-classes.classes.firsts
           (dups_there c.args.fields.now c.args.topo.now r.0 (tree_of c.args.p.now) _ r.2 c.requires.held.few_dups c.args.tags.now c.requires.numbers c.classes_of.new.st c.classes_of.new.ss early early_sets)
           k.one_each k.from_one fm c.in_ok-aparts.aparts
-          (subst (λ (l : List ℕ). AreToldApart c.classes_of.new.st c.args.states.now c.classes_of.new.ss c.args.tags.now l (first_pairs (length l) (length l)) c.in_ok-aparts.aparts) c.as_slice.ensures c.in_ok-aparts.ensures.told));
+          (subst (λ (l : List ℕ). AreDistinguished c.classes_of.new.st c.args.states.now c.classes_of.new.ss c.args.tags.now l (first_pairs (length l) (length l)) c.in_ok-aparts.aparts) c.as_slice.ensures c.in_ok-aparts.ensures.told));
     }

@@ -1,5 +1,5 @@
 use Rattle.std.proofs.Common.{◌≡◌, length, take}
-use Rattle.nk_store.specs.Held.{Grows}
+use Rattle.nk_store.specs.StoreState.{Grows}
 use Rattle.nk_compact.specs.MetPackets.{entries_of, AreUnder}
 use Rattle.nk_compact.proofs.met.packets_by_set.Given as goal
 

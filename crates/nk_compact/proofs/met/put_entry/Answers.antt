@@ -1,6 +1,6 @@
 use Rattle.std.proofs.Common.{◌∙◌, ap, subst, get_or}
 use Rattle.std.specs.Prelude.{slice_set}
-use Rattle.nk_store.specs.Held.{HasLeaves, look}
+use Rattle.nk_store.specs.StoreState.{HasLeaves, look}
 use Rattle.nk_apply.specs.Leaves.{merged}
 use Rattle.nk_compact.proofs.MetSets.{entry_put}
 use Rattle.nk_compact.proofs.met.put_entry.Goals as goal

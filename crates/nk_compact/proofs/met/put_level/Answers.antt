@@ -1,6 +1,6 @@
 use Rattle.std.proofs.Common.{◌≡◌, ◌∙◌, ℕ, get_or, sym, subst}
 use Rattle.std.proofs.lemmas.List.{get_or_default}
-use Rattle.nk_store.specs.Held.{IsId}
+use Rattle.nk_store.specs.StoreState.{IsId}
 use Rattle.nk_store.proofs.Stores.{grows_on}
 use Rattle.nk_compact.proofs.MetSets.{each_at, level_more}
 use Rattle.nk_compact.proofs.met.put_level.Goals as goal

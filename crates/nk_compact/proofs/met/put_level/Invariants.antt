@@ -1,6 +1,6 @@
 use Rattle.std.proofs.Common.{◌≡◌, ◌<◌, ◌++◌, ℕ, List, length, take}
 use Rattle.std.specs.Prelude.{slice_index}
-use Rattle.nk_store.specs.Held.{Held, IsId, Grows}
+use Rattle.nk_store.specs.StoreState.{StoreState, IsId, Grows}
 use Rattle.nk_compact.specs.MetPackets.{HaveIds, AreUnder}
 use Rattle.nk_compact.proofs.met.put_level.Given as goal
 
@@ -10,5 +10,5 @@ invariant-loop-s l = record {
   grows : Grows l.fn.st l.st;
   len : length l.all ≡ length l.fn.all;
   ids : (k : ℕ) → k < length l.all → IsId l.st (slice_index l.all k);
-  under : (base : Held) (before : List (ℕ × ℕ)) → Grows base l.fn.st → HaveIds base l.level → AreUnder base l.fn.st before l.fn.all → AreUnder base l.st (before ++ take l.s-index l.level) l.all;
+  under : (base : StoreState) (before : List (ℕ × ℕ)) → Grows base l.fn.st → HaveIds base l.level → AreUnder base l.fn.st before l.fn.all → AreUnder base l.st (before ++ take l.s-index l.level) l.all;
 }

@@ -6,6 +6,6 @@ use Rattle.nk_compile.proofs.tagging.padded.Given as goal
 abbrev pub invariant-loop-i : goal.invariant-loop-i
 invariant-loop-i l = l.all ≡ replicate l.i l.fn.none
 
--- and the sets so far behind
+-- and the sets so far after
 abbrev pub invariant-loop-s : goal.invariant-loop-s
 invariant-loop-s l = l.all ≡ replicate l.first l.fn.none ++ take l.s-index l.tags

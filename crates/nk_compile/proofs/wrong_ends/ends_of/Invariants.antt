@@ -1,5 +1,5 @@
 use Rattle.std.proofs.Common.{◌≡◌, length}
-use Rattle.nk_store.specs.Held.{Grows}
+use Rattle.nk_store.specs.StoreState.{Grows}
 use Rattle.nk_compile.specs.WrongEnds.{AreEndsOf}
 use Rattle.nk_compile.proofs.Uniting.{HaveSoFar}
 use Rattle.nk_compile.proofs.wrong_ends.ends_of.Given as goal

@@ -4,7 +4,7 @@ use Rattle.nk_policy.specs.Tree.{tree_of, trees_of}
 use Rattle.nk_policy.specs.declared.policy.Pol.TheViews.{the_lemmas}
 use Rattle.nk_policy.proofs.Trees.{tree_of_sum}
 use Rattle.nk_deriv.specs.Part.{NegatesPredicates}
-use Rattle.nk_deriv.specs.Turns.{IsCollected, ArePutBehind, AreInTurn}
+use Rattle.nk_deriv.specs.Turns.{IsCollected, ArePutAfter, AreInTurn}
 use Rattle.nk_deriv.proofs.Collected.{sum_tree, seq_tree, collected_as, collected_range, collected_test, collected_assign, collected_not, collected_seq, collected_star, collected_dup, collected_link, summing_none, summing_more, summing_done, complements_at, parts_next, part_is}
 use Rattle.nk_deriv.proofs.first.+first.Goals as goal
 
@@ -36,13 +36,13 @@ collected-returns-in_ok-all-in-Seq t c =
     (collected_seq _ _ _ c.in_ok-states-in-Seq.states _ c.in_ok-states-in-Seq.ensures
     (subst (AreInTurn c.args.legs.now c.in_turn.new.legs (tree_of c.in_ok-all-in-Seq.all)) c.as_slice-turns.ensures c.in_ok-all-in-Seq.ensures))
 
-pub collected-returns-in_ok-put_behind-in-Star : goal.collected-returns-in_ok-put_behind-in-Star
-collected-returns-in_ok-put_behind-in-Star t c =
+pub collected-returns-in_ok-put_following-in-Star : goal.collected-returns-in_ok-put_following-in-Star
+collected-returns-in_ok-put_following-in-Star t c =
     collected_as _ _ _ _ _ (ap (λ x. star_of (tree_of x)) c.deref.ensures ∙ sym (ap tree_of c.in-Star.is))
     (collected_star _ _ c.collected.new.legs _ (tree_of c.in_ok-round-in-Star.round) (tree_of c.deref.result.now)
     (subst (λ o. IsCollected o c.collected.new.legs (tree_of c.in_ok-round-in-Star.round) (tree_of c.deref.result.now)) c.new-firsts.ensures c.in_ok-round-in-Star.ensures)
     c.in_ok-star-in-Star.ensures
-    (subst (ArePutBehind c.args.legs.now c.put_behind.new.out (tree_of c.in_ok-star-in-Star.star)) c.as_slice-behind.ensures c.in_ok-put_behind-in-Star.ensures))
+    (subst (ArePutAfter c.args.legs.now c.put_following.new.out (tree_of c.in_ok-star-in-Star.star)) c.as_slice-following.ensures c.in_ok-put_following-in-Star.ensures))
 
 pub collected-returns-in_ok-push-in-Dup : goal.collected-returns-in_ok-push-in-Dup
 collected-returns-in_ok-push-in-Dup t c =

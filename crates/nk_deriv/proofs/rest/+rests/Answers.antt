@@ -5,12 +5,12 @@ use Rattle.nk_policy.specs.After.{after}
 use Rattle.nk_policy.specs.Distinct.{HasDistinct}
 use Rattle.nk_policy.specs.declared.policy.Pol.TheViews.{the_lemmas}
 use Rattle.nk_deriv.specs.Part.{NegatesPredicates, IsPartOfDerivative}
-use Rattle.nk_deriv.specs.Turns.{IsContinued, ArePartsOf, AreRests}
+use Rattle.nk_deriv.specs.Turns.{IsSequencedBefore, ArePartsOf, AreRests}
 use Rattle.nk_deriv.proofs.Collected.{sum_tree, seq_tree}
 use Rattle.nk_deriv.proofs.Rests.{rests_not, rests_as_tree, rests_star, rests_dup, rests_link}
 use Rattle.nk_deriv.proofs.Loops.{resting_none, sum_next, seq_next, seq_silent, resting_done, parts_many}
 use Rattle.nk_deriv.proofs.rest.+rests.Goals as goal
-use Rattle.nk_deriv.proofs.rest.+rests.Goals.{rests_in_turn-then-count-gt0+in_ok-behind+in_ok-rests, rests_in_turn-else-count-gt0}
+use Rattle.nk_deriv.proofs.rest.+rests.Goals.{rests_in_turn-then-count-gt0+in_ok-following+in_ok-rests, rests_in_turn-else-count-gt0}
 
 pub rests-rests_of_any-requires : goal.rests-rests_of_any-requires
 rests-rests_of_any-requires t c =
@@ -42,7 +42,7 @@ rests-returns-in_ok-rests-in-Star t c =
     rests_as_tree _ _ _ _ _ (sym e)
     (rests_star _ _ c.in_ok-star-in-Star.star _ c.in_ok-again-in-Star.again (tree_of c.deref.result.now)
     (subst (IsPartOfDerivative c.in_ok-star-in-Star.star) e c.in_ok-star-in-Star.ensures)
-    (subst (λ s. IsContinued c.in_ok-again-in-Star.again s c.args.next.now) c.from_ref.ensures.value c.in_ok-again-in-Star.ensures)
+    (subst (λ s. IsSequencedBefore c.in_ok-again-in-Star.again s c.args.next.now) c.from_ref.ensures.value c.in_ok-again-in-Star.ensures)
     c.in_ok-rests-in-Star.ensures)
 
 pub rests-returns-in_ok-push_next-in-Dup : goal.rests-returns-in_ok-push_next-in-Dup
@@ -79,10 +79,10 @@ rests_in_turn-states_from-later-requires t c =
 pub rests_in_turn-loop-i-preserved : goal.rests_in_turn-loop-i-preserved
 rests_in_turn-loop-i-preserved t c =
     elim c.if-count-gt0.branch [
-      | rests_in_turn-then-count-gt0+in_ok-behind+in_ok-rests w ↦
-          seq_next _ c.loop-i.out _ _ w.in_ok-behind.behind c.args.states.now _ c.index-ps-i.result c.args.ps.now _ c.loop-i-test.true c.index-ps-i.is c.requires.states
-          w.states_from-later.ensures w.in_ok-behind.ensures
-          (subst (λ o. AreRests c.loop-i.out o (after (tree_of c.index-ps-i.result)) (numbers_of (tree_of c.index-ps-i.result)) w.in_ok-behind.behind) (sym w.out-is) w.in_ok-rests.ensures)
+      | rests_in_turn-then-count-gt0+in_ok-following+in_ok-rests w ↦
+          seq_next _ c.loop-i.out _ _ w.in_ok-following.following c.args.states.now _ c.index-ps-i.result c.args.ps.now _ c.loop-i-test.true c.index-ps-i.is c.requires.states
+          w.states_from-later.ensures w.in_ok-following.ensures
+          (subst (λ o. AreRests c.loop-i.out o (after (tree_of c.index-ps-i.result)) (numbers_of (tree_of c.index-ps-i.result)) w.in_ok-following.following) (sym w.out-is) w.in_ok-rests.ensures)
           c.loop-i.invariant
       | rests_in_turn-else-count-gt0 w ↦
           let none : dups_of (tree_of c.index-ps-i.result) ≡ 0 = omega (arith, w.if-count-gt0.false, c.dups-count.ensures) in

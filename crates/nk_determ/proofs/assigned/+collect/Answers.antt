@@ -1,7 +1,7 @@
 use Rattle.std.proofs.Common.{◌∙◌, sym, subst, arith}
 use Rattle.std.proofs.lemmas.Result.{on_ok_weaker}
 use Rattle.nk_apply.proofs.MadeOf.{on_any}
-use Rattle.nk_store.specs.Held.{IsCase, IsNodeOf}
+use Rattle.nk_store.specs.StoreState.{IsCase, IsNodeOf}
 use Rattle.nk_determ.proofs.Collected.{among_on, all_items_grow, one_more_has, leaf_has_items, parts_more_have, case_has_items}
 use Rattle.nk_determ.proofs.HaveSets.{part_known}
 use Rattle.nk_determ.proofs.assigned.+collect.Goals as goal

@@ -1,7 +1,7 @@
 use Rattle.std.proofs.Common.{ℕ, List, refl, sym, subst, arith}
 use Rattle.std.proofs.lemmas.Bool.Decides.{nat_tests}
 use Rattle.std.proofs.lemmas.Result.{IfOk-weaker}
-use Rattle.nk_store.specs.Held.{node_of}
+use Rattle.nk_store.specs.StoreState.{node_of}
 use Rattle.nk_apply.proofs.Parts.{split_at}
 use Rattle.nk_apply.proofs.Shorts.{no_items}
 use Rattle.nk_determ.specs.Unchanged.{HasValues}

@@ -1,7 +1,7 @@
 use Rattle.std.proofs.Common.{◌+◌, ◌∙◌, refl, sym, subst, ap, arith, get_or}
 use Rattle.nk_store.proofs.Stores.{grows_on}
 use Rattle.nk_store.specs.Nodes.{child_at}
-use Rattle.nk_store.specs.Held.{look, AreParts, node_of}
+use Rattle.nk_store.specs.StoreState.{look, AreParts, node_of}
 use Rattle.nk_apply.proofs.Built.{Built, built_parts, built_leaf}
 use Rattle.nk_apply.proofs.Parts.{split_at}
 use Rattle.nk_determ.proofs.Pieces.{piece_leaf, IsCutBy, piece_push, piece_past}

@@ -1,5 +1,5 @@
 use Rattle.std.proofs.Common.{◌∙◌, sym, subst, arith}
-use Rattle.nk_store.specs.Held.{IsCase, IsNodeOf}
+use Rattle.nk_store.specs.StoreState.{IsCase, IsNodeOf}
 use Rattle.nk_determ.proofs.Plains.{leaf_plain, one_more_plain, parts_more_plain, case_plain}
 use Rattle.nk_determ.proofs.HaveSets.{part_known}
 use Rattle.nk_determ.proofs.plain.+plain.Goals as goal

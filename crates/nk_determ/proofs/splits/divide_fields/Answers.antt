@@ -1,6 +1,6 @@
 use Rattle.std.proofs.Common.{cond, eqb, subst, arith}
 use Rattle.std.specs.List.{list_any}
-use Rattle.nk_store.specs.Held.{look, HasLeaves}
+use Rattle.nk_store.specs.StoreState.{look, HasLeaves}
 use Rattle.nk_store.proofs.Stores.{grows_on, grows_same}
 use Rattle.nk_determ.specs.Unchanged.{leaf_changing, split_below}
 use Rattle.nk_determ.proofs.Fields.{fields_start, field_next, fields_all}

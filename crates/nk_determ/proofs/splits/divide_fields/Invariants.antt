@@ -1,4 +1,4 @@
-use Rattle.nk_store.specs.Held.{look, Grows, HasLeaves}
+use Rattle.nk_store.specs.StoreState.{look, Grows, HasLeaves}
 use Rattle.nk_determ.specs.Unchanged.{split_below}
 use Rattle.nk_determ.proofs.splits.divide_fields.Given as goal
 

@@ -2,7 +2,7 @@ use Rattle.std.proofs.Common.{◌+◌, ◌∙◌, sym, subst, ap, get_or}
 use Rattle.std.proofs.lemmas.Result.{IfOk-weaker}
 use Rattle.nk_store.proofs.Stores.{grows_on}
 use Rattle.nk_store.specs.Nodes.{child_at}
-use Rattle.nk_store.specs.Held.{look, AreParts}
+use Rattle.nk_store.specs.StoreState.{look, AreParts}
 use Rattle.nk_apply.proofs.Built.{built_parts, built_leaf}
 use Rattle.nk_apply.proofs.MadeOf.{on_any}
 use Rattle.nk_apply.proofs.Turned.{turned, turned_past, set_within}

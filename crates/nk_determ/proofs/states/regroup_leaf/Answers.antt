@@ -2,7 +2,7 @@ use Rattle.std.proofs.Common.{◌≡◌, ◌∙◌, true, nat_eq, sym, ap, subst
 use Rattle.std.specs.List.{list_all}
 use Rattle.std.proofs.lemmas.Result.{IfOk-weaker}
 use Rattle.nk_store.specs.Leaves.{Strict, Every, Suits}
-use Rattle.nk_store.specs.Held.{IsNodeOf, IsLeaf}
+use Rattle.nk_store.specs.StoreState.{IsNodeOf, IsLeaf}
 use Rattle.nk_determ.specs.States.{HasAll, regrouped}
 use Rattle.nk_apply.proofs.MadeOf.{leaf_made}
 use Rattle.nk_determ.proofs.Interned.{sets_same}
@@ -34,7 +34,7 @@ returns-clause-ok c =
 pub returns-clause-later : goal.returns-clause-later
 returns-clause-later c =
     let node : IsLeaf c.args.st.now c.args.d c.in-Leaf.outs = subst (IsNodeOf c.args.st.now c.args.d) c.in-Leaf.is c.view.ensures.means in
-    IfOk-weaker c.leaf.result _ _ (λ r h. omega (arith, h, node.top_is)) c.leaf.ensures.later
+    IfOk-weaker c.leaf.result _ _ (λ r h. omega (arith, h, node.root_field_is)) c.leaf.ensures.later
 
 pub returns-then-are_final-clause-ok : goal.returns-then-are_final-clause-ok
 returns-then-are_final-clause-ok c =

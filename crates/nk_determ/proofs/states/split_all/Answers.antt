@@ -1,6 +1,6 @@
 use Rattle.std.proofs.Common.{◌≡◌, ◌+◌, ◌∙◌, sym, subst, ap, length, get_or}
 use Rattle.std.proofs.lemmas.List.{get_or_default}
-use Rattle.nk_store.specs.Held.{IsId}
+use Rattle.nk_store.specs.StoreState.{IsId}
 use Rattle.nk_store.proofs.Stores.{grows_on}
 use Rattle.nk_determ.proofs.Together.{length_more, each_more, split_each, split_before}
 use Rattle.nk_determ.proofs.states.split_all.Goals as goal

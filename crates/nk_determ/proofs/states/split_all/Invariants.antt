@@ -1,5 +1,5 @@
 use Rattle.std.proofs.Common.{◌≡◌, length}
-use Rattle.nk_store.specs.Held.{Grows}
+use Rattle.nk_store.specs.StoreState.{Grows}
 use Rattle.nk_determ.specs.States.{HaveEach}
 use Rattle.nk_determ.proofs.Together.{split_each}
 use Rattle.nk_determ.proofs.states.split_all.Given as goal

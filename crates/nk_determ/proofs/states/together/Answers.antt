@@ -1,6 +1,6 @@
 use Rattle.std.proofs.Common.{sym, subst, length, refl}
 use Rattle.std.proofs.lemmas.Result.{IfOk-weaker}
-use Rattle.nk_store.specs.Held.{HasLeaves}
+use Rattle.nk_store.specs.StoreState.{HasLeaves}
 use Rattle.nk_apply.specs.Unions.{AreIds, unions}
 use Rattle.nk_determ.proofs.Together.{each_ids, split_each, all_together}
 use Rattle.nk_determ.proofs.states.together.Goals as goal

@@ -1,5 +1,5 @@
 use Rattle.std.proofs.Common.{◌∙◌, subst, sym, ap}
-use Rattle.nk_store.specs.Held.{IsId, IsNodeOf}
+use Rattle.nk_store.specs.StoreState.{IsId, IsNodeOf}
 use Rattle.nk_store.specs.Nodes.{child_at}
 use Rattle.nk_store.proofs.Stores.{case_child}
 use Rattle.nk_extract.proofs.rows.root.Goals as goal

@@ -1,10 +1,10 @@
 use Rattle.std.proofs.Common.{◌≡◌, ◌≤◌, length}
-use Rattle.nk_store.specs.Held.{Grows}
+use Rattle.nk_store.specs.StoreState.{Grows}
 use Rattle.nk_determ.specs.Sets.{SetsGrow}
 use Rattle.nk_merge.specs.Alike.{AreTagsAlike}
 use Rattle.nk_merge.specs.Classes.{AreClasses, AreFirsts}
 use Rattle.nk_merge.specs.Seen.{AreSeenDiagrams}
-use Rattle.nk_merge.specs.Twice.{IsTwice}
+use Rattle.nk_merge.specs.DisjointCopies.{IsDisjointCopy}
 use Rattle.nk_merge.proofs.classes.classes_of.Given as goal
 
 -- the tags so far have their classes
@@ -12,8 +12,8 @@ abbrev pub invariant-loop-i : goal.invariant-loop-i
 invariant-loop-i l = record {
   grows : Grows l.fn.st l.st;
   sets : SetsGrow l.fn.ss l.ss;
-  twice : IsTwice l.st l.states l.twice;
-  rows : l.twice.rows ≡ l.fn.twice.rows;
+  disjoint : IsDisjointCopy l.st l.states l.disjoint;
+  rows : l.disjoint.rows ≡ l.fn.disjoint.rows;
   classes : AreClasses (AreTagsAlike l.fn.st l.states l.fn.ss l.tags) l.i l.all.numbers;
   firsts : AreFirsts l.all.numbers l.all.firsts;
   few : length l.all.firsts ≤ l.i;

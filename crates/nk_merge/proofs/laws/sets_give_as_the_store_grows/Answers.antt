@@ -1,4 +1,4 @@
-use Rattle.nk_merge.proofs.Growing.{gives_on, gives_back, alike_on, alike_back, twice_on}
+use Rattle.nk_merge.proofs.Growing.{gives_on, gives_back, alike_on, alike_back, disjoint_on}
 use Rattle.nk_merge.proofs.laws.sets_give_as_the_store_grows.Goals as goal
 
 pub returns-clause-gives : goal.returns-clause-gives
@@ -13,5 +13,5 @@ returns-clause-alike c = λ old new states g ok s t sp tp. (
   λ h. alike_back old new states g ok s t sp tp h,
 )
 
-pub returns-clause-twice : goal.returns-clause-twice
-returns-clause-twice c = λ old new states t g k. twice_on old new states t g k
+pub returns-clause-disjoint : goal.returns-clause-disjoint
+returns-clause-disjoint c = λ old new states t g k. disjoint_on old new states t g k

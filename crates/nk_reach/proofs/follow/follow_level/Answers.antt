@@ -2,7 +2,7 @@ use Rattle.std.proofs.Common.{◌≡◌, ◌<◌, length, take, sym, subst, arit
 use Rattle.nk_store.proofs.Stores.{grows_on}
 use Rattle.nk_sets.proofs.SetLemmas.{set_grows}
 use Rattle.nk_determ.proofs.Interned.{sets_on}
-use Rattle.nk_reach.specs.Pairs.{HavePlaces, IsPair}
+use Rattle.nk_reach.specs.Pairs.{AreLabelsBelow, IsPair}
 use Rattle.nk_reach.specs.Rounds.{IsSoFar}
 use Rattle.nk_reach.proofs.Kept.{each_at}
 use Rattle.nk_reach.proofs.Growing.{sets_same, states_grow}
@@ -17,7 +17,7 @@ pub follow_pair-requires-clause-places : goal.follow_pair-requires-clause-places
 follow_pair-requires-clause-places c =
     let l : c.loop-k.k < length c.args.last.now = omega (arith, c.loop-k-test.true, c.len-k-end.ensures) in
     let p = each_at (IsPair c.args.st.now c.args.ss.now (length c.args.states.now)) c.args.last.now c.loop-k.k c.at.result.now c.requires.last.each l c.at.ensures in
-    subst (HavePlaces (length c.args.states.now)) (sym (sets_same c.args.ss.now c.loop-k.ss c.at.result.now.0 c.loop-k.invariant.sets p.known)) p.places
+    subst (AreLabelsBelow (length c.args.states.now)) (sym (sets_same c.args.ss.now c.loop-k.ss c.at.result.now.0 c.loop-k.invariant.sets p.known)) p.places
 
 pub follow_pair-requires-clause-packets : goal.follow_pair-requires-clause-packets
 follow_pair-requires-clause-packets c =

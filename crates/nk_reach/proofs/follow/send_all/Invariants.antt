@@ -1,4 +1,4 @@
-use Rattle.nk_store.specs.Held.{Grows}
+use Rattle.nk_store.specs.StoreState.{Grows}
 use Rattle.nk_reach.specs.Rounds.{IsAllSent}
 use Rattle.nk_reach.proofs.follow.send_all.Given as goal
 

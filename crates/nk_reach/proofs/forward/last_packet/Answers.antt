@@ -1,6 +1,6 @@
 use Rattle.std.proofs.Common.{ℕ, List, Contains, length, sym, ◌∙◌, subst}
 use Rattle.nk_store.specs.declared.node.Out.{Out}
-use Rattle.nk_store.specs.Held.{IsPacket, look}
+use Rattle.nk_store.specs.StoreState.{IsStorePacket, look}
 use Rattle.nk_reach.proofs.Kept.{packet_on, packet_back}
 use Rattle.nk_reach.proofs.Locals.{out_in_range}
 use Rattle.nk_reach.specs.Choices.{IsAny, IsBest, NoneCount}
@@ -28,5 +28,5 @@ returns-clause-range g c =
     let best : IsBest IsAny c.args.x.now c.look-outs.result.now (length c.look-outs.result.now) c.in-Some.b = c.in-Some.ensures in
     let member : Contains (look c.bad.new.st c.in_ok-finals.finals c.args.x.now) best.out = subst (λ (os : List Out). Contains os best.out) c.look-outs.ensures best.among in
     packet_back c.args.st.now c.bad.new.st c.in-Some.b.packet c.bad.ensures.grows
-    (subst (λ (y : List ℕ). IsPacket c.bad.new.st y) best.made
+    (subst (λ (y : List ℕ). IsStorePacket c.bad.new.st y) best.made
     (out_in_range c.bad.new.st c.in_ok-finals.finals c.args.x.now best.out c.laws.ensures.tidy (packet_on c.args.st.now c.bad.new.st c.args.x.now c.bad.ensures.grows c.requires.packet) member))

@@ -7,7 +7,7 @@ pub returns-then-end-max : goal.returns-then-end-max
 returns-then-end-max c =
     have_run c.args.st.now c.args.f c.args.ss.now c.args.from (c.loop-parts.k + 1) c.end_at-end.result c.put_part.new.parts
     (laid_step c.args.st.now c.args.f c.args.ss.now c.args.from c.loop-parts.k c.loop-parts.next c.args.none c.end_at-end.result c.loop-parts.parts c.put_part.new.parts c.loop-parts.invariant.laid c.requires.none c.requires.field c.requires.stretches
-    c.loop-parts.invariant.within c.loop-parts.invariant.order c.loop-parts.invariant.out c.loop-parts.invariant.behind c.in_ok-put_part.ensures c.end_at-end.ensures)
+    c.loop-parts.invariant.within c.loop-parts.invariant.order c.loop-parts.invariant.out c.loop-parts.invariant.following c.in_ok-put_part.ensures c.end_at-end.ensures)
     c.requires.field (c.if-end-max.true ∙ c.max-max.ensures) (omega (arith, c.loop-parts.invariant.order)) (omega (arith, c.loop-parts.invariant.within))
 
 pub returns-then-k-ss : goal.returns-then-k-ss
@@ -17,7 +17,7 @@ returns-then-k-ss c =
     subst (HaveRun c.args.st.now c.args.f c.args.ss.now c.args.from (c.loop-parts.k + 1)) (sym c.in_ok-push.ensures.ok)
     (have_run_empty c.args.st.now c.args.f c.args.ss.now c.args.from (c.loop-parts.k + 1) (c.end_at-end.result + 1) c.max-max.result c.args.none c.put_part.new.parts
     (laid_step c.args.st.now c.args.f c.args.ss.now c.args.from c.loop-parts.k c.loop-parts.next c.args.none c.end_at-end.result c.loop-parts.parts c.put_part.new.parts c.loop-parts.invariant.laid c.requires.none c.requires.field c.requires.stretches
-    c.loop-parts.invariant.within c.loop-parts.invariant.order c.loop-parts.invariant.out c.loop-parts.invariant.behind c.in_ok-put_part.ensures c.end_at-end.ensures)
+    c.loop-parts.invariant.within c.loop-parts.invariant.order c.loop-parts.invariant.out c.loop-parts.invariant.following c.in_ok-put_part.ensures c.end_at-end.ensures)
     c.requires.none c.requires.field low c.max-max.ensures (omega (arith, c.loop-parts.invariant.order)) (omega (arith, c.loop-parts.invariant.within)))
 
 pub loop-parts-preserved : goal.loop-parts-preserved
@@ -25,7 +25,7 @@ loop-parts-preserved c = record {
   order = omega (arith, c.loop-parts.invariant.order);
   within = omega (arith, c.loop-parts.invariant.within, c.if-k-ss.false);
   out = c.if-not-follows.ensures.out refl;
-  behind = c.if-not-follows.ensures.behind refl;
+  following = c.if-not-follows.ensures.following refl;
   laid = laid_step c.args.st.now c.args.f c.args.ss.now c.args.from c.loop-parts.k c.loop-parts.next c.args.none c.end_at-end.result c.loop-parts.parts c.put_part.new.parts c.loop-parts.invariant.laid c.requires.none c.requires.field c.requires.stretches
-      c.loop-parts.invariant.within c.loop-parts.invariant.order c.loop-parts.invariant.out c.loop-parts.invariant.behind c.in_ok-put_part.ensures c.end_at-end.ensures;
+      c.loop-parts.invariant.within c.loop-parts.invariant.order c.loop-parts.invariant.out c.loop-parts.invariant.following c.in_ok-put_part.ensures c.end_at-end.ensures;
 }

@@ -8,7 +8,7 @@ invariant-loop-parts l = record {
   order : l.from ≤ l.k;
   within : l.k < length l.ss;
   out : (piece l.ss l.k).out ≡ (piece l.ss l.from).out;
-  behind : l.next ≤ (piece l.ss l.k).from;
+  following : l.next ≤ (piece l.ss l.k).from;
   laid : IsLaid l.st l.fn.f l.ss l.from l.k l.next l.parts;
 }
 

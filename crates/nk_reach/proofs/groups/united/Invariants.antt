@@ -1,5 +1,5 @@
 use Rattle.std.proofs.Common.{◌≤◌, ◌-◌, length}
-use Rattle.nk_store.specs.Held.{Grows}
+use Rattle.nk_store.specs.StoreState.{Grows}
 use Rattle.nk_reach.specs.Outs.{AreUnited, IsNone}
 use Rattle.nk_reach.proofs.groups.united.Given as goal
 

@@ -1,5 +1,5 @@
 use Rattle.std.proofs.Common.{◌≡◌, ◌+◌, ◌-◌, length}
-use Rattle.nk_store.specs.Held.{Grows}
+use Rattle.nk_store.specs.StoreState.{Grows}
 use Rattle.nk_determ.specs.Sets.{SetsGrow}
 use Rattle.nk_reach.specs.Backs.{AreBacks}
 use Rattle.nk_reach.proofs.least.backs_of.Given as goal
@@ -10,5 +10,5 @@ invariant-loop-k g l = record {
   sets : SetsGrow l.fn.ss l.ss;
   fits : g.G.Goal.fits l.g l.st;
   count : length l.backs ≡ l.k + 1;
-  backs : AreBacks l.fn.st l.st l.fn.ss l.ss l.states (g.G.Goal.bad_of l.fn.g l.fn.st) l.l.levels (length l.l.levels - 1) (l.k + 1) l.backs;
+  backs : AreBacks l.fn.st l.st l.fn.ss l.ss l.states (g.G.Goal.violations_of l.fn.g l.fn.st) l.l.levels (length l.l.levels - 1) (l.k + 1) l.backs;
 }

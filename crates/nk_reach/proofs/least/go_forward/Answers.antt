@@ -2,7 +2,7 @@ use Rattle.std.proofs.Common.{◌≡◌, ◌<◌, ◌+◌, ◌-◌, ℕ, Some, L
 use Rattle.std.specs.Map.{lookup}
 use Rattle.nk_field.specs.Order.{Found}
 use Rattle.nk_store.specs.declared.node.Out.{Out}
-use Rattle.nk_store.specs.Held.{Held}
+use Rattle.nk_store.specs.StoreState.{StoreState}
 use Rattle.nk_store.proofs.Stores.{grows_on}
 use Rattle.nk_determ.proofs.Interned.{sets_on}
 use Rattle.nk_reach.specs.Pairs.{Under}
@@ -15,19 +15,19 @@ use Rattle.nk_reach.specs.Finds.{first_set, first_packets, target_of}
 use Rattle.nk_reach.proofs.Backing.{back_at, backs_on}
 use Rattle.nk_reach.proofs.Advancing.{IsFirst, start_some, first_of, forward_start}
 use Rattle.nk_reach.proofs.Forwards.{place_back, place_next, start_back, start_forward, end_forward, places_more, round_here, round_next, round_under, round_ahead, round_on}
-use Rattle.nk_reach.proofs.Finding.{end_bad, greedy_of, least_of, left_first, best_sided, target_told}
+use Rattle.nk_reach.proofs.Finding.{end_violation, greedy_of, least_of, left_first, best_sided, target_told}
 use Rattle.nk_reach.proofs.Greedy.{greedy_breaks}
 use Rattle.nk_reach.proofs.least.go_forward.Goals as goal
 
 pub least_under-requires-clause-back : goal.least_under-requires-clause-back
 least_under-requires-clause-back g c =
-    let old : Held = c.args.st.now in
+    let old : StoreState = c.args.st.now in
     let oss : List (List ℕ) = c.args.ss.now in
     let states : List ℕ = c.args.states.now in
     let ls : List (List (ℕ × ℕ)) = c.args.l.now.levels in
     let h : ℕ = length ls - 1 in
     let n : ℕ = c.len-last.result in
-    let bad = g.G.Goal.bad_of c.args.g.now c.args.st.now in
+    let bad = g.G.Goal.violations_of c.args.g.now c.args.st.now in
     let made : List (List (ℕ × ℕ)) = c.in_ok-made.made in
     let some : 0 < length ls = c.requires.levels.some in
     let count : length ls ≡ h + 1 = omega (arith, some) in
@@ -38,13 +38,13 @@ least_under-requires-clause-back g c =
 
 pub least_under-requires-clause-some : goal.least_under-requires-clause-some
 least_under-requires-clause-some g c =
-    let old : Held = c.args.st.now in
+    let old : StoreState = c.args.st.now in
     let oss : List (List ℕ) = c.args.ss.now in
     let states : List ℕ = c.args.states.now in
     let ls : List (List (ℕ × ℕ)) = c.args.l.now.levels in
     let h : ℕ = length ls - 1 in
     let n : ℕ = c.len-last.result in
-    let bad = g.G.Goal.bad_of c.args.g.now c.args.st.now in
+    let bad = g.G.Goal.violations_of c.args.g.now c.args.st.now in
     let made : List (List (ℕ × ℕ)) = c.in_ok-made.made in
     let some : 0 < length ls = c.requires.levels.some in
     let count : length ls ≡ h + 1 = omega (arith, some) in
@@ -56,13 +56,13 @@ least_under-requires-clause-some g c =
 
 pub loop-i-init : goal.loop-i-init
 loop-i-init g c =
-    let old : Held = c.args.st.now in
+    let old : StoreState = c.args.st.now in
     let oss : List (List ℕ) = c.args.ss.now in
     let states : List ℕ = c.args.states.now in
     let ls : List (List (ℕ × ℕ)) = c.args.l.now.levels in
     let h : ℕ = length ls - 1 in
     let n : ℕ = c.len-last.result in
-    let bad = g.G.Goal.bad_of c.args.g.now c.args.st.now in
+    let bad = g.G.Goal.violations_of c.args.g.now c.args.st.now in
     let made : List (List (ℕ × ℕ)) = c.in_ok-made.made in
     let some : 0 < length ls = c.requires.levels.some in
     let count : length ls ≡ h + 1 = omega (arith, some) in
@@ -89,13 +89,13 @@ next_packet-requires-clause-states g c =
 
 pub next_packet-requires-clause-here : goal.next_packet-requires-clause-here
 next_packet-requires-clause-here g c =
-    let old : Held = c.args.st.now in
+    let old : StoreState = c.args.st.now in
     let oss : List (List ℕ) = c.args.ss.now in
     let states : List ℕ = c.args.states.now in
     let ls : List (List (ℕ × ℕ)) = c.args.l.now.levels in
     let h : ℕ = length ls - 1 in
     let n : ℕ = c.len-last.result in
-    let bad = g.G.Goal.bad_of c.args.g.now c.args.st.now in
+    let bad = g.G.Goal.violations_of c.args.g.now c.args.st.now in
     let made : List (List (ℕ × ℕ)) = c.in_ok-made.made in
     let some : 0 < length ls = c.requires.levels.some in
     let count : length ls ≡ h + 1 = omega (arith, some) in
@@ -110,13 +110,13 @@ next_packet-requires-clause-here g c =
 
 pub next_packet-requires-clause-next : goal.next_packet-requires-clause-next
 next_packet-requires-clause-next g c =
-    let old : Held = c.args.st.now in
+    let old : StoreState = c.args.st.now in
     let oss : List (List ℕ) = c.args.ss.now in
     let states : List ℕ = c.args.states.now in
     let ls : List (List (ℕ × ℕ)) = c.args.l.now.levels in
     let h : ℕ = length ls - 1 in
     let n : ℕ = c.len-last.result in
-    let bad = g.G.Goal.bad_of c.args.g.now c.args.st.now in
+    let bad = g.G.Goal.violations_of c.args.g.now c.args.st.now in
     let made : List (List (ℕ × ℕ)) = c.in_ok-made.made in
     let some : 0 < length ls = c.requires.levels.some in
     let count : length ls ≡ h + 1 = omega (arith, some) in
@@ -135,13 +135,13 @@ next_packet-requires-clause-packet g c =
 
 pub next_packet-requires-clause-under : goal.next_packet-requires-clause-under
 next_packet-requires-clause-under g c =
-    let old : Held = c.args.st.now in
+    let old : StoreState = c.args.st.now in
     let oss : List (List ℕ) = c.args.ss.now in
     let states : List ℕ = c.args.states.now in
     let ls : List (List (ℕ × ℕ)) = c.args.l.now.levels in
     let h : ℕ = length ls - 1 in
     let n : ℕ = c.len-last.result in
-    let bad = g.G.Goal.bad_of c.args.g.now c.args.st.now in
+    let bad = g.G.Goal.violations_of c.args.g.now c.args.st.now in
     let made : List (List (ℕ × ℕ)) = c.in_ok-made.made in
     let some : 0 < length ls = c.requires.levels.some in
     let count : length ls ≡ h + 1 = omega (arith, some) in
@@ -156,13 +156,13 @@ next_packet-requires-clause-under g c =
 
 pub next_packet-requires-clause-ahead : goal.next_packet-requires-clause-ahead
 next_packet-requires-clause-ahead g c =
-    let old : Held = c.args.st.now in
+    let old : StoreState = c.args.st.now in
     let oss : List (List ℕ) = c.args.ss.now in
     let states : List ℕ = c.args.states.now in
     let ls : List (List (ℕ × ℕ)) = c.args.l.now.levels in
     let h : ℕ = length ls - 1 in
     let n : ℕ = c.len-last.result in
-    let bad = g.G.Goal.bad_of c.args.g.now c.args.st.now in
+    let bad = g.G.Goal.violations_of c.args.g.now c.args.st.now in
     let made : List (List (ℕ × ℕ)) = c.in_ok-made.made in
     let some : 0 < length ls = c.requires.levels.some in
     let count : length ls ≡ h + 1 = omega (arith, some) in
@@ -185,13 +185,13 @@ returns-in_err-push-clause-sets g c =
 
 pub loop-i-preserved : goal.loop-i-preserved
 loop-i-preserved g c =
-    let old : Held = c.args.st.now in
+    let old : StoreState = c.args.st.now in
     let oss : List (List ℕ) = c.args.ss.now in
     let states : List ℕ = c.args.states.now in
     let ls : List (List (ℕ × ℕ)) = c.args.l.now.levels in
     let h : ℕ = length ls - 1 in
     let n : ℕ = c.len-last.result in
-    let bad = g.G.Goal.bad_of c.args.g.now c.args.st.now in
+    let bad = g.G.Goal.violations_of c.args.g.now c.args.st.now in
     let made : List (List (ℕ × ℕ)) = c.in_ok-made.made in
     let some : 0 < length ls = c.requires.levels.some in
     let count : length ls ≡ h + 1 = omega (arith, some) in
@@ -212,13 +212,13 @@ loop-i-preserved g c =
 
 pub last_packet-requires-clause-set : goal.last_packet-requires-clause-set
 last_packet-requires-clause-set g c =
-    let old : Held = c.args.st.now in
+    let old : StoreState = c.args.st.now in
     let oss : List (List ℕ) = c.args.ss.now in
     let states : List ℕ = c.args.states.now in
     let ls : List (List (ℕ × ℕ)) = c.args.l.now.levels in
     let h : ℕ = length ls - 1 in
     let n : ℕ = c.len-last.result in
-    let bad = g.G.Goal.bad_of c.args.g.now c.args.st.now in
+    let bad = g.G.Goal.violations_of c.args.g.now c.args.st.now in
     let made : List (List (ℕ × ℕ)) = c.in_ok-made.made in
     let some : 0 < length ls = c.requires.levels.some in
     let count : length ls ≡ h + 1 = omega (arith, some) in
@@ -235,13 +235,13 @@ last_packet-requires-clause-set g c =
 
 pub last_packet-requires-clause-places : goal.last_packet-requires-clause-places
 last_packet-requires-clause-places g c =
-    let old : Held = c.args.st.now in
+    let old : StoreState = c.args.st.now in
     let oss : List (List ℕ) = c.args.ss.now in
     let states : List ℕ = c.args.states.now in
     let ls : List (List (ℕ × ℕ)) = c.args.l.now.levels in
     let h : ℕ = length ls - 1 in
     let n : ℕ = c.len-last.result in
-    let bad = g.G.Goal.bad_of c.args.g.now c.args.st.now in
+    let bad = g.G.Goal.violations_of c.args.g.now c.args.st.now in
     let made : List (List (ℕ × ℕ)) = c.in_ok-made.made in
     let some : 0 < length ls = c.requires.levels.some in
     let count : length ls ≡ h + 1 = omega (arith, some) in
@@ -262,13 +262,13 @@ last_packet-requires-clause-packet g c =
 
 pub last_packet-requires-clause-bad : goal.last_packet-requires-clause-bad
 last_packet-requires-clause-bad g c =
-    let old : Held = c.args.st.now in
+    let old : StoreState = c.args.st.now in
     let oss : List (List ℕ) = c.args.ss.now in
     let states : List ℕ = c.args.states.now in
     let ls : List (List (ℕ × ℕ)) = c.args.l.now.levels in
     let h : ℕ = length ls - 1 in
     let n : ℕ = c.len-last.result in
-    let bad = g.G.Goal.bad_of c.args.g.now c.args.st.now in
+    let bad = g.G.Goal.violations_of c.args.g.now c.args.st.now in
     let made : List (List (ℕ × ℕ)) = c.in_ok-made.made in
     let some : 0 < length ls = c.requires.levels.some in
     let count : length ls ≡ h + 1 = omega (arith, some) in
@@ -282,19 +282,19 @@ last_packet-requires-clause-bad g c =
     let b0 : IsBack old c.loop-i.st c.loop-i.ss states bad (InLevel old oss ls h) 0 (get_or made 0 []) = back_at old c.loop-i.st oss c.loop-i.ss states bad ls h (length ls) h 0 made c.loop-i.invariant.backs some (omega arith) in
     let known = named_known c.loop-i.st c.loop-i.ss (length states) (get_or made 0 []) s b0.pairs.each (under_named c.loop-i.st (get_or made 0 []) s x f.under) in
     let members : List ℕ = get_or c.loop-i.ss s [] in
-    let same : g.G.Goal.bad_of c.backs_of.new.g c.loop-i.st members x ≡ bad members x =
-    c.in_ok-made.ensures.same c.loop-i.st members x ∙ g.met.G.Goal.bad_on c.args.g.now c.args.st.now c.loop-i.st members x c.requires.fits c.loop-i.invariant.grows (places_more (length states) (g.G.Goal.labels c.args.g.now) members c.requires.labels known.1) in
-    λ z. end_bad old c.loop-i.st c.loop-i.ss states (first_packets ls) bad (InLevel old oss ls h) h h (get_or made 0 []) first c.in_ok-start.start c.loop-i.records s x b0 f (sym same ∙ z)
+    let same : g.G.Goal.violations_of c.backs_of.new.g c.loop-i.st members x ≡ bad members x =
+    c.in_ok-made.ensures.same c.loop-i.st members x ∙ g.met.G.Goal.violations_grow c.args.g.now c.args.st.now c.loop-i.st members x c.requires.fits c.loop-i.invariant.grows (places_more (length states) (g.G.Goal.labels c.args.g.now) members c.requires.labels known.1) in
+    λ z. end_violation old c.loop-i.st c.loop-i.ss states (first_packets ls) bad (InLevel old oss ls h) h h (get_or made 0 []) first c.in_ok-start.start c.loop-i.records s x b0 f (sym same ∙ z)
 
 pub returns-clause-breaks : goal.returns-clause-breaks
 returns-clause-breaks g c =
-    let old : Held = c.args.st.now in
+    let old : StoreState = c.args.st.now in
     let oss : List (List ℕ) = c.args.ss.now in
     let states : List ℕ = c.args.states.now in
     let ls : List (List (ℕ × ℕ)) = c.args.l.now.levels in
     let h : ℕ = length ls - 1 in
     let n : ℕ = c.len-last.result in
-    let bad = g.G.Goal.bad_of c.args.g.now c.args.st.now in
+    let bad = g.G.Goal.violations_of c.args.g.now c.args.st.now in
     let made : List (List (ℕ × ℕ)) = c.in_ok-made.made in
     let some : 0 < length ls = c.requires.levels.some in
     let count : length ls ≡ h + 1 = omega (arith, some) in
@@ -314,12 +314,12 @@ returns-clause-breaks g c =
     let b0 : IsBack old c.loop-i.st c.loop-i.ss states bad (InLevel old oss ls h) 0 (get_or made 0 []) = back_at old c.loop-i.st oss c.loop-i.ss states bad ls h (length ls) h 0 made c.loop-i.invariant.backs some (omega arith) in
     let known = named_known c.loop-i.st c.loop-i.ss (length states) (get_or made 0 []) s b0.pairs.each (under_named c.loop-i.st (get_or made 0 []) s x f.under) in
     let members : List ℕ = get_or c.loop-i.ss s [] in
-    let same : g.G.Goal.bad_of c.backs_of.new.g c.loop-i.st members x ≡ bad members x =
-    c.in_ok-made.ensures.same c.loop-i.st members x ∙ g.met.G.Goal.bad_on c.args.g.now c.args.st.now c.loop-i.st members x c.requires.fits c.loop-i.invariant.grows (places_more (length states) (g.G.Goal.labels c.args.g.now) members c.requires.labels known.1) in
+    let same : g.G.Goal.violations_of c.backs_of.new.g c.loop-i.st members x ≡ bad members x =
+    c.in_ok-made.ensures.same c.loop-i.st members x ∙ g.met.G.Goal.violations_grow c.args.g.now c.args.st.now c.loop-i.st members x c.requires.fits c.loop-i.invariant.grows (places_more (length states) (g.G.Goal.labels c.args.g.now) members c.requires.labels known.1) in
     let one : IsFirst old states first (first_packets ls) bad h c.in_ok-start.start = first_of old c.backs_of.new.st oss c.backs_of.new.ss states (first_set ls) (first_packets ls) bad ls c.args.l.now.broken h whole p y c.requires.levels count c.backs_of.ensures.grows c.backs_of.ensures.sets c.in_ok-made.ensures.differ b found c.in_ok-start.ensures.2 in
     let best = c.in_ok-end.ensures.ok in
-    let gr = greedy_of old c.loop-i.st c.loop-i.ss states (first_packets ls) bad h (get_or made 0 []) first c.in_ok-start.start c.loop-i.records s x (g.G.Goal.bad_of c.backs_of.new.g c.loop-i.st members x) c.in_ok-end.end one f same best in
-    let has : List Out = g.G.Goal.bad_of c.backs_of.new.g c.loop-i.st members x in
+    let gr = greedy_of old c.loop-i.st c.loop-i.ss states (first_packets ls) bad h (get_or made 0 []) first c.in_ok-start.start c.loop-i.records s x (g.G.Goal.violations_of c.backs_of.new.g c.loop-i.st members x) c.in_ok-end.end one f same best in
+    let has : List Out = g.G.Goal.violations_of c.backs_of.new.g c.loop-i.st members x in
     let sided = best_sided x has c.in_ok-end.end best (g.met.G.Goal.sided c.backs_of.new.g c.loop-i.st members x best.out c.loop-i.invariant.fits f.packet.0 best.among) in
     let told : c.in_ok-end.end.target ≡ target_of c.side_of.result = target_told c.side_of.result c.in_ok-end.end.target c.side_of.ensures.left c.side_of.ensures.right sided in
     let found : Found = record { start = c.in_ok-start.start; records = c.loop-i.records; last = c.in_ok-end.end.packet } in
@@ -328,13 +328,13 @@ returns-clause-breaks g c =
 
 pub returns-clause-least : goal.returns-clause-least
 returns-clause-least g c =
-    let old : Held = c.args.st.now in
+    let old : StoreState = c.args.st.now in
     let oss : List (List ℕ) = c.args.ss.now in
     let states : List ℕ = c.args.states.now in
     let ls : List (List (ℕ × ℕ)) = c.args.l.now.levels in
     let h : ℕ = length ls - 1 in
     let n : ℕ = c.len-last.result in
-    let bad = g.G.Goal.bad_of c.args.g.now c.args.st.now in
+    let bad = g.G.Goal.violations_of c.args.g.now c.args.st.now in
     let made : List (List (ℕ × ℕ)) = c.in_ok-made.made in
     let some : 0 < length ls = c.requires.levels.some in
     let count : length ls ≡ h + 1 = omega (arith, some) in
@@ -354,22 +354,22 @@ returns-clause-least g c =
     let b0 : IsBack old c.loop-i.st c.loop-i.ss states bad (InLevel old oss ls h) 0 (get_or made 0 []) = back_at old c.loop-i.st oss c.loop-i.ss states bad ls h (length ls) h 0 made c.loop-i.invariant.backs some (omega arith) in
     let known = named_known c.loop-i.st c.loop-i.ss (length states) (get_or made 0 []) s b0.pairs.each (under_named c.loop-i.st (get_or made 0 []) s x f.under) in
     let members : List ℕ = get_or c.loop-i.ss s [] in
-    let same : g.G.Goal.bad_of c.backs_of.new.g c.loop-i.st members x ≡ bad members x =
-    c.in_ok-made.ensures.same c.loop-i.st members x ∙ g.met.G.Goal.bad_on c.args.g.now c.args.st.now c.loop-i.st members x c.requires.fits c.loop-i.invariant.grows (places_more (length states) (g.G.Goal.labels c.args.g.now) members c.requires.labels known.1) in
+    let same : g.G.Goal.violations_of c.backs_of.new.g c.loop-i.st members x ≡ bad members x =
+    c.in_ok-made.ensures.same c.loop-i.st members x ∙ g.met.G.Goal.violations_grow c.args.g.now c.args.st.now c.loop-i.st members x c.requires.fits c.loop-i.invariant.grows (places_more (length states) (g.G.Goal.labels c.args.g.now) members c.requires.labels known.1) in
     let one : IsFirst old states first (first_packets ls) bad h c.in_ok-start.start = first_of old c.backs_of.new.st oss c.backs_of.new.ss states (first_set ls) (first_packets ls) bad ls c.args.l.now.broken h whole p y c.requires.levels count c.backs_of.ensures.grows c.backs_of.ensures.sets c.in_ok-made.ensures.differ b found c.in_ok-start.ensures.2 in
     let best = c.in_ok-end.ensures.ok in
-    let gr = greedy_of old c.loop-i.st c.loop-i.ss states (first_packets ls) bad h (get_or made 0 []) first c.in_ok-start.start c.loop-i.records s x (g.G.Goal.bad_of c.backs_of.new.g c.loop-i.st members x) c.in_ok-end.end one f same best in
+    let gr = greedy_of old c.loop-i.st c.loop-i.ss states (first_packets ls) bad h (get_or made 0 []) first c.in_ok-start.start c.loop-i.records s x (g.G.Goal.violations_of c.backs_of.new.g c.loop-i.st members x) c.in_ok-end.end one f same best in
     least_of old oss states (first_set ls) (first_packets ls) bad ls c.args.l.now.broken h (record { start = c.in_ok-start.start; records = c.loop-i.records; last = c.in_ok-end.end.packet }) (members, x) c.in_ok-end.end.target c.requires.levels count gr
 
 pub returns-clause-left : goal.returns-clause-left
 returns-clause-left g c = λ w.
-    let old : Held = c.args.st.now in
+    let old : StoreState = c.args.st.now in
     let oss : List (List ℕ) = c.args.ss.now in
     let states : List ℕ = c.args.states.now in
     let ls : List (List (ℕ × ℕ)) = c.args.l.now.levels in
     let h : ℕ = length ls - 1 in
     let n : ℕ = c.len-last.result in
-    let bad = g.G.Goal.bad_of c.args.g.now c.args.st.now in
+    let bad = g.G.Goal.violations_of c.args.g.now c.args.st.now in
     let made : List (List (ℕ × ℕ)) = c.in_ok-made.made in
     let some : 0 < length ls = c.requires.levels.some in
     let count : length ls ≡ h + 1 = omega (arith, some) in
@@ -389,13 +389,13 @@ returns-clause-left g c = λ w.
     let b0 : IsBack old c.loop-i.st c.loop-i.ss states bad (InLevel old oss ls h) 0 (get_or made 0 []) = back_at old c.loop-i.st oss c.loop-i.ss states bad ls h (length ls) h 0 made c.loop-i.invariant.backs some (omega arith) in
     let known = named_known c.loop-i.st c.loop-i.ss (length states) (get_or made 0 []) s b0.pairs.each (under_named c.loop-i.st (get_or made 0 []) s x f.under) in
     let members : List ℕ = get_or c.loop-i.ss s [] in
-    let same : g.G.Goal.bad_of c.backs_of.new.g c.loop-i.st members x ≡ bad members x =
-    c.in_ok-made.ensures.same c.loop-i.st members x ∙ g.met.G.Goal.bad_on c.args.g.now c.args.st.now c.loop-i.st members x c.requires.fits c.loop-i.invariant.grows (places_more (length states) (g.G.Goal.labels c.args.g.now) members c.requires.labels known.1) in
+    let same : g.G.Goal.violations_of c.backs_of.new.g c.loop-i.st members x ≡ bad members x =
+    c.in_ok-made.ensures.same c.loop-i.st members x ∙ g.met.G.Goal.violations_grow c.args.g.now c.args.st.now c.loop-i.st members x c.requires.fits c.loop-i.invariant.grows (places_more (length states) (g.G.Goal.labels c.args.g.now) members c.requires.labels known.1) in
     let one : IsFirst old states first (first_packets ls) bad h c.in_ok-start.start = first_of old c.backs_of.new.st oss c.backs_of.new.ss states (first_set ls) (first_packets ls) bad ls c.args.l.now.broken h whole p y c.requires.levels count c.backs_of.ensures.grows c.backs_of.ensures.sets c.in_ok-made.ensures.differ b found c.in_ok-start.ensures.2 in
     let best = c.in_ok-end.ensures.ok in
-    let gr = greedy_of old c.loop-i.st c.loop-i.ss states (first_packets ls) bad h (get_or made 0 []) first c.in_ok-start.start c.loop-i.records s x (g.G.Goal.bad_of c.backs_of.new.g c.loop-i.st members x) c.in_ok-end.end one f same best in
+    let gr = greedy_of old c.loop-i.st c.loop-i.ss states (first_packets ls) bad h (get_or made 0 []) first c.in_ok-start.start c.loop-i.records s x (g.G.Goal.violations_of c.backs_of.new.g c.loop-i.st members x) c.in_ok-end.end one f same best in
     let z : c.in_ok-end.end.target ≡ 0 =
-    left_first old states first (first_packets ls) bad h (record { start = c.in_ok-start.start; records = c.loop-i.records; last = c.in_ok-end.end.packet }) (members, x) c.in_ok-end.end.target (g.G.Goal.bad_of c.backs_of.new.g c.loop-i.st members x) c.in_ok-end.end gr same best refl w in
+    left_first old states first (first_packets ls) bad h (record { start = c.in_ok-start.start; records = c.loop-i.records; last = c.in_ok-end.end.packet }) (members, x) c.in_ok-end.end.target (g.G.Goal.violations_of c.backs_of.new.g c.loop-i.st members x) c.in_ok-end.end gr same best refl w in
     c.side_of.ensures.left z
 
 pub returns-clause-range : goal.returns-clause-range

@@ -1,5 +1,5 @@
 use Rattle.std.proofs.Common.{◌+◌, ◌*◌, ◌-◌, ◌≤◌}
-use Rattle.nk_store.specs.Held.{Grows}
+use Rattle.nk_store.specs.StoreState.{Grows}
 use Rattle.nk_reach.specs.Outs.{AreByOut, IsUpTo}
 use Rattle.nk_reach.proofs.outs.+outs.Given as goal
 

@@ -1,5 +1,5 @@
 use Rattle.std.proofs.Common.{sym, subst}
-use Rattle.nk_store.specs.Held.{IsNodeOf, IsLeaf}
+use Rattle.nk_store.specs.StoreState.{IsNodeOf, IsLeaf}
 use Rattle.nk_reach.proofs.ByOut.{leaf_by_out}
 use Rattle.nk_reach.proofs.outs.outs_of_leaf.Goals as goal
 

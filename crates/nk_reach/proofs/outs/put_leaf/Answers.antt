@@ -1,6 +1,6 @@
 use Rattle.std.proofs.Common.{sym, subst, refl, map}
 use Rattle.std.proofs.lemmas.Result.{on_ok_weaker}
-use Rattle.nk_store.specs.Held.{IsNodeOf, IsLeaf}
+use Rattle.nk_store.specs.StoreState.{IsNodeOf, IsLeaf}
 use Rattle.nk_reach.specs.Outs.{given}
 use Rattle.nk_reach.proofs.ByOut.{leaf_by_out}
 use Rattle.nk_reach.proofs.outs.put_leaf.Goals as goal

@@ -1,4 +1,4 @@
-use Rattle.nk_store.specs.Held.{Grows}
+use Rattle.nk_store.specs.StoreState.{Grows}
 use Rattle.nk_reach.specs.Pulls.{AreAllPulled}
 use Rattle.nk_reach.proofs.pull.pull_all.Given as goal
 

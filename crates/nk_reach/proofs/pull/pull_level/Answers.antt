@@ -3,7 +3,7 @@ use Rattle.nk_store.proofs.Stores.{grows_on}
 use Rattle.nk_sets.specs.PacketSets.{IsSet}
 use Rattle.nk_sets.proofs.SetLemmas.{set_grows}
 use Rattle.nk_determ.proofs.Interned.{sets_on}
-use Rattle.nk_reach.specs.Pairs.{HavePlaces, IsPair}
+use Rattle.nk_reach.specs.Pairs.{AreLabelsBelow, IsPair}
 use Rattle.nk_reach.proofs.Kept.{each_at}
 use Rattle.nk_reach.proofs.Growing.{sets_same, sets_known, states_grow, pairs_on, each_weaker}
 use Rattle.nk_reach.proofs.Adding.{take_more, take_whole}
@@ -24,7 +24,7 @@ pub pull_pair-requires-clause-places : goal.pull_pair-requires-clause-places
 pull_pair-requires-clause-places c =
     let l : c.loop-k.k < length c.args.level.now = omega (arith, c.loop-k-test.true, c.len-k-end.ensures) in
     let p = each_at (IsPair c.args.st.now c.args.ss.now (length c.args.states.now)) c.args.level.now c.loop-k.k c.at.result.now c.requires.level.each l c.at.ensures in
-    subst (HavePlaces (length c.args.states.now)) (sym (sets_same c.args.ss.now c.loop-k.ss c.at.result.now.0 c.loop-k.invariant.sets p.known)) p.places
+    subst (AreLabelsBelow (length c.args.states.now)) (sym (sets_same c.args.ss.now c.loop-k.ss c.at.result.now.0 c.loop-k.invariant.sets p.known)) p.places
 
 pub pull_pair-requires-clause-packets : goal.pull_pair-requires-clause-packets
 pull_pair-requires-clause-packets c =

@@ -12,10 +12,10 @@ by_out-requires c = c.in_ok-d.ensures.ok.id
 pub pull_all-requires-clause-next : goal.pull_all-requires-clause-next
 pull_all-requires-clause-next c =
     each_weaker (λ p. IsSet c.args.st.now p.1) (λ p. IsSet c.by_out.new.st p.1) c.args.next.now
-    (λ p q. set_grows c.args.st.now c.by_out.new.st p.1 (grows_on _ _ _ c.state_at.ensures.grows c.by_out.ensures.grows) q)
+    (λ p q. set_grows c.args.st.now c.by_out.new.st p.1 (grows_on _ _ _ c.local_state.ensures.grows c.by_out.ensures.grows) q)
     (packets_of c.args.st.now c.args.ss.now (length c.args.states.now) c.args.next.now c.requires.next.each)
 
 pub returns-clause-ok : goal.returns-clause-ok
 returns-clause-ok c =
-    pulled_pair_of c.args.st.now c.state_at.new.st c.by_out.new.st c.pull_all.new.st c.args.ss.now c.state_at.new.ss c.args.states.now (get_or c.args.ss.now c.args.s []) c.args.x c.in_ok-d.d c.in_ok-outs.outs c.args.next.now c.in_ok-led.led
-    c.state_at.ensures.grows c.by_out.ensures.grows c.state_at.ensures.sets c.in_ok-d.ensures.differ c.requires.next c.in_ok-d.ensures.ok c.in_ok-outs.ensures.ok c.in_ok-led.ensures.ok
+    pulled_pair_of c.args.st.now c.local_state.new.st c.by_out.new.st c.pull_all.new.st c.args.ss.now c.local_state.new.ss c.args.states.now (get_or c.args.ss.now c.args.s []) c.args.x c.in_ok-d.d c.in_ok-outs.outs c.args.next.now c.in_ok-led.led
+    c.local_state.ensures.grows c.by_out.ensures.grows c.local_state.ensures.sets c.in_ok-d.ensures.differ c.requires.next c.in_ok-d.ensures.ok c.in_ok-outs.ensures.ok c.in_ok-led.ensures.ok

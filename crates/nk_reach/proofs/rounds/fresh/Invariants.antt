@@ -1,5 +1,5 @@
 use Rattle.std.proofs.Common.{take}
-use Rattle.nk_store.specs.Held.{Grows}
+use Rattle.nk_store.specs.StoreState.{Grows}
 use Rattle.nk_reach.specs.Rounds.{IsFresh}
 use Rattle.nk_reach.proofs.rounds.fresh.Given as goal
 

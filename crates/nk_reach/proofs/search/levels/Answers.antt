@@ -1,7 +1,7 @@
 use Rattle.std.proofs.Common.{true, false, ◌≡◌, ◌<◌, ◌≤◌, ◌+◌, [], ◌∷◌, ◌++◌, length, get_or, refl, sym, ◌∙◌, ap, subst, arith, length-append}
 use Rattle.nk_store.proofs.Stores.{grows_on}
 use Rattle.nk_reach.specs.Pairs.{ArePairs}
-use Rattle.nk_reach.specs.Goals.{MeetsBad}
+use Rattle.nk_reach.specs.Goals.{MeetsViolation}
 use Rattle.nk_reach.proofs.Everything.{all_nodes}
 use Rattle.nk_reach.proofs.Growing.{sets_refl, packets_of, pairs_on, states_grow}
 use Rattle.nk_determ.proofs.Interned.{sets_on}
@@ -12,7 +12,7 @@ use Rattle.nk_reach.proofs.search.levels.Goals as goal
 
 pub loop-all-init : goal.loop-all-init
 loop-all-init g c =
-    let bad = g.G.Goal.bad_of c.args.g.now c.args.st.now in
+    let bad = g.G.Goal.violations_of c.args.g.now c.args.st.now in
     let first = going_start c.args.st.now c.args.ss.now c.args.states.now c.args.s c.args.start bad c.requires.set c.requires.places c.requires.packets in
     let all : c.push.new.self ≡ ((c.args.s, c.args.start) ∷ []) ∷ [] = c.in_ok-push.ensures.ok ∙ ap (λ l. l ++ c.in_ok-first_level.field-0 ∷ []) c.new-all.ensures ∙ ap (λ l. l ∷ []) c.in_ok-first_level.ensures in
     record {
@@ -26,8 +26,8 @@ loop-all-init g c =
       );
     }
 
-pub any_bad-requires-clause-pairs : goal.any_bad-requires-clause-pairs
-any_bad-requires-clause-pairs g c =
+pub any_violation-requires-clause-pairs : goal.any_violation-requires-clause-pairs
+any_violation-requires-clause-pairs g c =
     let h = c.loop-all.invariant.going.0 in
     let go = c.loop-all.invariant.going.1 in
     let at = last_is c.loop-all.all h c.len-last.result c.at.result.now go.count c.len-last.ensures c.at.ensures in
@@ -40,20 +40,20 @@ returns-then-branch-clause-ok g c =
     let h = c.loop-all.invariant.going.0 in
     let go = c.loop-all.invariant.going.1 in
     let at = last_is c.loop-all.all h c.len-last.result c.at.result.now go.count c.len-last.ensures c.at.ensures in
-    let now = g.G.Goal.bad_of c.loop-all.g c.loop-all.st in
-    levels_said c.args.st.now c.any_bad.new.st c.loop-all.ss c.args.states.now c.args.s c.args.start (g.G.Goal.bad_of c.args.g.now c.args.st.now) c.new.result.levels c.loop-all.all c.new.result.broken true c.new.ensures.levels c.new.ensures.broken
-    (levels_broken c.args.st.now c.args.ss.now c.loop-all.st c.any_bad.new.st c.loop-all.ss c.args.states.now c.args.s c.args.start (g.G.Goal.bad_of c.args.g.now c.args.st.now) now c.loop-all.met.entries c.loop-all.all h
-    c.requires.set go c.any_bad.ensures.grows
-    (λ n p. c.loop-all.invariant.same c.loop-all.st n.0 n.1 ∙ g.met.G.Goal.bad_on c.args.g.now c.args.st.now c.loop-all.st n.0 n.1 c.requires.fits go.grows (λ j d m. omega (arith, p j d m, c.requires.labels)))
-    (subst (λ q. MeetsBad c.loop-all.st c.loop-all.ss q now) (sym at) (c.in_ok-any_bad.ensures.yes c.if-branch.true)))
+    let now = g.G.Goal.violations_of c.loop-all.g c.loop-all.st in
+    levels_said c.args.st.now c.any_violation.new.st c.loop-all.ss c.args.states.now c.args.s c.args.start (g.G.Goal.violations_of c.args.g.now c.args.st.now) c.new.result.levels c.loop-all.all c.new.result.broken true c.new.ensures.levels c.new.ensures.broken
+    (levels_broken c.args.st.now c.args.ss.now c.loop-all.st c.any_violation.new.st c.loop-all.ss c.args.states.now c.args.s c.args.start (g.G.Goal.violations_of c.args.g.now c.args.st.now) now c.loop-all.met.entries c.loop-all.all h
+    c.requires.set go c.any_violation.ensures.grows
+    (λ n p. c.loop-all.invariant.same c.loop-all.st n.0 n.1 ∙ g.met.G.Goal.violations_grow c.args.g.now c.args.st.now c.loop-all.st n.0 n.1 c.requires.fits go.grows (λ j d m. omega (arith, p j d m, c.requires.labels)))
+    (subst (λ q. MeetsViolation c.loop-all.st c.loop-all.ss q now) (sym at) (c.in_ok-any_violation.ensures.yes c.if-branch.true)))
 
 pub next_level-requires-clause-met : goal.next_level-requires-clause-met
 next_level-requires-clause-met g c =
-    pairs_on c.loop-all.st c.any_bad.new.st c.loop-all.ss c.loop-all.ss (length c.args.states.now) c.loop-all.met.entries c.any_bad.ensures.grows (sets_refl c.loop-all.ss) c.loop-all.invariant.going.1.met_pairs
+    pairs_on c.loop-all.st c.any_violation.new.st c.loop-all.ss c.loop-all.ss (length c.args.states.now) c.loop-all.met.entries c.any_violation.ensures.grows (sets_refl c.loop-all.ss) c.loop-all.invariant.going.1.met_pairs
 
 pub next_level-requires-clause-states : goal.next_level-requires-clause-states
 next_level-requires-clause-states g c =
-    states_grow c.args.st.now c.any_bad.new.st c.args.states.now (grows_on _ _ _ c.loop-all.invariant.going.1.grows c.any_bad.ensures.grows) c.requires.states
+    states_grow c.args.st.now c.any_violation.new.st c.args.states.now (grows_on _ _ _ c.loop-all.invariant.going.1.grows c.any_violation.ensures.grows) c.requires.states
 
 pub returns-in_err-level-clause-sets : goal.returns-in_err-level-clause-sets
 returns-in_err-level-clause-sets g c = sets_on _ _ _ c.loop-all.invariant.going.1.sets c.next_level.ensures.sets
@@ -61,8 +61,8 @@ returns-in_err-level-clause-sets g c = sets_on _ _ _ c.loop-all.invariant.going.
 pub returns-then-len-eq0-clause-sets : goal.returns-then-len-eq0-clause-sets
 returns-then-len-eq0-clause-sets g c = sets_on _ _ _ c.loop-all.invariant.going.1.sets c.next_level.ensures.sets
 
-pub returns-in_err-merge-clause-sets : goal.returns-in_err-merge-clause-sets
-returns-in_err-merge-clause-sets g c = sets_on _ _ _ c.loop-all.invariant.going.1.sets c.next_level.ensures.sets
+pub returns-in_err-add_level-clause-sets : goal.returns-in_err-add_level-clause-sets
+returns-in_err-add_level-clause-sets g c = sets_on _ _ _ c.loop-all.invariant.going.1.sets c.next_level.ensures.sets
 
 pub returns-in_err-push-2-clause-sets : goal.returns-in_err-push-2-clause-sets
 returns-in_err-push-2-clause-sets g c = sets_on _ _ _ c.loop-all.invariant.going.1.sets c.next_level.ensures.sets
@@ -72,8 +72,8 @@ next_level-requires-clause-last g c =
     let h = c.loop-all.invariant.going.0 in
     let go = c.loop-all.invariant.going.1 in
     let at = last_is c.loop-all.all h c.len-last.result c.at-in-loop-all.result.now go.count c.len-last.ensures c.at-in-loop-all.ensures in
-    subst (ArePairs c.any_bad.new.st c.loop-all.ss (length c.args.states.now)) at
-    (pairs_on c.loop-all.st c.any_bad.new.st c.loop-all.ss c.loop-all.ss (length c.args.states.now) (get_or c.loop-all.all h []) c.any_bad.ensures.grows (sets_refl c.loop-all.ss) (go.pairs h (omega arith)))
+    subst (ArePairs c.any_violation.new.st c.loop-all.ss (length c.args.states.now)) at
+    (pairs_on c.loop-all.st c.any_violation.new.st c.loop-all.ss c.loop-all.ss (length c.args.states.now) (get_or c.loop-all.all h []) c.any_violation.ensures.grows (sets_refl c.loop-all.ss) (go.pairs h (omega arith)))
 
 pub returns-then-len-eq0-clause-ok : goal.returns-then-len-eq0-clause-ok
 returns-then-len-eq0-clause-ok g c =
@@ -81,22 +81,22 @@ returns-then-len-eq0-clause-ok g c =
     let go = c.loop-all.invariant.going.1 in
     let at = last_is c.loop-all.all h c.len-last.result c.at.result.now go.count c.len-last.ensures c.at.ensures in
     let again = last_is c.loop-all.all h c.len-last.result c.at-in-loop-all.result.now go.count c.len-last.ensures c.at-in-loop-all.ensures in
-    let now = g.G.Goal.bad_of c.loop-all.g c.loop-all.st in
-    levels_said c.args.st.now c.next_level.new.st c.next_level.new.ss c.args.states.now c.args.s c.args.start (g.G.Goal.bad_of c.args.g.now c.args.st.now) c.new-then-len-eq0.result.levels c.loop-all.all c.new-then-len-eq0.result.broken false c.new-then-len-eq0.ensures.levels c.new-then-len-eq0.ensures.broken
-    (round_last c.args.st.now c.args.ss.now c.loop-all.st c.any_bad.new.st c.next_level.new.st c.loop-all.ss c.next_level.new.ss c.args.states.now c.args.s c.args.start (g.G.Goal.bad_of c.args.g.now c.args.st.now) now
+    let now = g.G.Goal.violations_of c.loop-all.g c.loop-all.st in
+    levels_said c.args.st.now c.next_level.new.st c.next_level.new.ss c.args.states.now c.args.s c.args.start (g.G.Goal.violations_of c.args.g.now c.args.st.now) c.new-then-len-eq0.result.levels c.loop-all.all c.new-then-len-eq0.result.broken false c.new-then-len-eq0.ensures.levels c.new-then-len-eq0.ensures.broken
+    (round_last c.args.st.now c.args.ss.now c.loop-all.st c.any_violation.new.st c.next_level.new.st c.loop-all.ss c.next_level.new.ss c.args.states.now c.args.s c.args.start (g.G.Goal.violations_of c.args.g.now c.args.st.now) now
     c.loop-all.met.entries c.at.result.now c.at-in-loop-all.result.now c.loop-all.all c.in_ok-level.level h
-    c.requires.set c.requires.states go c.any_bad.ensures.grows
-    (λ n p. c.loop-all.invariant.same c.loop-all.st n.0 n.1 ∙ g.met.G.Goal.bad_on c.args.g.now c.args.st.now c.loop-all.st n.0 n.1 c.requires.fits go.grows (λ j d m. omega (arith, p j d m, c.requires.labels)))
-    at (c.in_ok-any_bad.ensures.no c.if-branch.false) again c.in_ok-level.ensures.ok c.next_level.ensures.grows c.next_level.ensures.sets (sym c.len.ensures ∙ c.if-len-eq0.true))
+    c.requires.set c.requires.states go c.any_violation.ensures.grows
+    (λ n p. c.loop-all.invariant.same c.loop-all.st n.0 n.1 ∙ g.met.G.Goal.violations_grow c.args.g.now c.args.st.now c.loop-all.st n.0 n.1 c.requires.fits go.grows (λ j d m. omega (arith, p j d m, c.requires.labels)))
+    at (c.in_ok-any_violation.ensures.no c.if-branch.false) again c.in_ok-level.ensures.ok c.next_level.ensures.grows c.next_level.ensures.sets (sym c.len.ensures ∙ c.if-len-eq0.true))
 
-pub merge-requires-clause-met : goal.merge-requires-clause-met
-merge-requires-clause-met g c =
-    let a = pairs_on c.loop-all.st c.any_bad.new.st c.loop-all.ss c.loop-all.ss (length c.args.states.now) c.loop-all.met.entries c.any_bad.ensures.grows (sets_refl c.loop-all.ss) c.loop-all.invariant.going.1.met_pairs in
-    let b = pairs_on c.any_bad.new.st c.next_level.new.st c.loop-all.ss c.next_level.new.ss (length c.args.states.now) c.loop-all.met.entries c.next_level.ensures.grows c.next_level.ensures.sets a in
+pub add_level-requires-clause-met : goal.add_level-requires-clause-met
+add_level-requires-clause-met g c =
+    let a = pairs_on c.loop-all.st c.any_violation.new.st c.loop-all.ss c.loop-all.ss (length c.args.states.now) c.loop-all.met.entries c.any_violation.ensures.grows (sets_refl c.loop-all.ss) c.loop-all.invariant.going.1.met_pairs in
+    let b = pairs_on c.any_violation.new.st c.next_level.new.st c.loop-all.ss c.next_level.new.ss (length c.args.states.now) c.loop-all.met.entries c.next_level.ensures.grows c.next_level.ensures.sets a in
     packets_of c.next_level.new.st c.next_level.new.ss (length c.args.states.now) c.loop-all.met.entries b.each
 
-pub merge-requires-clause-level : goal.merge-requires-clause-level
-merge-requires-clause-level g c = packets_of c.next_level.new.st c.next_level.new.ss (length c.args.states.now) c.in_ok-level.level c.in_ok-level.ensures.ok.pairs.each
+pub add_level-requires-clause-level : goal.add_level-requires-clause-level
+add_level-requires-clause-level g c = packets_of c.next_level.new.st c.next_level.new.ss (length c.args.states.now) c.in_ok-level.level c.in_ok-level.ensures.ok.pairs.each
 
 pub loop-all-smaller : goal.loop-all-smaller
 loop-all-smaller g c =
@@ -104,14 +104,14 @@ loop-all-smaller g c =
     let go = c.loop-all.invariant.going.1 in
     let at = last_is c.loop-all.all h c.len-last.result c.at.result.now go.count c.len-last.ensures c.at.ensures in
     let again = last_is c.loop-all.all h c.len-last.result c.at-in-loop-all.result.now go.count c.len-last.ensures c.at-in-loop-all.ensures in
-    let now = g.G.Goal.bad_of c.loop-all.g c.loop-all.st in
+    let now = g.G.Goal.violations_of c.loop-all.g c.loop-all.st in
     let some : 0 < length c.in_ok-level.level = omega (arith, c.len.ensures, c.if-len-eq0.false) in
-    let done = round_done c.args.st.now c.args.ss.now c.loop-all.st c.any_bad.new.st c.next_level.new.st c.merge.new.st c.loop-all.ss c.next_level.new.ss c.args.states.now c.args.s c.args.start (g.G.Goal.bad_of c.args.g.now c.args.st.now) now
-    c.loop-all.met.entries c.merge.new.met.entries c.at.result.now c.at-in-loop-all.result.now c.loop-all.all c.in_ok-level.level h
-    c.requires.states go c.any_bad.ensures.grows
-    (λ n p. c.loop-all.invariant.same c.loop-all.st n.0 n.1 ∙ g.met.G.Goal.bad_on c.args.g.now c.args.st.now c.loop-all.st n.0 n.1 c.requires.fits go.grows (λ j d m. omega (arith, p j d m, c.requires.labels)))
-    at (c.in_ok-any_bad.ensures.no c.if-branch.false) again c.in_ok-level.ensures.ok c.next_level.ensures.grows c.next_level.ensures.sets c.in_ok-merge.ensures.ok c.merge.ensures.grows some in
-    let within = room c.args.st.now c.args.ss.now c.merge.new.st c.next_level.new.ss c.args.states.now c.args.s c.args.start (g.G.Goal.bad_of c.args.g.now c.args.st.now) c.merge.new.met.entries (c.loop-all.all ++ c.in_ok-level.level ∷ []) (h + 1) done in
+    let done = round_done c.args.st.now c.args.ss.now c.loop-all.st c.any_violation.new.st c.next_level.new.st c.add_level.new.st c.loop-all.ss c.next_level.new.ss c.args.states.now c.args.s c.args.start (g.G.Goal.violations_of c.args.g.now c.args.st.now) now
+    c.loop-all.met.entries c.add_level.new.met.entries c.at.result.now c.at-in-loop-all.result.now c.loop-all.all c.in_ok-level.level h
+    c.requires.states go c.any_violation.ensures.grows
+    (λ n p. c.loop-all.invariant.same c.loop-all.st n.0 n.1 ∙ g.met.G.Goal.violations_grow c.args.g.now c.args.st.now c.loop-all.st n.0 n.1 c.requires.fits go.grows (λ j d m. omega (arith, p j d m, c.requires.labels)))
+    at (c.in_ok-any_violation.ensures.no c.if-branch.false) again c.in_ok-level.ensures.ok c.next_level.ensures.grows c.next_level.ensures.sets c.in_ok-add_level.ensures.ok c.add_level.ensures.grows some in
+    let within = room c.args.st.now c.args.ss.now c.add_level.new.st c.next_level.new.ss c.args.states.now c.args.s c.args.start (g.G.Goal.violations_of c.args.g.now c.args.st.now) c.add_level.new.met.entries (c.loop-all.all ++ c.in_ok-level.level ∷ []) (h + 1) done in
     falls (length (all_nodes c.args.st.now.maxes (length c.args.states.now))) h (length c.loop-all.all) (length c.push-in-loop-all.new.self) go.count
     (ap (λ ls. length ls) c.in_ok-push-2.ensures.ok ∙ length-append c.loop-all.all (c.in_ok-level.level ∷ [])) within
 
@@ -121,34 +121,34 @@ loop-all-preserved g c =
     let go = c.loop-all.invariant.going.1 in
     let at = last_is c.loop-all.all h c.len-last.result c.at.result.now go.count c.len-last.ensures c.at.ensures in
     let again = last_is c.loop-all.all h c.len-last.result c.at-in-loop-all.result.now go.count c.len-last.ensures c.at-in-loop-all.ensures in
-    let bad = g.G.Goal.bad_of c.args.g.now c.args.st.now in
-    let now = g.G.Goal.bad_of c.loop-all.g c.loop-all.st in
+    let bad = g.G.Goal.violations_of c.args.g.now c.args.st.now in
+    let now = g.G.Goal.violations_of c.loop-all.g c.loop-all.st in
     let some : 0 < length c.in_ok-level.level = omega (arith, c.len.ensures, c.if-len-eq0.false) in
-    let done = round_done c.args.st.now c.args.ss.now c.loop-all.st c.any_bad.new.st c.next_level.new.st c.merge.new.st c.loop-all.ss c.next_level.new.ss c.args.states.now c.args.s c.args.start bad now
-    c.loop-all.met.entries c.merge.new.met.entries c.at.result.now c.at-in-loop-all.result.now c.loop-all.all c.in_ok-level.level h
-    c.requires.states go c.any_bad.ensures.grows
-    (λ n p. c.loop-all.invariant.same c.loop-all.st n.0 n.1 ∙ g.met.G.Goal.bad_on c.args.g.now c.args.st.now c.loop-all.st n.0 n.1 c.requires.fits go.grows (λ j d m. omega (arith, p j d m, c.requires.labels)))
-    at (c.in_ok-any_bad.ensures.no c.if-branch.false) again c.in_ok-level.ensures.ok c.next_level.ensures.grows c.next_level.ensures.sets c.in_ok-merge.ensures.ok c.merge.ensures.grows some in
+    let done = round_done c.args.st.now c.args.ss.now c.loop-all.st c.any_violation.new.st c.next_level.new.st c.add_level.new.st c.loop-all.ss c.next_level.new.ss c.args.states.now c.args.s c.args.start bad now
+    c.loop-all.met.entries c.add_level.new.met.entries c.at.result.now c.at-in-loop-all.result.now c.loop-all.all c.in_ok-level.level h
+    c.requires.states go c.any_violation.ensures.grows
+    (λ n p. c.loop-all.invariant.same c.loop-all.st n.0 n.1 ∙ g.met.G.Goal.violations_grow c.args.g.now c.args.st.now c.loop-all.st n.0 n.1 c.requires.fits go.grows (λ j d m. omega (arith, p j d m, c.requires.labels)))
+    at (c.in_ok-any_violation.ensures.no c.if-branch.false) again c.in_ok-level.ensures.ok c.next_level.ensures.grows c.next_level.ensures.sets c.in_ok-add_level.ensures.ok c.add_level.ensures.grows some in
     record {
-      fits = g.met.G.Goal.fits_on c.any_bad.new.g c.any_bad.new.st c.merge.new.st c.in_ok-any_bad.ensures.fits (grows_on _ _ _ c.next_level.ensures.grows c.merge.ensures.grows);
-      labels = c.in_ok-any_bad.ensures.labels ∙ c.loop-all.invariant.labels;
-      same = λ st set pk. c.in_ok-any_bad.ensures.same st set pk ∙ c.loop-all.invariant.same st set pk;
-      going = (h + 1, subst (λ ls. Going c.args.st.now c.args.ss.now c.merge.new.st c.next_level.new.ss c.args.states.now c.args.s c.args.start bad c.merge.new.met.entries ls (h + 1)) (sym c.in_ok-push-2.ensures.ok) done);
+      fits = g.met.G.Goal.fits_on c.any_violation.new.g c.any_violation.new.st c.add_level.new.st c.in_ok-any_violation.ensures.fits (grows_on _ _ _ c.next_level.ensures.grows c.add_level.ensures.grows);
+      labels = c.in_ok-any_violation.ensures.labels ∙ c.loop-all.invariant.labels;
+      same = λ st set pk. c.in_ok-any_violation.ensures.same st set pk ∙ c.loop-all.invariant.same st set pk;
+      going = (h + 1, subst (λ ls. Going c.args.st.now c.args.ss.now c.add_level.new.st c.next_level.new.ss c.args.states.now c.args.s c.args.start bad c.add_level.new.met.entries ls (h + 1)) (sym c.in_ok-push-2.ensures.ok) done);
     }
 
 pub returns-then-branch-clause-grows : goal.returns-then-branch-clause-grows
-returns-then-branch-clause-grows g c = grows_on _ _ _ c.loop-all.invariant.going.1.grows c.any_bad.ensures.grows
+returns-then-branch-clause-grows g c = grows_on _ _ _ c.loop-all.invariant.going.1.grows c.any_violation.ensures.grows
 
 pub returns-then-len-eq0-clause-grows : goal.returns-then-len-eq0-clause-grows
 returns-then-len-eq0-clause-grows g c =
-    grows_on _ _ _ (grows_on _ _ _ c.loop-all.invariant.going.1.grows c.any_bad.ensures.grows) c.next_level.ensures.grows
+    grows_on _ _ _ (grows_on _ _ _ c.loop-all.invariant.going.1.grows c.any_violation.ensures.grows) c.next_level.ensures.grows
 
-pub returns-in_err-merge-clause-grows : goal.returns-in_err-merge-clause-grows
-returns-in_err-merge-clause-grows g c =
-    grows_on _ _ _ (grows_on _ _ _ (grows_on _ _ _ c.loop-all.invariant.going.1.grows c.any_bad.ensures.grows) c.next_level.ensures.grows)
-    c.merge.ensures.grows
+pub returns-in_err-add_level-clause-grows : goal.returns-in_err-add_level-clause-grows
+returns-in_err-add_level-clause-grows g c =
+    grows_on _ _ _ (grows_on _ _ _ (grows_on _ _ _ c.loop-all.invariant.going.1.grows c.any_violation.ensures.grows) c.next_level.ensures.grows)
+    c.add_level.ensures.grows
 
 pub returns-in_err-push-2-clause-grows : goal.returns-in_err-push-2-clause-grows
 returns-in_err-push-2-clause-grows g c =
-    grows_on _ _ _ (grows_on _ _ _ (grows_on _ _ _ c.loop-all.invariant.going.1.grows c.any_bad.ensures.grows) c.next_level.ensures.grows)
-    c.merge.ensures.grows
+    grows_on _ _ _ (grows_on _ _ _ (grows_on _ _ _ c.loop-all.invariant.going.1.grows c.any_violation.ensures.grows) c.next_level.ensures.grows)
+    c.add_level.ensures.grows

@@ -1,5 +1,5 @@
 use Rattle.std.proofs.Common.{◌≡◌, ℕ, List, length, ◌+◌, ◌-◌}
-use Rattle.nk_store.specs.Held.{Held}
+use Rattle.nk_store.specs.StoreState.{StoreState}
 use Rattle.nk_reach.proofs.Everything.{all_nodes}
 use Rattle.nk_reach.proofs.Going.{Going}
 use Rattle.nk_reach.proofs.search.levels.Given as goal
@@ -8,8 +8,8 @@ abbrev pub invariant-loop-all : goal.invariant-loop-all
 invariant-loop-all g l = record {
   fits : g.G.Goal.fits l.g l.st;
   labels : g.G.Goal.labels l.g ≡ g.G.Goal.labels l.fn.g;
-  same : (st : Held) (set pk : List ℕ) → g.G.Goal.bad_of l.g st set pk ≡ g.G.Goal.bad_of l.fn.g st set pk;
-  going : (h : ℕ) × Going l.fn.st l.fn.ss l.st l.ss l.states l.fn.s l.fn.start (g.G.Goal.bad_of l.fn.g l.fn.st) l.met.entries l.all h;
+  same : (st : StoreState) (set pk : List ℕ) → g.G.Goal.violations_of l.g st set pk ≡ g.G.Goal.violations_of l.fn.g st set pk;
+  going : (h : ℕ) × Going l.fn.st l.fn.ss l.st l.ss l.states l.fn.s l.fn.start (g.G.Goal.violations_of l.fn.g l.fn.st) l.met.entries l.all h;
 }
 
 abbrev pub decreases-loop-all : goal.decreases-loop-all

@@ -1,7 +1,7 @@
 use Rattle.std.proofs.Common.{◌+◌, ◌≤◌, ◌∙◌, arith, sym, subst, ap, get_or}
 use Rattle.std.specs.Prelude.{IfSome}
 use Rattle.nk_store.proofs.Stores.{grows_on}
-use Rattle.nk_store.specs.Held.{top}
+use Rattle.nk_store.specs.StoreState.{root_field}
 use Rattle.nk_reach.specs.Single.{IsSingle, AreSingleBy}
 use Rattle.nk_apply.proofs.MadeOf.{on_any}
 use Rattle.nk_apply.proofs.Turned.{set_within}
@@ -23,7 +23,7 @@ single_once-returns-clause-seen t c =
 pub single_case-returns-clause-ok : goal.single_case-returns-clause-ok
 single_case-returns-clause-ok t c =
     let parts : AreSingleBy c.args.st.now c.args.f c.args.d c.single_parts.new.st c.single_parts.new.ss c.in-Some.parts = subst (λ o. IfSome o (λ ps. AreSingleBy c.args.st.now c.args.f c.args.d c.single_parts.new.st c.single_parts.new.ss ps)) c.in-Some.is c.in_ok-parts.ensures.ok in
-    let high : top c.args.st.now c.args.d ≤ top c.case.new.self c.in_ok-r.r = omega (arith, c.in_ok-r.ensures.later, c.requires.first) in
+    let high : root_field c.args.st.now c.args.d ≤ root_field c.case.new.self c.in_ok-r.r = omega (arith, c.in_ok-r.ensures.later, c.requires.first) in
     node_single c.args.st.now c.single_parts.new.st c.case.new.self c.single_parts.new.ss c.args.f c.args.d c.in_ok-r.r c.in-Some.parts c.requires.split high parts c.in_ok-r.ensures.ok
 
 pub single_case-returns-clause-seen : goal.single_case-returns-clause-seen

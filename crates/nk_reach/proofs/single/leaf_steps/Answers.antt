@@ -1,7 +1,7 @@
 use Rattle.std.proofs.Common.{subst}
 use Rattle.std.proofs.lemmas.Option.{IfSome_then}
 use Rattle.std.proofs.lemmas.Result.{IfOk-weaker}
-use Rattle.nk_store.specs.Held.{IsNodeOf}
+use Rattle.nk_store.specs.StoreState.{IsNodeOf}
 use Rattle.nk_reach.proofs.SingleLeaves.{leaf_steps_of}
 use Rattle.nk_reach.proofs.single.leaf_steps.Goals as goal
 

@@ -1,7 +1,7 @@
 use Rattle.std.proofs.Common.{◌+◌, ◌∙◌, sym, subst, ap, get_or}
 use Rattle.nk_store.proofs.Stores.{grows_on}
 use Rattle.nk_store.specs.Nodes.{child_at}
-use Rattle.nk_store.specs.Held.{look, AreParts}
+use Rattle.nk_store.specs.StoreState.{look, AreParts}
 use Rattle.nk_apply.specs.Leaves.{guarded}
 use Rattle.nk_apply.proofs.Built.{Built, built_parts, built_leaf}
 use Rattle.nk_apply.proofs.Merges.{pair_at, pair_past}

@@ -16,7 +16,7 @@ forget_new-returns-in-None-clause-ok t c =
 
 pub forget_case-returns-else-eq-clause-ok : goal.forget_case-returns-else-eq-clause-ok
 forget_case-returns-else-eq-clause-ok t c =
-    let top = c.requires.case.top_is in
+    let top = c.requires.case.root_field_is in
     let other = other_than c.args.g c.args.f (sym c.eq.ensures ∙ c.if-eq.false) in
     let not_before = c.if-place.false in
     let left = c.place.ensures.is in

@@ -1,5 +1,5 @@
 use Rattle.std.proofs.Common.{◌+◌, ◌*◌, drop}
-use Rattle.nk_store.specs.Held.{Grows}
+use Rattle.nk_store.specs.StoreState.{Grows}
 use Rattle.nk_sets.specs.Forgets.{AreForgotten}
 use Rattle.nk_sets.proofs.Forgetting.{Made}
 use Rattle.nk_sets.proofs.forgets.+forget.Given as goal

@@ -1,6 +1,6 @@
 use Rattle.std.proofs.Common.{take}
 use Rattle.std.specs.Prelude.{◌&&◌}
-use Rattle.nk_store.specs.Held.{Grows}
+use Rattle.nk_store.specs.StoreState.{Grows}
 use Rattle.nk_sets.specs.PacketSets.{is_in, IsPacketSetOf}
 use Rattle.nk_sets.specs.Images.{are_assigned}
 use Rattle.nk_sets.proofs.images.assigned.Given as goal

@@ -1,5 +1,5 @@
 use Rattle.std.proofs.Common.{take}
-use Rattle.nk_store.specs.Held.{Grows}
+use Rattle.nk_store.specs.StoreState.{Grows}
 use Rattle.nk_sets.specs.Images.{IsFree}
 use Rattle.nk_sets.proofs.images.forget_all.Given as goal
 

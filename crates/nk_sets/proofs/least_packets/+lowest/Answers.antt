@@ -1,7 +1,7 @@
 use Rattle.std.proofs.Common.{◌<◌, ◌+◌, ◌∙◌, ℕ, List, ◌∷◌, sym, subst, ap, arith, drop, get_or, get_or-set_other}
 use Rattle.std.proofs.lemmas.List.{drop_all}
-use Rattle.nk_store.specs.Held.{IsChild}
-use Rattle.nk_sets.specs.PacketSets.{IsLeast}
+use Rattle.nk_store.specs.StoreState.{IsChild}
+use Rattle.nk_sets.specs.PacketSets.{IsLeastPacket}
 use Rattle.nk_store.proofs.Children.{rest_is, item_has}
 use Rattle.nk_sets.proofs.LeastPackets.{Reached, reached_more, reached_all, least_part}
 use Rattle.nk_sets.proofs.least_packets.+lowest.Goals as goal
@@ -21,7 +21,7 @@ lowest_part-overflow_cast-from t c =
 
 pub lowest_part-returns-in-Some-clause-some : goal.lowest_part-returns-in-Some-clause-some
 lowest_part-returns-in-Some-clause-some t c =
-    subst (IsLeast c.args.st.now c.args.s) (sym c.with_value.ensures)
+    subst (IsLeastPacket c.args.st.now c.args.s) (sym c.with_value.ensures)
     (least_part c.args.st.now c.args.s c.args.f c.args.parts.now c.loop-end.from c.loop-end-item.result (drop (c.loop-end.end-index + 1) c.args.parts.now) c.in-Some.pk c.requires c.laws-laws.ensures.still
     (subst (Reached c.args.st.now c.args.s c.args.f c.args.parts.now c.loop-end.from) (rest_is c.args.parts.now c.loop-end.end-index c.loop-end-item.result c.loop-end-test.true c.loop-end-item.is) c.loop-end.invariant)
     c.in-Some.ensures.some c.in-Some.ensures.zeros)
@@ -31,10 +31,10 @@ lowest_part-returns-in-Some-clause-zeros t c = λ k less.
     let p = c.loop-end-item.result in
     let child : IsChild c.args.st.now c.args.f p.1 = item_has (IsChild c.args.st.now c.args.f) c.args.parts.now c.loop-end.end-index p c.loop-end-test.true c.loop-end-item.is c.requires.parts_ok.children in
     let later = child.later in
-    let top_is = c.requires.top_is in
+    let root_field_is = c.requires.root_field_is in
     ap (λ (l : List ℕ). get_or l k 0) c.with_value.ensures
-    ∙ get_or-set_other c.in-Some.pk c.args.f k c.loop-end.from 0 (λ e. omega (arith, e, less, top_is))
-    ∙ c.in-Some.ensures.zeros k (omega (arith, less, top_is, later))
+    ∙ get_or-set_other c.in-Some.pk c.args.f k c.loop-end.from 0 (λ e. omega (arith, e, less, root_field_is))
+    ∙ c.in-Some.ensures.zeros k (omega (arith, less, root_field_is, later))
 
 pub lowest_part-loop-end-preserved : goal.lowest_part-loop-end-preserved
 lowest_part-loop-end-preserved t c =

@@ -10,7 +10,7 @@ use Rattle.nk_store.proofs.Looks.{joined_some}
 use Rattle.nk_store.proofs.Children.{rest_is, item_has, else_has}
 use Rattle.nk_sets.specs.PacketSets.{IsSet}
 use Rattle.nk_store.specs.Diagram.{case}
-use Rattle.nk_sets.specs.Predicate.{guarded, terms_of, else_terms, sum_of_terms, predicate_of}
+use Rattle.nk_sets.specs.Predicate.{guarded_predicate, terms_of, else_terms, sum_of_terms, predicate_of}
 use Rattle.nk_sets.specs.Trees.{branches_of, set_tree}
 use Rattle.nk_sets.specs.PolicyOf.{interval_at, intervals_at}
 use Rattle.nk_sets.proofs.Cases.{case_sets}
@@ -91,7 +91,7 @@ push_part-returns t c =
     terms_one c.args.st.now c.laws-laws.ensures.sound c.args.f c.args.other c.args.first c.args.last c.args.c (map tree_of c.args.terms.now.items) (map tree_of c.push.new.self.items) c.requires.other c.requires.child (sym c.eq.ensures ∙ c.if-eq.false) (sym c.is_none.ensures ∙ c.if-is_none.false)
     (ap (λ l. map tree_of l) c.in_ok-push.ensures.items
     ∙ mapped_push tree_of c.args.terms.now.items _
-    ∙ ap (λ x. map tree_of c.args.terms.now.items ++ x ∷ []) (c.in_ok-guarded.ensures ∙ ap (λ p. guarded p (set_tree c.args.st.now c.args.c) (predicate_of (set_tree c.args.st.now c.args.c))) c.within.ensures))
+    ∙ ap (λ x. map tree_of c.args.terms.now.items ++ x ∷ []) (c.in_ok-guarded.ensures ∙ ap (λ p. guarded_predicate p (set_tree c.args.st.now c.args.c) (predicate_of (set_tree c.args.st.now c.args.c))) c.within.ensures))
 
 pub policy-returns-then-len-eq0 : goal.policy-returns-then-len-eq0
 policy-returns-then-len-eq0 t c =

@@ -1,5 +1,5 @@
 use Rattle.std.proofs.Common.{refl, ◌∙◌}
-use Rattle.nk_store.specs.Held.{node_of}
+use Rattle.nk_store.specs.StoreState.{node_of}
 use Rattle.nk_sets.proofs.Printing.{empty_leaf_is}
 use Rattle.nk_sets.proofs.predicate.is_none.Goals as goal
 

@@ -1,8 +1,8 @@
 use Rattle.std.proofs.Common.{◌≡◌, ◌∙◌, sym, subst, ap, length, List, IfOk, arith}
 use Rattle.std.specs.List.{flat_map}
 use Rattle.std.proofs.lemmas.Bool.Decides.{nat_tests}
-use Rattle.nk_sim.specs.declared.flight.Crossing.{Crossing}
-use Rattle.nk_sim.specs.declared.flight.Flying.{Flying}
+use Rattle.nk_sim.specs.declared.transit.Crossing.{Crossing}
+use Rattle.nk_sim.specs.declared.transit.Flying.{Flying}
 use Rattle.nk_sim.specs.Flights.{HaveTrails, AreCrossed, AreWaiting, sent_flying, left_by}
 use Rattle.nk_sim.proofs.Steps.{sent_trails, waits_next, leave_after, nothing_after}
 use Rattle.nk_sim.proofs.tracing.runs.Goals as goal

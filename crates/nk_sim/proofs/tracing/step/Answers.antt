@@ -1,7 +1,7 @@
 use Rattle.std.proofs.Common.{◌≡◌, ◌∙◌, sym, subst, ap, List}
 use Rattle.std.specs.List.{flat_map}
-use Rattle.nk_sim.specs.declared.flight.Crossing.{Crossing}
-use Rattle.nk_sim.specs.declared.flight.Flying.{Flying}
+use Rattle.nk_sim.specs.declared.transit.Crossing.{Crossing}
+use Rattle.nk_sim.specs.declared.transit.Flying.{Flying}
 use Rattle.nk_sim.specs.Flights.{HaveTrails, AreCrossed, sent_flying, left_by}
 use Rattle.nk_sim.specs.Traces.{histories_after}
 use Rattle.nk_sim.proofs.Steps.{sent_trails, waits_next, leave_after, all_next}

@@ -1,6 +1,6 @@
 use Rattle.std.proofs.Common.{◌-◌, ◌+◌, ◌<◌, ◌≡◌, ◌∙◌, length, arith, subst, get_or}
 use Rattle.std.proofs.lemmas.List.{get_or_default}
-use Rattle.nk_store.specs.Held.{HasLeaves, look}
+use Rattle.nk_store.specs.StoreState.{HasLeaves, look}
 use Rattle.nk_store.proofs.Stores.{grows_on}
 use Rattle.nk_apply.specs.Leaves.{merged}
 use Rattle.nk_apply.specs.Unions.{unions}

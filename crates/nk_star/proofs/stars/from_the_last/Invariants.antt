@@ -1,5 +1,5 @@
 use Rattle.std.proofs.Common.{◌≤◌, ◌-◌, length}
-use Rattle.nk_store.specs.Held.{Grows, HasLeaves, look}
+use Rattle.nk_store.specs.StoreState.{Grows, HasLeaves, look}
 use Rattle.nk_apply.specs.Leaves.{merged}
 use Rattle.nk_apply.specs.Unions.{unions}
 use Rattle.nk_star.proofs.stars.from_the_last.Given as goal

@@ -1,5 +1,5 @@
 use Rattle.std.proofs.Common.{◌≡◌, ◌+◌, suc, true, false, ◌∷◌, [], ◌++◌, ◌∙◌, sym, ap, subst, arith, length, length-append, ◌<◌}
-use Rattle.nk_store.specs.Held.{look}
+use Rattle.nk_store.specs.StoreState.{look}
 use Rattle.nk_store.proofs.Stores.{grows_on}
 use Rattle.nk_apply.specs.Leaves.{merged}
 use Rattle.nk_apply.specs.Seqs.{seq_leaf}

@@ -1,5 +1,5 @@
 use Rattle.std.proofs.Common.{◌-◌, [], length}
-use Rattle.nk_store.specs.Held.{Grows, HasLeaves, look}
+use Rattle.nk_store.specs.StoreState.{Grows, HasLeaves, look}
 use Rattle.nk_star.specs.Steps.{rounds, AreTogether}
 use Rattle.nk_star.proofs.Room.{room}
 use Rattle.nk_star.proofs.Rounds.{IsFresh}

@@ -1,6 +1,6 @@
 use Rattle.std.proofs.Common.{◌≡◌, ◌<◌, length, sym, ◌∙◌, subst, arith, get_or}
 use Rattle.std.proofs.lemmas.List.{get_or_default}
-use Rattle.nk_store.specs.Held.{IsId, HasLeaves, look}
+use Rattle.nk_store.specs.StoreState.{IsId, HasLeaves, look}
 use Rattle.nk_store.specs.Operations.{lacking}
 use Rattle.nk_store.proofs.Stores.{grows_same, grows_on}
 use Rattle.nk_apply.specs.Unions.{unions}

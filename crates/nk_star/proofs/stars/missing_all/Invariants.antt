@@ -1,4 +1,4 @@
-use Rattle.nk_store.specs.Held.{Grows, HasLeaves, look}
+use Rattle.nk_store.specs.StoreState.{Grows, HasLeaves, look}
 use Rattle.nk_store.specs.Operations.{lacking}
 use Rattle.nk_apply.specs.Unions.{unions}
 use Rattle.nk_star.proofs.stars.missing_all.Given as goal

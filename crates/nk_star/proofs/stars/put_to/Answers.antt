@@ -1,5 +1,5 @@
 use Rattle.std.proofs.Common.{◌≤◌, ◌∷◌, [], ◌++◌, length, ◌∙◌, ap, subst, arith}
-use Rattle.nk_store.specs.Held.{HasLeaves, look}
+use Rattle.nk_store.specs.StoreState.{HasLeaves, look}
 use Rattle.nk_apply.specs.Leaves.{merged}
 use Rattle.nk_apply.specs.Unions.{unions}
 use Rattle.nk_star.proofs.Blocks.{put_together}

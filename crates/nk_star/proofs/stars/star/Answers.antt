@@ -1,4 +1,4 @@
-use Rattle.nk_store.specs.Held.{node_of}
+use Rattle.nk_store.specs.StoreState.{node_of}
 use Rattle.nk_star.proofs.Rounds.{last_steps, last_ends, last_pass, last_later}
 use Rattle.nk_star.proofs.Leads.{last_leads}
 use Rattle.nk_star.proofs.stars.star.Goals as goal

@@ -1,5 +1,5 @@
 use Rattle.std.proofs.Common.{◌≡◌, length}
-use Rattle.nk_store.specs.Held.{Grows}
+use Rattle.nk_store.specs.StoreState.{Grows}
 use Rattle.nk_determ.specs.States.{HaveEach}
 use Rattle.nk_switches.proofs.Cutting.{cut_each}
 use Rattle.nk_switches.proofs.at_switch.cut_states.Given as goal

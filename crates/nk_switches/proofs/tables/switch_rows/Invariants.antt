@@ -1,5 +1,5 @@
 use Rattle.std.proofs.Common.{◌≡◌, ℕ, Some, take}
-use Rattle.nk_store.specs.Held.{Grows}
+use Rattle.nk_store.specs.StoreState.{Grows}
 use Rattle.nk_switches.specs.Made.{AreRowsBy}
 use Rattle.nk_switches.proofs.tables.switch_rows.Given as goal
 

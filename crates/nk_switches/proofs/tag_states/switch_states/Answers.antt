@@ -1,7 +1,7 @@
 use Rattle.std.proofs.Common.{◌<◌, sym, subst, length, get_or}
 use Rattle.std.proofs.lemmas.List.{get_or_default}
 use Rattle.nk_store.proofs.Stores.{grows_on}
-use Rattle.nk_switches.specs.Made.{HasPlaces}
+use Rattle.nk_switches.specs.Made.{HasLabelsBelow}
 use Rattle.nk_switches.proofs.Growing.{sets_grow_on, known_kept}
 use Rattle.nk_switches.proofs.Stating.{ids_kept, have_places, states_more}
 use Rattle.nk_switches.proofs.tag_states.switch_states.Goals as goal
@@ -17,7 +17,7 @@ loop-tag-preserved c =
           (get_or c.as_slice-tag-items.result.now c.loop-tag.tag-index 0) c.in_ok-diagram.diagram c.loop-tag.tag_states c.push.new.self
           c.tag_state.ensures.grows c.tag_state.ensures.sets (ids_kept c.args.st.now c.loop-tag.st c.args.states.now c.loop-tag.invariant.grows c.requires.states)
           (known_kept c.args.ss.now c.loop-tag.ss c.args.tags.now c.loop-tag.invariant.sets c.requires.known) c.loop-tag-test.true (get_or_default c.as_slice-tag-items.result.now c.loop-tag.tag-index 0 _ c.loop-tag-test.true) c.in_ok-push.ensures.ok
-          (subst (λ l. HasPlaces c.loop-tag.ss (length c.args.states.now) c.args.tags.now (get_or l c.loop-tag.tag-index 0)) (sym c.as_slice-tag-items.ensures)
+          (subst (λ l. HasLabelsBelow c.loop-tag.ss (length c.args.states.now) c.args.tags.now (get_or l c.loop-tag.tag-index 0)) (sym c.as_slice-tag-items.ensures)
           (kept c.loop-tag.tag-index 0 (subst (λ l. c.loop-tag.tag-index < length l) c.as_slice-tag-items.ensures c.loop-tag-test.true)))
           c.in_ok-diagram.ensures.state c.loop-tag.invariant.made;
     }

@@ -1,4 +1,4 @@
-use Rattle.nk_virtual.proofs.Sight.{physical_tag_free, physical_dups, physical_switch, physical_links}
+use Rattle.nk_virtual.proofs.StaticFaults.{physical_tag_free, physical_dups, physical_switch, physical_links}
 use Rattle.nk_virtual.proofs.laws.physical_policies_stay_plain.Goals as goal
 
 pub returns-clause-tag_free : goal.returns-clause-tag_free

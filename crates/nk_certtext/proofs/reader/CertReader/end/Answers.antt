@@ -1,5 +1,5 @@
 use Rattle.std.proofs.Common.{ap, subst, sym, is_ok}
-use Rattle.nk_names.specs.ProgramOf.{said_by}
+use Rattle.nk_names.specs.ProgramOf.{program_by}
 use Rattle.nk_cert.specs.Values.{certificate_value}
 use Rattle.nk_certtext.specs.InMemory.{parts_in}
 use Rattle.nk_certtext.specs.Progress.{CertProgress, IsTaken, with_completed}
@@ -28,7 +28,7 @@ returns-in-Ok-clause-read c = λ ts taken.
     let p : CertProgress = record { grammar = c.self.inside.grammar; parts = with_completed (parts_in c.self.inside.parts) c.self.inside.pending } in
     let h : IsTaken ts p = subst (IsTaken ts) (sym c.self.view_is) taken in
     let read = c.end-last.ensures.read ts h.declarations h.rows h.read in
-    subst (ReturnsText (λ r. (said_by r.0, certificate_value r.1)) c.finish.result)
+    subst (ReturnsText (λ r. (program_by r.0, certificate_value r.1)) c.finish.result)
     (whole_at_end ts p h c.end-last.result c.put_last.result (parts_in c.put_last.new.self) read c.put_last.ensures.refused c.put_last.ensures.put (ap is_ok c.in-Ok.is))
     c.finish.ensures
 

@@ -4,5 +4,5 @@ use Rattle.nk_determ.proofs.changing.UnchangedNodeMap.laws.Goals as goal
 pub returns-clause-least : goal.returns-clause-least
 returns-clause-least c = λ t. omega arith
 
-pub returns-clause-behind : goal.returns-clause-behind
-returns-clause-behind c = λ g t a b. omega (arith, a, b)
+pub returns-clause-following : goal.returns-clause-following
+returns-clause-following c = λ g t a b. omega (arith, a, b)

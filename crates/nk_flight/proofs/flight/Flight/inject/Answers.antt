@@ -1,15 +1,15 @@
 use Rattle.std.proofs.Common.{◌≡◌, ◌∙◌, ap, length, ◌+◌, [], ◌∷◌, ◌++◌}
 use Rattle.std.specs.List.{range_with_len}
 use Rattle.nk_flight.specs.Flights.{injected}
-use Rattle.nk_flight.specs.Trails.{first_hop, state_at, IsSound}
+use Rattle.nk_flight.specs.Trails.{first_hop, state_of_trails, IsSound}
 use Rattle.nk_flight.proofs.Reached.{injected_sound}
 use Rattle.nk_flight.proofs.flight.Flight.inject.Goals as goal
 use Rattle.nk_flight.proofs.flight.Flight.inject.Goals.{After-unwrap-2}
 
 -- the fields are those after the injection
 is_injected : (c : After-unwrap-2)
-    → (state_at c.self.inside.tables c.push-2.new.self.items c.push.new.self.items c.append.new.self c.self.inside.left.items
-    ≡ injected c.args.p.now (state_at c.self.inside.tables c.self.inside.packets.items c.self.inside.hops.items c.self.inside.flying c.self.inside.left.items))
+    → (state_of_trails c.self.inside.tables c.push-2.new.self.items c.push.new.self.items c.append.new.self c.self.inside.left.items
+    ≡ injected c.args.p.now (state_of_trails c.self.inside.tables c.self.inside.packets.items c.self.inside.hops.items c.self.inside.flying c.self.inside.left.items))
     × IsSound c.self.inside.tables c.push-2.new.self.items c.push.new.self.items c.append.new.self c.self.inside.left.items
 is_injected c =
     let inside = c.self.inside in

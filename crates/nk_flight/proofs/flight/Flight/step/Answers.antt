@@ -5,15 +5,15 @@ use Rattle.std.proofs.lemmas.List.{get_or_default, length-map}
 use Rattle.std.proofs.lemmas.List.Edits.{remove-append_left}
 use Rattle.nk_table.specs.Rules.{sent_for}
 use Rattle.nk_flight.specs.Flights.{FlightState, stepped, left_next}
-use Rattle.nk_flight.specs.Trails.{hop_at, hop_of, copy_at, copies_at, state_at, IsSound}
+use Rattle.nk_flight.specs.Trails.{hop_at, hop_of, copy_at, copies_at, state_of_trails, IsSound}
 use Rattle.nk_flight.proofs.Reached.{got_at, stepped_sound}
 use Rattle.nk_flight.proofs.flight.Flight.step.Goals as goal
 use Rattle.nk_flight.proofs.flight.Flight.step.Goals.{After-drop-all-3}
 
 -- the fields are those after the step
 is_stepped : (c : After-drop-all-3)
-    → (state_at c.self.inside.tables c.self.inside.packets.items c.append-2.new.self.items c.take.new.self c.append-3.new.self.items
-    ≡ stepped c.args.i (state_at c.self.inside.tables c.self.inside.packets.items c.self.inside.hops.items c.self.inside.flying c.self.inside.left.items))
+    → (state_of_trails c.self.inside.tables c.self.inside.packets.items c.append-2.new.self.items c.take.new.self c.append-3.new.self.items
+    ≡ stepped c.args.i (state_of_trails c.self.inside.tables c.self.inside.packets.items c.self.inside.hops.items c.self.inside.flying c.self.inside.left.items))
     × IsSound c.self.inside.tables c.self.inside.packets.items c.append-2.new.self.items c.take.new.self c.append-3.new.self.items
 is_stepped c =
     let inside = c.self.inside in

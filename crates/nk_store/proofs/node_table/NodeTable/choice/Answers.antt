@@ -1,6 +1,6 @@
 use Rattle.std.proofs.Common.{◌∙◌, ◌≤◌, sym, subst, slice_index}
 use Rattle.nk_store.specs.Nodes.{child_at}
-use Rattle.nk_store.specs.Held.{HasLeaves, look, top}
+use Rattle.nk_store.specs.StoreState.{HasLeaves, look, root_field}
 use Rattle.nk_store.proofs.Stores.{IsSound, case_single, case_fits, case_has_leaves}
 use Rattle.nk_store.proofs.node_table.NodeTable.choice.Goals as goal
 
@@ -14,7 +14,7 @@ pub place-requires : goal.place-requires
 place-requires c = case_fits c.args.self.now c.args.field c.args.parts c.in_ok-kept.kept c.requires c.in_ok-kept.ensures (λ e. c.if-len-eq1.false (c.len.ensures ∙ e))
 
 both : (c : goal.After-_nodes-1) →
-    HasLeaves c.place.new.self c.in_ok-d.d (λ pk. look c.args.self.now (child_at 0 c.args.parts (slice_index pk c.args.field)) pk) × (c.args.field ≤ top c.place.new.self c.in_ok-d.d)
+    HasLeaves c.place.new.self c.in_ok-d.d (λ pk. look c.args.self.now (child_at 0 c.args.parts (slice_index pk c.args.field)) pk) × (c.args.field ≤ root_field c.place.new.self c.in_ok-d.d)
 both c = case_has_leaves c.args.self.now c.place.new.self c.in_ok-d.d c.args.field c.args.parts c.in_ok-kept.kept c.place.ensures.grows
     (subst IsSound c.self-2.view_is c.self-2.invariant) c.requires c.in_ok-kept.ensures c.in_ok-d.ensures.ok.0 c.in_ok-d.ensures.ok.1
 

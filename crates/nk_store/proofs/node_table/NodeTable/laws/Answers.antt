@@ -1,5 +1,5 @@
 use Rattle.std.proofs.Common.{subst, refl}
-use Rattle.nk_store.specs.Held.{node_of}
+use Rattle.nk_store.specs.StoreState.{node_of}
 use Rattle.nk_store.proofs.Stores.{IsSound, node_means, is_still, is_reduced, is_tidy, are_canonical}
 use Rattle.nk_store.proofs.node_table.NodeTable.laws.Goals as goal
 

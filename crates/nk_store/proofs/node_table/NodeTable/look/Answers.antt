@@ -1,5 +1,5 @@
 use Rattle.std.proofs.Common.{◌≡◌, ◌<◌, ◌∙◌, sym, subst, ap, get_or}
-use Rattle.nk_store.specs.Held.{IsId, look, IsNodeOf, IsCase}
+use Rattle.nk_store.specs.StoreState.{IsId, look, IsNodeOf, IsCase}
 use Rattle.nk_store.specs.Nodes.{child_at}
 use Rattle.nk_store.proofs.Stores.{case_child, case_below}
 use Rattle.nk_store.proofs.node_table.NodeTable.look.Goals as goal

@@ -1,5 +1,5 @@
 use Rattle.std.proofs.Common.{◌≡◌}
-use Rattle.nk_store.specs.Held.{IsId, look}
+use Rattle.nk_store.specs.StoreState.{IsId, look}
 use Rattle.nk_store.proofs.node_table.NodeTable.look.Given as goal
 
 abbrev pub invariant-loop-outs : goal.invariant-loop-outs

@@ -1,5 +1,5 @@
 use Rattle.std.proofs.Common.{subst, sym}
-use Rattle.nk_store.specs.Held.{Held}
+use Rattle.nk_store.specs.StoreState.{StoreState}
 use Rattle.nk_store.specs.Nodes.{Fits}
 use Rattle.nk_store.proofs.Stores.{bare}
 use Rattle.nk_store.proofs.Table.{fields_kept, put, put_sound, put_grows, placed}
@@ -9,7 +9,7 @@ pub invariant_of-self-2 : goal.invariant_of-self-2
 invariant_of-self-2 c = (
   fields_kept (bare c.self.inside.maxes c.self.inside.width c.self.inside.tag c.self.inside.answers) _ _ c.self.invariant.0,
   put_sound c.self.inside.maxes c.self.inside.nodes.keys c.insert_full.new.self.keys c.args.node (put _ _ _ c.in_ok-place.ensures.keys) c.self.invariant.1
-      (subst (λ (s : Held). Fits s.maxes s.nodes c.args.node) (sym c.self.view_is) c.requires),
+      (subst (λ (s : StoreState). Fits s.maxes s.nodes c.args.node) (sym c.self.view_is) c.requires),
 )
 
 pub returns-clause-grows : goal.returns-clause-grows

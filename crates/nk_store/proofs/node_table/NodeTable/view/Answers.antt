@@ -1,6 +1,6 @@
 use Rattle.std.proofs.Common.{subst, sym, ap, ◌∙◌, arith, ◌≡◌, slice_get, Some}
 use Rattle.std.proofs.lemmas.Option.{get_or_from_slice_get}
-use Rattle.nk_store.specs.Held.{node_of}
+use Rattle.nk_store.specs.StoreState.{node_of}
 use Rattle.nk_store.proofs.Stores.{IsSound, bare, kept_id, kept_node, node_means, is_still, is_reduced, is_tidy}
 use Rattle.nk_store.proofs.node_table.NodeTable.view.Goals as goal
 

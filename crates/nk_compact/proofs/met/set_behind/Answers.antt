@@ -1,5 +1,0 @@
-use Rattle.nk_compact.proofs.MetSets.{behind_increasing}
-use Rattle.nk_compact.proofs.met.set_behind.Goals as goal
-
-pub intern-requires : goal.intern-requires
-intern-requires c = behind_increasing c.members.result.now c.in_ok-labels.labels c.members.ensures.ascend c.in_ok-labels.ensures

@@ -1,8 +1,0 @@
-use Rattle.nk_compile.proofs.Printed.{behind_carries, accepted_behind_carries}
-use Rattle.nk_compile.proofs.laws.the_tables_behind_carry.Goals as goal
-
-pub returns-clause-compilable : goal.returns-clause-compilable
-returns-clause-compilable c = λ program first p t f l d r k table. behind_carries program first p t f l d r k table
-
-pub returns-clause-accepted : goal.returns-clause-accepted
-returns-clause-accepted c = λ program name first p t ok named a table. accepted_behind_carries program name first p t ok named a table

@@ -1,5 +1,0 @@
-use Rattle.nk_compiling.proofs.Readable.{policies_in_order}
-use Rattle.nk_compiling.proofs.laws.policies_tables_are_in_order.Goals as goal
-
-pub returns : goal.returns
-returns c = policies_in_order
