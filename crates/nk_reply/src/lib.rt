@@ -5,5 +5,5 @@ pub mod messages;
 mod reply;
 mod status;
 
-pub use reply::{CommandAnswer, Reply, deliver};
+pub use reply::{CommandAnswer, Reply, deliver, deliver_text};
 pub use status::Status;

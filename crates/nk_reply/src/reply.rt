@@ -1,7 +1,7 @@
 //! What a run answers, and how the answer is written.
 ghost use Rattle.std.specs.Prelude.{◌≡◌};
 ghost use Rattle.nk_io.specs.Reading.{IsCause};
-ghost use Rattle.nk_reply.specs.Answer.{limit};
+ghost use Rattle.nk_reply.specs.Answer.{answer, limit};
 ghost use Rattle.nk_reply.specs.Use.{Use, use_of};
 ghost use Rattle.nk_reply.specs.Meant.{IsUnread};
 ghost use Rattle.nk_reply.specs.Sent.{Delivers, LeavesAlone};
@@ -63,14 +63,48 @@ pub fn deliver<O: Sink, E: Sink>(reply: &Reply, out: &mut O, err: &mut E) -> Sta
     ensures alone { LeavesAlone result (out.new ≡ out.old) (err.new ≡ err.old) }
 {
     match reply {
-        Reply::CommandAnswer(CommandAnswer::Done(text)) => send(out, text, Status::Done),
-        Reply::CommandAnswer(CommandAnswer::Differs(text)) => send(out, text, Status::Differs),
-        Reply::CommandAnswer(CommandAnswer::Text(text)) => send(err, text, Status::Text),
-        Reply::CommandAnswer(CommandAnswer::Refused(text)) => send(err, text, Status::Refused),
-        Reply::Usage => send(err, b"usage: nk COMMAND ARGUMENTS\n", Status::Usage),
-        Reply::ReadFault => send(err, b"read fault\n", Status::ReadFault),
-        Reply::NoMemory => send(err, b"no memory\n", Status::NoMemory),
-        Reply::TooLong => send(err, b"too long\n", Status::TooLong),
+        Reply::CommandAnswer(CommandAnswer::Done(text)) => deliver_text(
+            Status::Done,
+            text,
+            out,
+            err,
+        ),
+        Reply::CommandAnswer(CommandAnswer::Differs(text)) => {
+            deliver_text(Status::Differs, text, out, err)
+        }
+        Reply::CommandAnswer(CommandAnswer::Text(text)) => deliver_text(
+            Status::Text,
+            text,
+            out,
+            err,
+        ),
+        Reply::CommandAnswer(CommandAnswer::Refused(text)) => {
+            deliver_text(Status::Refused, text, out, err)
+        }
+        Reply::Usage => deliver_text(Status::Usage, b"usage: nk COMMAND ARGUMENTS\n", out, err),
+        Reply::ReadFault => deliver_text(Status::ReadFault, b"read fault\n", out, err),
+        Reply::NoMemory => deliver_text(Status::NoMemory, b"no memory\n", out, err),
+        Reply::TooLong => deliver_text(Status::TooLong, b"too long\n", out, err),
+    }
+}
+
+/// Writes the text of an answer to the sink that its status goes with: `out` for `Done` and `Differs`,
+/// else `err`. It makes no call on the other sink. Where a call of the sink fails nothing more is
+/// written, and the status is `WriteFault`. It takes no memory.
+pub fn deliver_text<O: Sink, E: Sink>(
+    status: Status,
+    text: &[u8],
+    out: &mut O,
+    err: &mut E,
+) -> Status
+    ensures delivered { Delivers (answer status text.now)
+        (use_of O.taken O.faults out.old out.new)
+        (use_of E.taken E.faults err.old err.new) result }
+    ensures alone { LeavesAlone result (out.new ≡ out.old) (err.new ≡ err.old) }
+{
+    match status {
+        Status::Done | Status::Differs => send(out, text, status),
+        _ => send(err, text, status),
     }
 }
 
