@@ -3,7 +3,5 @@
 
 mod cutting;
 pub mod laws;
-#[cfg(test)]
-mod tests;
 
 pub use cutting::{agrees, blocks, digits_of};
