@@ -21,7 +21,7 @@ use Rattle.nk_table.specs.declared.Table.{Table}
 use Rattle.nk_table.specs.declared.Group.{Group}
 use Rattle.nk_table.specs.declared.Row.{Row}
 use Rattle.nk_table.specs.Rules.{rows_of, groups_at_switch}
-use Rattle.nk_tabtext.specs.Text.{table_bytes, version_text, version_of, field_text, field_lines, fields_text, tag_line, tag_text, switch_text, link_text, ports_text, topology_text, group_text, row_text, rules_text, section_text, bucket_text, matches_text, target_text, name_of}
+use Rattle.nk_tabtext.specs.Text.{table_bytes, version_text, version_of, field_text, table_field_lines, fields_text, tag_line, tag_text, switch_text, link_text, ports_text, topology_text, group_text, row_text, rules_text, section_text, bucket_text, matches_text, target_text, name_of}
 use Rattle.nk_tabtext.specs.Values.{lexed, tables_of, tables_of_tokens}
 use Rattle.nk_compile_commands.specs.CommentLines.{IsCommentLine}
 
@@ -108,11 +108,11 @@ feed = record { before = []; is = refl }
 line : (a : List ℕ) → EndsLine (a ++ codes "\n")
 line a = ends_after a (codes "\n") feed
 
-fields_end : (names : List (List ℕ)) (maxima : List ℕ) → MayEnd (field_lines names maxima)
+fields_end : (names : List (List ℕ)) (maxima : List ℕ) → MayEnd (table_field_lines names maxima)
 fields_end [] maxima = inl refl
 fields_end (n ∷ names) [] = inl refl
 fields_end (n ∷ names) (m ∷ maxima) =
-    inr (ends_before (field_text n m) (field_lines names maxima) (line (codes "field " ++ n ++ codes " " ++ decimal m)) (fields_end names maxima))
+    inr (ends_before (field_text n m) (table_field_lines names maxima) (line (codes "field " ++ n ++ codes " " ++ decimal m)) (fields_end names maxima))
 
 tag_ends : (fs : FieldTable) (o : Option ℕ) → MayEnd (tag_line fs o)
 tag_ends fs None = inl refl

@@ -10,7 +10,7 @@ use Rattle.nk_topo.specs.Topology.{SwitchPorts}
 use Rattle.nk_topo.proofs.Members.{InOrder, order_from_pairs}
 use Rattle.nk_update.proofs.Lookup.{true_or_false, le_true, le_false, eq_true, eq_false, true_eq, false_eq}
 use Rattle.nk_flight.specs.Progresses.{how_many, have_done, IsProgress}
-use Rattle.nk_flight.specs.Updates.{done_by, one_more}
+use Rattle.nk_flight.specs.Updates.{done_by, one_more_event}
 
 -- one, or none
 abbrev pub one_if : Bool → ℕ
@@ -221,7 +221,7 @@ module _ (counts ns : List ℕ) (sw : ℕ) (room : length counts ≡ 65536) (sma
       }
 
   -- by number
-  pub one_more_then : (s : ℕ) → s ≡ slice_index counts sw → (n : ℕ) → done_by (slice_set counts sw (s + 1)) n ≡ one_more sw (done_by counts) n
+  pub one_more_then : (s : ℕ) → s ≡ slice_index counts sw → (n : ℕ) → done_by (slice_set counts sw (s + 1)) n ≡ one_more_event sw (done_by counts) n
   one_more_then s e n = ap (λ d. done_by (slice_set counts sw (d + 1)) n) e ∙ by (n == sw) refl
     where
       by : (b : Bool) → n == sw ≡ b → done_by then_counts n ≡ (if b then done_by counts n + 1 else done_by counts n)

@@ -5,7 +5,7 @@ use Rattle.std.proofs.lemmas.List.Elements.{All-nil, All-cons, All-head, All-tai
 use Rattle.nk_table.specs.declared.Tables.{Tables}
 use Rattle.nk_update.specs.Tags.{IsEntering}
 use Rattle.nk_flight.specs.declared.copies.Flying.{Flying}
-use Rattle.nk_flight.specs.Updates.{Stages, UpdateState, UpdateEvent, inject, move, plan, at_the_start, handled_there, moved, planned, one_more, may_plan, after_update, after_updates, AreEntering}
+use Rattle.nk_flight.specs.Updates.{Stages, UpdateState, UpdateEvent, inject, move, plan, at_the_start, handled_there, moved, planned, one_more_event, may_plan, after_update, after_updates, AreEntering}
 
 all_first : (P : List ℕ → Type 0) (xs ys : List (List ℕ)) → All P (xs ++ ys) → All P xs
 all_first P [] ys a = All-nil P
@@ -26,7 +26,7 @@ module _ (g : Stages) where
   pub planned_packets : (sw : ℕ) (s : UpdateState) → (planned g sw s).flight.packets ≡ s.flight.packets
   planned_packets sw s = by (may_plan g s sw)
     where
-      by : (b : Bool) → (if b then record s { done = one_more sw s.done } else s).flight.packets ≡ s.flight.packets
+      by : (b : Bool) → (if b then record s { done = one_more_event sw s.done } else s).flight.packets ≡ s.flight.packets
       by true = refl
       by false = refl
 

@@ -18,7 +18,7 @@ use Rattle.nk_flight.specs.declared.hops.Hop.{Hop}
 use Rattle.nk_flight.specs.declared.versions.Version.{Version}
 use Rattle.nk_flight.specs.Flights.{flying_next, left_next, injected, state_of}
 use Rattle.nk_flight.specs.Trails.{hop_at, hop_of, hop_over, first_hop, copy_at, copies_at, FollowsHop, AreHops}
-use Rattle.nk_flight.specs.Updates.{Stages, stage_after, is_old_tag, has_old_tag, noted, noting, moved, handled_there, done_by, version_by, state_in, UpdateState, all_have_done, may_plan, may_go_on, one_more, planned}
+use Rattle.nk_flight.specs.Updates.{Stages, stage_after, is_old_tag, has_old_tag, noted, noting, moved, handled_there, done_by, version_by, state_in, UpdateState, all_have_done, may_plan, may_go_on, one_more_event, planned}
 use Rattle.nk_flight.specs.Progresses.{ProgressState, how_many}
 use Rattle.nk_flight.specs.Held.{update_at, IsUpdateHeld}
 use Rattle.nk_flight.proofs.Counting.{one_if, many_most, many_push, many_joined, many_mapped, many_removed, none_counted}
@@ -220,12 +220,12 @@ may_remove g s sw tagged declared two all is =
 
 -- the update after a plan step that the switch may do
 pub planned_held : (g : Stages) (progress later : ProgressState) (pks : List (List ℕ)) (hs : List Hop) (places : List ℕ) (ls : List Left) (vs : List (Option Version)) (sw : ℕ)
-    → ((n : ℕ) → done_by later.done n ≡ one_more sw (done_by progress.done) n)
+    → ((n : ℕ) → done_by later.done n ≡ one_more_event sw (done_by progress.done) n)
     → may_plan g (state_in (update_at g progress pks hs places ls vs)) sw ≡ true
     → state_in (update_at g later pks hs places ls vs) ≡ planned g sw (state_in (update_at g progress pks hs places ls vs))
 planned_held g progress later pks hs places ls vs sw more may =
     let u = state_in (update_at g progress pks hs places ls vs) in
-    (λ j. record u { done = λ n. more n j }) ∙ sym (ap (λ b. if b then record u { done = one_more sw u.done } else u) may)
+    (λ j. record u { done = λ n. more n j }) ∙ sym (ap (λ b. if b then record u { done = one_more_event sw u.done } else u) may)
 
 -- copies with an old tag are no more than hops
 pub few_tagged : (g : Stages) (progress : ProgressState) (pks : List (List ℕ)) (hs : List Hop) (places : List ℕ) (vs : List (Option Version)) (tagged : ℕ)

@@ -8,7 +8,7 @@ use Rattle.nk_flight.specs.declared.copies.Flying.{Flying}
 use Rattle.nk_flight.specs.declared.copies.Left.{Left}
 use Rattle.nk_flight.specs.declared.versions.Version.{Version}
 use Rattle.nk_flight.specs.Flights.{copy_flying, flying_as, left_as, flying_next, left_next}
-use Rattle.nk_flight.specs.Updates.{Stages, UpdateState, stage_after, at_the_start, may_plan, one_more, planned, noted, noting, steps_at, handled_there, moved, UpdateEvent, inject, move, plan, after_update, after_updates, HasVersion, HaveVersions}
+use Rattle.nk_flight.specs.Updates.{Stages, UpdateState, stage_after, at_the_start, may_plan, one_more_event, planned, noted, noting, steps_at, handled_there, moved, UpdateEvent, inject, move, plan, after_update, after_updates, HasVersion, HaveVersions}
 use Rattle.nk_flight.specs.UpdateDraws.{after_turns, drawn_events}
 use Rattle.nk_flight.proofs.Drawing.{turns_are_updates}
 use Rattle.nk_flight.proofs.Schedules.{split_at}
@@ -100,7 +100,7 @@ module _ (g : Stages) where
   planned_holds : (s : UpdateState) (sw : ℕ) → Holds s → Holds (planned g sw s)
   planned_holds s sw h = by (may_plan g s sw)
     where
-      by : (b : Bool) → Holds (if b then record s { done = one_more sw s.done } else s)
+      by : (b : Bool) → Holds (if b then record s { done = one_more_event sw s.done } else s)
       by true = record { copies = h.copies; histories = h.histories }
       by false = h
 

@@ -22,7 +22,7 @@ use Rattle.nk_flight.specs.declared.versions.Version.{Version}
 use Rattle.nk_flight.specs.declared.versions.Version.TheVariants.{Old, New}
 use Rattle.nk_flight.specs.Flights.{FlightState, copy_flying, flying_as, left_as, flying_next, left_next, injected}
 use Rattle.nk_flight.specs.Owed.{flying_from, left_from, with_crossings, owed_by}
-use Rattle.nk_flight.specs.Updates.{Stages, stages_of, stage_after, tables_by, UpdateState, at_the_start, has_old_tag, all_have_done, may_go_on, may_plan, one_more, planned, noted, noting, steps_at, handled_there, moved, UpdateEvent, inject, move, plan, after_update, after_updates, AreEntering, left_or_owed_by, ByVersion}
+use Rattle.nk_flight.specs.Updates.{Stages, stages_of, stage_after, tables_by, UpdateState, at_the_start, has_old_tag, all_have_done, may_go_on, may_plan, one_more_event, planned, noted, noting, steps_at, handled_there, moved, UpdateEvent, inject, move, plan, after_update, after_updates, AreEntering, left_or_owed_by, ByVersion}
 use Rattle.nk_flight.proofs.Owing.{start_owes}
 use Rattle.nk_flight.proofs.Schedules.{split_at, both_empty, at_end, copies_joined, histories_joined, copies_other, histories_other, one_same, one_other, not_here, handled_keeps}
 
@@ -516,7 +516,7 @@ module _ (p : Pair) (ok : IsPlannable p) (tags : HaveTheirTags p) where
 
   module _ (s : UpdateState) (h : Held p s) (sw : ℕ) (may : may_go_on (staged p) s (s.done sw) ≡ true) where
     abbrev done_then : ℕ → ℕ
-    done_then = one_more sw s.done
+    done_then = one_more_event sw s.done
 
     -- counts never fall
     grows : (n : ℕ) → s.done n ≤ done_then n
@@ -585,7 +585,7 @@ module _ (p : Pair) (ok : IsPlannable p) (tags : HaveTheirTags p) where
   planned_held : (s : UpdateState) (sw : ℕ) → Held p s → Held p (planned (staged p) sw s)
   planned_held s sw h = by (may_plan (staged p) s sw) refl
     where
-      by : (b : Bool) → may_plan (staged p) s sw ≡ b → Held p (if b then record s { done = one_more sw s.done } else s)
+      by : (b : Bool) → may_plan (staged p) s sw ≡ b → Held p (if b then record s { done = one_more_event sw s.done } else s)
       by true e = plan_held s h sw (both_passed (is_switch p.old.topo sw) (may_go_on (staged p) s (s.done sw)) e).1
       by false e = h
 

@@ -16,7 +16,7 @@ use Rattle.nk_flight.specs.declared.versions.Version.TheVariants.{Old, New}
 use Rattle.nk_flight.specs.Flights.{FlightState}
 use Rattle.nk_flight.specs.Owed.{flying_from, left_from, with_crossings, owed_by, erased_copy}
 use Rattle.nk_flight.specs.Once.{all_erased, IsEachOnce, LeaveOnce}
-use Rattle.nk_flight.specs.Updates.{Stages, tables_by, UpdateState, at_the_start, may_plan, one_more, noted, steps_at, handled_there, moved, planned, UpdateEvent, inject, move, plan, HandlesNoneOf, after_update, after_updates, AreEntering, left_or_owed_by, ByVersion}
+use Rattle.nk_flight.specs.Updates.{Stages, tables_by, UpdateState, at_the_start, may_plan, one_more_event, noted, steps_at, handled_there, moved, planned, UpdateEvent, inject, move, plan, HandlesNoneOf, after_update, after_updates, AreEntering, left_or_owed_by, ByVersion}
 use Rattle.nk_flight.proofs.Once.{each_once}
 use Rattle.nk_flight.proofs.Mixture.{staged, no_mixture}
 
@@ -58,7 +58,7 @@ module _ (g : Stages) where
   planned_keeps_it : (s : UpdateState) (sw n : ℕ) (v : Version) → s.versions n ≡ Some v → (planned g sw s).versions n ≡ Some v
   planned_keeps_it s sw n v e = by (may_plan g s sw)
     where
-      by : (b : Bool) → (if b then record s { done = one_more sw s.done } else s).versions n ≡ Some v
+      by : (b : Bool) → (if b then record s { done = one_more_event sw s.done } else s).versions n ≡ Some v
       by true = e
       by false = e
 
@@ -74,7 +74,7 @@ module _ (g : Stages) where
   unhandled (inject pk) s n none = refl
   unhandled (plan sw) s n none = by (may_plan g s sw)
     where
-      by : (b : Bool) → (if b then record s { done = one_more sw s.done } else s).versions n ≡ s.versions n
+      by : (b : Bool) → (if b then record s { done = one_more_event sw s.done } else s).versions n ≡ s.versions n
       by true = refl
       by false = refl
   unhandled (move i) s n none = by (slice_get s.flight.flying i) refl

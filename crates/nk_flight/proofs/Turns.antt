@@ -8,7 +8,7 @@ use Rattle.nk_topo.specs.Topology.{SwitchPorts, is_switch}
 use Rattle.nk_topo.proofs.Members.{all_from_members, members_from_all}
 use Rattle.nk_update.proofs.Lookup.{true_or_false, eq_true, eq_false, true_eq, false_eq}
 use Rattle.nk_flight.specs.declared.copies.Flying.{Flying}
-use Rattle.nk_flight.specs.Updates.{Stages, UpdateState, UpdateEvent, inject, move, plan, at_the_start, handled_there, moved, one_more, planned, after_update, after_updates, has_old_tag, switches_in, may_go_on, may_plan}
+use Rattle.nk_flight.specs.Updates.{Stages, UpdateState, UpdateEvent, inject, move, plan, at_the_start, handled_there, moved, one_more_event, planned, after_update, after_updates, has_old_tag, switches_in, may_go_on, may_plan}
 use Rattle.nk_flight.specs.UpdateDraws.{those_that_may, IsStage, at_stage, MayAtOneStage}
 
 -- tests that agree on what stands in a list keep the same of it
@@ -178,7 +178,7 @@ module _ (g : Stages) (s : UpdateState) (n : ℕ) (stage : IsStage g s n) where
 -- the state after a switch of the stage did its step
 module _ (g : Stages) (s : UpdateState) (n : ℕ) (stage : IsStage g s n) (sw : ℕ) (there : In (switches_in g) sw) (here : s.done sw ≡ n) where
   abbrev pub then_state : UpdateState
-  then_state = record s { done = one_more sw s.done }
+  then_state = record s { done = one_more_event sw s.done }
 
   here_then : then_state.done sw ≡ suc n
   here_then =
@@ -266,8 +266,8 @@ pub move_done : (g : Stages) (s : UpdateState) (i : ℕ) → (moved g i s).done 
 move_done g s i = moved_done g s (slice_get s.flight.flying i) (remove s.flight.flying i)
 
 -- a plan step that may be done
-pub step_done : (g : Stages) (s : UpdateState) (sw : ℕ) → may_plan g s sw ≡ true → planned g sw s ≡ record s { done = one_more sw s.done }
-step_done g s sw e = ap (λ b. cond b (record s { done = one_more sw s.done }) s) e
+pub step_done : (g : Stages) (s : UpdateState) (sw : ℕ) → may_plan g s sw ≡ true → planned g sw s ≡ record s { done = one_more_event sw s.done }
+step_done g s sw e = ap (λ b. cond b (record s { done = one_more_event sw s.done }) s) e
 
 -- after each event the switches are at one stage
 stage_then : (g : Stages) (s : UpdateState) (n : ℕ) (e : UpdateEvent) → IsStage g s n → (m : ℕ) × IsStage g (after_update g e s) m
@@ -278,7 +278,7 @@ stage_then g s n (plan sw) h = by (may_plan g s sw) refl
     declared : may_plan g s sw ≡ true → In (switches_in g) sw
     declared e = in_declared g.before.topo.switches sw (first_true (is_switch g.before.topo sw) (may_go_on g s (s.done sw)) e)
 
-    by : (b : Bool) → may_plan g s sw ≡ b → (m : ℕ) × IsStage g (cond b (record s { done = one_more sw s.done }) s) m
+    by : (b : Bool) → may_plan g s sw ≡ b → (m : ℕ) × IsStage g (cond b (record s { done = one_more_event sw s.done }) s) m
     by false e = (n, h)
     by true e =
         let there = declared e in

@@ -78,12 +78,12 @@ abbrev pub Becomes : UpdateValue → UpdateValue → UpdateState → Type 0
 Becomes old new s = (new.stages ≡ old.stages) × (state_in new ≡ s)
 
 -- the value of the packet's tag
-abbrev pub tag_of : Stages → List ℕ → ℕ
-tag_of g pk = slice_index pk (place_of g.before.fields.tag)
+abbrev pub tag_of_copy : Stages → List ℕ → ℕ
+tag_of_copy g pk = slice_index pk (place_of g.before.fields.tag)
 
 -- it is one of the old tags
 abbrev pub is_old_tag : Stages → List ℕ → Bool
-is_old_tag g pk = nat_le 1 (tag_of g pk) && nat_le (tag_of g pk) g.old_tags
+is_old_tag g pk = nat_le 1 (tag_of_copy g pk) && nat_le (tag_of_copy g pk) g.old_tags
 
 abbrev pub has_old_tag : Stages → Flying → Bool
 has_old_tag g f = is_old_tag g f.packet
@@ -112,11 +112,11 @@ abbrev pub may_plan : Stages → UpdateState → ℕ → Bool
 may_plan g s sw = is_switch g.before.topo sw && may_go_on g s (s.done sw)
 
 -- a plan step adds one to the switch's own count, and changes nothing else
-abbrev pub one_more : ℕ → (ℕ → ℕ) → ℕ → ℕ
-one_more sw done n = if n == sw then done n + 1 else done n
+abbrev pub one_more_event : ℕ → (ℕ → ℕ) → ℕ → ℕ
+one_more_event sw done n = if n == sw then done n + 1 else done n
 
 abbrev pub planned : Stages → ℕ → UpdateState → UpdateState
-planned g sw s = if may_plan g s sw then record s { done = one_more sw s.done } else s
+planned g sw s = if may_plan g s sw then record s { done = one_more_event sw s.done } else s
 
 -- The version of an injection whose copy is handled where so many plan steps are done: that of its first step, which is old
 -- before the switch's second plan step, and else new.

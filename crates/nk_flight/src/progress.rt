@@ -2,7 +2,7 @@
 ghost use Rattle.std.specs.Prelude.{◌≡◌, ◌<◌, ◌≤◌, ◌+◌, ◌*◌, ◌^◌, ℕ, nat_le, length, map, sum, if◌then◌else◌, Contains, All, IfOk};
 ghost use Rattle.std.specs.List.{list_all};
 ghost use Rattle.nk_topo.specs.Topology.{numbers_of};
-ghost use Rattle.nk_flight.specs.Updates.{done_by, one_more};
+ghost use Rattle.nk_flight.specs.Updates.{done_by, one_more_event};
 
 use nk_topo::Topo;
 use std::alloc::{AllocError, Global};
@@ -90,7 +90,7 @@ impl Progress {
         requires there { Contains self.old.switches switch }
         requires few { done_by self.old.done switch < 3 }
         ensures switches { self.new.switches ≡ self.old.switches }
-        ensures counts { (sw : ℕ) → done_by self.new.done sw ≡ one_more switch (done_by self.old.done) sw }
+        ensures counts { (sw : ℕ) → done_by self.new.done sw ≡ one_more_event switch (done_by self.old.done) sw }
     {
         let at = usize::from(switch);
         are_few(self.switches.as_slice());

@@ -17,7 +17,7 @@ use Rattle.nk_sim.specs.declared.transit.Crossing.{Crossing}
 use Rattle.nk_sim.specs.declared.transit.Flying.{Flying}
 use Rattle.nk_sim.specs.declared.tracing.State.{State}
 use Rattle.nk_sim.specs.declared.tracing.Traced.{Traced}
-use Rattle.nk_sim.specs.Flights.{HaveTrails, copy_of, copies_of, sent_flying, crossed, leaves, left_by, AreCrossed, AreWaiting, IsAt, HaveOneLength, IsSortedFrom}
+use Rattle.nk_sim.specs.Flights.{HaveTrails, copy_of, copies_of, sent_flying, crossed, leaves, left_by_hops, AreCrossed, AreWaiting, IsAt, HaveOneLength, IsSortedFrom}
 use Rattle.nk_sim.specs.Traces.{as_history, histories_after, histories_before, AreOrderedFrom, IsTrace}
 use Rattle.nk_sim.proofs.Trails.{Has}
 use Rattle.nk_sim.proofs.Sizes.{all_joined, IsHistorySized, after_sized, before_shorter}
@@ -59,7 +59,7 @@ sent_lead t cs k fs =
 
 -- and the histories that leave are theirs
 pub sent_leave : (t : Tables) (cs : List Crossing) (k : ℕ) (fs : List Flying)
-    → flat_map (left_by t cs k) (flat_map (sent_flying t) fs) ≡ map as_history (flat_map (left_of t) (copies_of cs k fs))
+    → flat_map (left_by_hops t cs k) (flat_map (sent_flying t) fs) ≡ map as_history (flat_map (left_of t) (copies_of cs k fs))
 sent_leave t cs k fs =
     sym (map_over_joined as_history (λ f. leaves t (copy_of cs k f)) (flat_map (sent_flying t) fs))
     ∙ ap (map as_history) (sym (joined_mapped (copy_of cs k) (leaves t) (flat_map (sent_flying t) fs))
@@ -86,9 +86,9 @@ waits_next t pk k cs ds fs sent next are e cross =
 
 -- what leaves of them
 pub leave_after : (t : Tables) (pk : List ℕ) (k : ℕ) (cs : List Crossing) (fs sent : List Flying) → AreWaiting t pk k cs fs
-    → sent ≡ flat_map (sent_flying t) fs → flat_map (left_by t cs k) sent ≡ histories_after t k pk
+    → sent ≡ flat_map (sent_flying t) fs → flat_map (left_by_hops t cs k) sent ≡ histories_after t k pk
 leave_after t pk k cs fs sent are e =
-    ap (flat_map (left_by t cs k)) e ∙ sent_leave t cs k fs ∙ ap (λ cs. map as_history (flat_map (left_of t) cs)) are.copies
+    ap (flat_map (left_by_hops t cs k)) e ∙ sent_leave t cs k fs ∙ ap (λ cs. map as_history (flat_map (left_of t) cs)) are.copies
 
 -- the histories so far, and those that leave next
 pub all_next : (t : Tables) (pk : List ℕ) (k : ℕ) (so_far left later all : List History) → IsPermutation (histories_before t k pk) so_far

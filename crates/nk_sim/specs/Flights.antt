@@ -51,8 +51,8 @@ abbrev pub leaves : Tables → Copy → List Copy
 leaves t s = leaving t s.records s.packet
 
 -- the histories with which a sent copy leaves, after k crossings
-abbrev pub left_by : Tables → List Crossing → ℕ → Flying → List History
-left_by t cs k f = map as_history (leaves t (copy_of cs k f))
+abbrev pub left_by_hops : Tables → List Crossing → ℕ → Flying → List History
+left_by_hops t cs k f = map as_history (leaves t (copy_of cs k f))
 
 -- the crossing that a sent copy makes along a link, if there is one
 abbrev pub crossing_by : Tables → Flying → Option (ℕ × ℕ) → List Crossing

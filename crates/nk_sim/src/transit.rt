@@ -4,7 +4,7 @@ ghost use Rattle.std.specs.Prelude.{◌≡◌, ◌<◌, ◌++◌, ℕ, map, leng
 ghost use Rattle.std.specs.List.{flat_map};
 ghost use Rattle.nk_table.specs.Hops as hops;
 ghost use Rattle.nk_field.specs.Packet.{erased};
-ghost use Rattle.nk_sim.specs.Flights.{HasTrail, HaveTrails, AreCrossed, crossing_at, crossing_by, flying_by, left_by, link_of_sent, sent_flying};
+ghost use Rattle.nk_sim.specs.Flights.{HasTrail, HaveTrails, AreCrossed, crossing_at, crossing_by, flying_by, left_by_hops, link_of_sent, sent_flying};
 ghost use Rattle.nk_sim.specs.Flights as flights;
 ghost use Rattle.nk_sim.specs.Emitted.{Finds};
 
@@ -141,7 +141,7 @@ pub(crate) fn leave(
     sent: &[Flying],
 ) -> Result<Vec<History>, AllocError>
     requires { HaveTrails crossings.now k sent.now }
-    ensures { IfOk result (λ left. left.items ≡ flat_map (left_by t.now crossings.now k) sent.now) }
+    ensures { IfOk result (λ left. left.items ≡ flat_map (left_by_hops t.now crossings.now k) sent.now) }
 {
     let mut left = Vec::new(alloc);
     for copy in sent {
@@ -160,7 +160,7 @@ fn leave_one(
     left: &mut Vec<History>,
 ) -> Result<(), AllocError>
     requires { HasTrail crossings.now k sent.now.last }
-    ensures { OnOk result (left.new.items ≡ left.old.items ++ left_by t.now crossings.now k sent.now) }
+    ensures { OnOk result (left.new.items ≡ left.old.items ++ left_by_hops t.now crossings.now k sent.now) }
 {
     if leaves_at(&t.topo, &sent.packet) {
         let records = trail(alloc, crossings, k, sent.last)?;

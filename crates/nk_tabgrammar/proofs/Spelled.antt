@@ -27,9 +27,9 @@ use Rattle.nk_tabgrammar.specs.declared.stage.Stage.TheVariants as stage
 use Rattle.nk_tabgrammar.specs.declared.stage.Declaring.TheVariants as declaring
 use Rattle.nk_tabgrammar.specs.declared.stage.Grouping.TheVariants as grouping
 use Rattle.nk_tabgrammar.specs.declared.stage.InRow.TheVariants as in_row
-use Rattle.nk_tabgrammar.specs.Terminal.{Terminal, name, number, mark, is_mark, with_name, with_number}
-use Rattle.nk_tabgrammar.specs.Spelling.{spell_port, spell_declaration, spell_match, spell_set, way_token, spell_bucket, spell_matches, spell_row, spell_group, spell_table, spell_text}
-use Rattle.nk_tabgrammar.specs.Machine.{Reading, with_declaration, with_table, with_group, with_row, with_match, match_of, row_written, quad_step, link_on, place_step, bucket_done, bucket_on, begin, begin_row, begin_group, begin_match, next_reading, read_one, read_all, first_reading, text_ended}
+use Rattle.nk_tabgrammar.specs.Terminal.{Terminal, name, number, mark, is_mark, with_table_name, with_table_number}
+use Rattle.nk_tabgrammar.specs.Spelling.{spell_port, spell_table_declaration, spell_match, spell_set, way_token, spell_bucket, spell_matches, spell_table_row, spell_group, spell_table, spell_text}
+use Rattle.nk_tabgrammar.specs.Machine.{Reading, with_declaration, with_table, with_group, with_table_row, with_table_match, match_of, row_written, table_quad_step, table_link_on, place_step, bucket_done, bucket_on, begin_table_text, begin_row, begin_group, begin_match, next_table_reading, read_table_token, read_table_tokens, first_table_reading, table_text_ended}
 use Rattle.nk_tabgrammar.proofs.Marks.{mark_is}
 
 -- the tokens of a part of a link
@@ -75,8 +75,8 @@ spelled (stage.Declared declaring.Tag) x c = spell_text x ++ mark kind.Tag ∷ [
 spelled (stage.Declared declaring.Switch) x c = spell_text x ++ mark kind.Switch ∷ []
 spelled (stage.Declared (declaring.SwitchNumbered n)) x c = spell_text x ++ mark kind.Switch ∷ number n ∷ []
 spelled (stage.Declared (declaring.FirstPort n)) x c = spell_text x ++ mark kind.Switch ∷ number n ∷ mark kind.Ports ∷ []
-spelled (stage.Declared (declaring.NextPort n p ps)) x c = (spell_text x ++ spell_declaration (declared.Switch n p ps)) ++ mark kind.Comma ∷ []
-spelled (stage.Declared (declaring.PortRead n p ps)) x c = spell_text x ++ spell_declaration (declared.Switch n p ps)
+spelled (stage.Declared (declaring.NextPort n p ps)) x c = (spell_text x ++ spell_table_declaration (declared.Switch n p ps)) ++ mark kind.Comma ∷ []
+spelled (stage.Declared (declaring.PortRead n p ps)) x c = spell_text x ++ spell_table_declaration (declared.Switch n p ps)
 spelled (stage.Declared (declaring.Link q)) x c = spell_text x ++ mark kind.Link ∷ spell_quad q
 spelled stage.Table x c = spell_text x ++ mark kind.Table ∷ []
 spelled stage.Groups x c = within x c
@@ -91,8 +91,8 @@ spelled (stage.InRow (in_row.RowNumbered p)) x c = within x c ++ mark kind.Row �
 spelled (stage.InRow (in_row.Matches p ms)) x c = within x c ++ spell_matches p ms
 spelled (stage.InRow (in_row.MatchNamed p ms w)) x c = (within x c ++ spell_matches p ms) ++ name w ∷ []
 spelled (stage.InRow (in_row.MatchTested p ms w)) x c = (within x c ++ spell_matches p ms) ++ name w ∷ mark kind.Equal ∷ []
-spelled (stage.InRow (in_row.MatchValued p ms w n)) x c = within x c ++ spell_matches p (with_match ms w n None)
-spelled (stage.InRow (in_row.MatchSlashed p ms w n)) x c = (within x c ++ spell_matches p (with_match ms w n None)) ++ mark kind.Slash ∷ []
+spelled (stage.InRow (in_row.MatchValued p ms w n)) x c = within x c ++ spell_matches p (with_table_match ms w n None)
+spelled (stage.InRow (in_row.MatchSlashed p ms w n)) x c = (within x c ++ spell_matches p (with_table_match ms w n None)) ++ mark kind.Slash ∷ []
 spelled (stage.InRow (in_row.Target p ms)) x c = (within x c ++ spell_matches p ms) ++ mark kind.Arrow ∷ []
 spelled (stage.InRow (in_row.TargetGroup p ms)) x c = (within x c ++ spell_matches p ms) ++ mark kind.Arrow ∷ mark kind.Group ∷ []
 
@@ -150,21 +150,21 @@ flat_more f (y ∷ ys) x = ap (λ l. f y ++ l) (flat_more f ys x) ∙ sym (appen
 
 -- a declaration, after a text without tables
 pub declaration_pushed : (x : WrittenTables) (d : Declaration) → x.tables ≡ []
-    → spell_text x ++ spell_declaration d ≡ spell_text (with_declaration x d)
+    → spell_text x ++ spell_table_declaration d ≡ spell_text (with_declaration x d)
 declaration_pushed x d none =
     ap (λ l. mark kind.Tables ∷ number x.version ∷ l)
-    (ap (λ l. (flat_map spell_declaration x.declarations ++ flat_map spell_table l) ++ spell_declaration d) none
-    ∙ ap (λ l. l ++ spell_declaration d) (append-nil (flat_map spell_declaration x.declarations))
-    ∙ sym (flat_more spell_declaration x.declarations d)
-    ∙ sym (append-nil (flat_map spell_declaration (x.declarations ++ d ∷ [])))
-    ∙ ap (λ l. flat_map spell_declaration (x.declarations ++ d ∷ []) ++ flat_map spell_table l) (sym none))
+    (ap (λ l. (flat_map spell_table_declaration x.declarations ++ flat_map spell_table l) ++ spell_table_declaration d) none
+    ∙ ap (λ l. l ++ spell_table_declaration d) (append-nil (flat_map spell_table_declaration x.declarations))
+    ∙ sym (flat_more spell_table_declaration x.declarations d)
+    ∙ sym (append-nil (flat_map spell_table_declaration (x.declarations ++ d ∷ [])))
+    ∙ ap (λ l. flat_map spell_table_declaration (x.declarations ++ d ∷ []) ++ flat_map spell_table l) (sym none))
 
 -- a table
 pub table_pushed : (x : WrittenTables) (c : WrittenTable) → within x c ≡ spell_text (with_table x c)
 table_pushed x c =
     ap (λ l. mark kind.Tables ∷ number x.version ∷ l)
-    (append_assoc (flat_map spell_declaration x.declarations) (flat_map spell_table x.tables) (spell_table c)
-    ∙ ap (λ l. flat_map spell_declaration x.declarations ++ l) (sym (flat_more spell_table x.tables c)))
+    (append_assoc (flat_map spell_table_declaration x.declarations) (flat_map spell_table x.tables) (spell_table c)
+    ∙ ap (λ l. flat_map spell_table_declaration x.declarations ++ l) (sym (flat_more spell_table x.tables c)))
 
 -- a group, in a table without rows
 pub group_pushed : (x : WrittenTables) (c : WrittenTable) (g : WrittenGroup) → c.rows ≡ []
@@ -172,37 +172,37 @@ pub group_pushed : (x : WrittenTables) (c : WrittenTable) (g : WrittenGroup) →
 group_pushed x c g none =
     append_assoc (spell_text x) (spell_table c) (spell_group g)
     ∙ ap (λ l. spell_text x ++ mark kind.Table ∷ number c.switch ∷ l)
-    (ap (λ l. (flat_map spell_group c.groups ++ flat_map spell_row l) ++ spell_group g) none
+    (ap (λ l. (flat_map spell_group c.groups ++ flat_map spell_table_row l) ++ spell_group g) none
     ∙ ap (λ l. l ++ spell_group g) (append-nil (flat_map spell_group c.groups))
     ∙ sym (flat_more spell_group c.groups g)
     ∙ sym (append-nil (flat_map spell_group (c.groups ++ g ∷ [])))
-    ∙ ap (λ l. flat_map spell_group (c.groups ++ g ∷ []) ++ flat_map spell_row l) (sym none))
+    ∙ ap (λ l. flat_map spell_group (c.groups ++ g ∷ []) ++ flat_map spell_table_row l) (sym none))
 
 -- a row
 pub row_pushed : (x : WrittenTables) (c : WrittenTable) (r : WrittenRow)
-    → within x c ++ spell_row r ≡ within x (with_row c r)
+    → within x c ++ spell_table_row r ≡ within x (with_table_row c r)
 row_pushed x c r =
-    append_assoc (spell_text x) (spell_table c) (spell_row r)
+    append_assoc (spell_text x) (spell_table c) (spell_table_row r)
     ∙ ap (λ l. spell_text x ++ mark kind.Table ∷ number c.switch ∷ l)
-    (append_assoc (flat_map spell_group c.groups) (flat_map spell_row c.rows) (spell_row r)
-    ∙ ap (λ l. flat_map spell_group c.groups ++ l) (sym (flat_more spell_row c.rows r)))
+    (append_assoc (flat_map spell_group c.groups) (flat_map spell_table_row c.rows) (spell_table_row r)
+    ∙ ap (λ l. flat_map spell_group c.groups ++ l) (sym (flat_more spell_table_row c.rows r)))
 
 -- a number, a name or a token of a kind may come
 module _ {A : Type 0} (g : A → Option Reading) (t : Terminal) (us : List Terminal) where
   via_number : (other : A) (f : Number → A) → ((n : Number) → Leads (g (f n)) (us ++ number n ∷ []))
-      → Leads (g other) (us ++ t ∷ []) → Leads (g (with_number t other f)) (us ++ t ∷ [])
+      → Leads (g other) (us ++ t ∷ []) → Leads (g (with_table_number t other f)) (us ++ t ∷ [])
   via_number other f e l = by t l
     where
-      by : (t : Terminal) → Leads (g other) (us ++ t ∷ []) → Leads (g (with_number t other f)) (us ++ t ∷ [])
+      by : (t : Terminal) → Leads (g other) (us ++ t ∷ []) → Leads (g (with_table_number t other f)) (us ++ t ∷ [])
       by (name w) l = l
       by (number n) l = e n
       by (mark k) l = l
 
   via_name : (other : A) (f : Ident → A) → ((w : Ident) → Leads (g (f w)) (us ++ name w ∷ []))
-      → Leads (g other) (us ++ t ∷ []) → Leads (g (with_name t other f)) (us ++ t ∷ [])
+      → Leads (g other) (us ++ t ∷ []) → Leads (g (with_table_name t other f)) (us ++ t ∷ [])
   via_name other f e l = by t l
     where
-      by : (t : Terminal) → Leads (g other) (us ++ t ∷ []) → Leads (g (with_name t other f)) (us ++ t ∷ [])
+      by : (t : Terminal) → Leads (g other) (us ++ t ∷ []) → Leads (g (with_table_name t other f)) (us ++ t ∷ [])
       by (name w) l = e w
       by (number n) l = l
       by (mark k) l = l
@@ -220,7 +220,7 @@ abbrev same : Option Reading → Option Reading
 same o = o
 
 -- a declaration or a table begins
-begins : (x : WrittenTables) (c : WrittenTable) (t : Terminal) → x.tables ≡ [] → Leads (begin x c t) (spell_text x ++ t ∷ [])
+begins : (x : WrittenTables) (c : WrittenTable) (t : Terminal) → x.tables ≡ [] → Leads (begin_table_text x c t) (spell_text x ++ t ∷ [])
 begins x c t h =
     via_mark same t (spell_text x) kind.Field _ _ (refl, h)
     (via_mark same t (spell_text x) kind.Tag _ _ (refl, h)
@@ -247,7 +247,7 @@ match_begins x c p ms t =
 
 -- matches and one more, with what stands after them
 match_pushed : (a : List Terminal) (p : Number) (ms : List WrittenMatch) (w : Ident) (n : Number) (l : Option Number) (us : List Terminal)
-    → (a ++ spell_matches p (with_match ms w n l)) ++ us ≡ (a ++ spell_matches p ms) ++ (spell_match (match_of w n l) ++ us)
+    → (a ++ spell_matches p (with_table_match ms w n l)) ++ us ≡ (a ++ spell_matches p ms) ++ (spell_match (match_of w n l) ++ us)
 match_pushed a p ms w n l us =
     ap (λ z. (a ++ mark kind.Row ∷ number p ∷ mark kind.Colon ∷ z) ++ us) (flat_more spell_match ms (match_of w n l))
     ∙ ap (λ z. z ++ us) (sym (append_assoc a (spell_matches p ms) (spell_match (match_of w n l))))
@@ -312,32 +312,32 @@ bucket_leads x c o (place.Left ps e) t h =
 
 -- one more token of a link
 link_leads : (x : WrittenTables) (c : WrittenTable) (q : Quad) (t : Terminal) → x.tables ≡ []
-    → Leads (link_on x c (quad_step q t)) ((spell_text x ++ mark kind.Link ∷ spell_quad q) ++ t ∷ [])
+    → Leads (table_link_on x c (table_quad_step q t)) ((spell_text x ++ mark kind.Link ∷ spell_quad q) ++ t ∷ [])
 link_leads x c quad.Start t h =
-    via_number (link_on x c) t (spell_text x ++ mark kind.Link ∷ spell_quad quad.Start) _ _
+    via_number (table_link_on x c) t (spell_text x ++ mark kind.Link ∷ spell_quad quad.Start) _ _
     (λ a. (append_assoc (spell_text x) (mark kind.Link ∷ spell_quad quad.Start) (number a ∷ []), h)) tt
 link_leads x c (quad.Switch a) t h =
-    via_mark (link_on x c) t (spell_text x ++ mark kind.Link ∷ spell_quad (quad.Switch a)) kind.Colon _ _
+    via_mark (table_link_on x c) t (spell_text x ++ mark kind.Link ∷ spell_quad (quad.Switch a)) kind.Colon _ _
     (append_assoc (spell_text x) (mark kind.Link ∷ spell_quad (quad.Switch a)) (mark kind.Colon ∷ []), h) tt
 link_leads x c (quad.SwitchColon a) t h =
-    via_number (link_on x c) t (spell_text x ++ mark kind.Link ∷ spell_quad (quad.SwitchColon a)) _ _
+    via_number (table_link_on x c) t (spell_text x ++ mark kind.Link ∷ spell_quad (quad.SwitchColon a)) _ _
     (λ m. (append_assoc (spell_text x) (mark kind.Link ∷ spell_quad (quad.SwitchColon a)) (number m ∷ []), h)) tt
 link_leads x c (quad.Port a m) t h =
-    via_mark (link_on x c) t (spell_text x ++ mark kind.Link ∷ spell_quad (quad.Port a m)) kind.Arrow _ _
+    via_mark (table_link_on x c) t (spell_text x ++ mark kind.Link ∷ spell_quad (quad.Port a m)) kind.Arrow _ _
     (append_assoc (spell_text x) (mark kind.Link ∷ spell_quad (quad.Port a m)) (mark kind.Arrow ∷ []), h) tt
 link_leads x c (quad.Arrow a m) t h =
-    via_number (link_on x c) t (spell_text x ++ mark kind.Link ∷ spell_quad (quad.Arrow a m)) _ _
+    via_number (table_link_on x c) t (spell_text x ++ mark kind.Link ∷ spell_quad (quad.Arrow a m)) _ _
     (λ b. (append_assoc (spell_text x) (mark kind.Link ∷ spell_quad (quad.Arrow a m)) (number b ∷ []), h)) tt
 link_leads x c (quad.ToSwitch a m b) t h =
-    via_mark (link_on x c) t (spell_text x ++ mark kind.Link ∷ spell_quad (quad.ToSwitch a m b)) kind.Colon _ _
+    via_mark (table_link_on x c) t (spell_text x ++ mark kind.Link ∷ spell_quad (quad.ToSwitch a m b)) kind.Colon _ _
     (append_assoc (spell_text x) (mark kind.Link ∷ spell_quad (quad.ToSwitch a m b)) (mark kind.Colon ∷ []), h) tt
 link_leads x c (quad.ToColon a m b) t h =
-    via_number (link_on x c) t (spell_text x ++ mark kind.Link ∷ spell_quad (quad.ToColon a m b)) _ _
+    via_number (table_link_on x c) t (spell_text x ++ mark kind.Link ∷ spell_quad (quad.ToColon a m b)) _ _
     (λ n. (append_assoc (spell_text x) (mark kind.Link ∷ spell_quad (quad.ToColon a m b)) (number n ∷ []) ∙ declaration_pushed x (declared.Link a m b n) h, h)) tt
 
 -- one more token
 pub leads : (s : Stage) (x : WrittenTables) (c : WrittenTable) (t : Terminal) → Fits s x c
-    → Leads (next_reading s x c t) (spelled s x c ++ t ∷ [])
+    → Leads (next_table_reading s x c t) (spelled s x c ++ t ∷ [])
 leads stage.Start x c t h = via_mark same t [] kind.Tables _ _ (refl, tt) tt
 leads stage.Version x c t h = via_number same t (mark kind.Tables ∷ []) _ _ (λ n. (refl, refl)) tt
 leads stage.Between x c t h = begins x c t h
@@ -352,16 +352,16 @@ leads (stage.Declared (declaring.SwitchNumbered n)) x c t h =
 leads (stage.Declared (declaring.FirstPort n)) x c t h =
     via_number same t (spell_text x ++ mark kind.Switch ∷ number n ∷ mark kind.Ports ∷ []) _ _ (λ p. (append_assoc (spell_text x) (mark kind.Switch ∷ number n ∷ mark kind.Ports ∷ []) (number p ∷ []), h)) tt
 leads (stage.Declared (declaring.NextPort n p ps)) x c t h =
-    via_number same t ((spell_text x ++ spell_declaration (declared.Switch n p ps)) ++ mark kind.Comma ∷ []) _ _
+    via_number same t ((spell_text x ++ spell_table_declaration (declared.Switch n p ps)) ++ mark kind.Comma ∷ []) _ _
     (λ q. (
-      append_assoc (spell_text x ++ spell_declaration (declared.Switch n p ps)) (mark kind.Comma ∷ []) (number q ∷ [])
-          ∙ append_assoc (spell_text x) (spell_declaration (declared.Switch n p ps)) (mark kind.Comma ∷ number q ∷ [])
+      append_assoc (spell_text x ++ spell_table_declaration (declared.Switch n p ps)) (mark kind.Comma ∷ []) (number q ∷ [])
+          ∙ append_assoc (spell_text x) (spell_table_declaration (declared.Switch n p ps)) (mark kind.Comma ∷ number q ∷ [])
           ∙ ap (λ l. spell_text x ++ mark kind.Switch ∷ number n ∷ mark kind.Ports ∷ number p ∷ l) (sym (flat_more spell_port ps q)),
       h,
     )) tt
 leads (stage.Declared (declaring.PortRead n p ps)) x c t h =
-    via_mark same t (spell_text x ++ spell_declaration (declared.Switch n p ps)) kind.Comma _ _ (refl, h)
-    (subst (λ l. Leads (begin (with_declaration x (declared.Switch n p ps)) c t) (l ++ t ∷ [])) (sym (declaration_pushed x (declared.Switch n p ps) h))
+    via_mark same t (spell_text x ++ spell_table_declaration (declared.Switch n p ps)) kind.Comma _ _ (refl, h)
+    (subst (λ l. Leads (begin_table_text (with_declaration x (declared.Switch n p ps)) c t) (l ++ t ∷ [])) (sym (declaration_pushed x (declared.Switch n p ps) h))
     (begins (with_declaration x (declared.Switch n p ps)) c t h))
 leads (stage.Declared (declaring.Link q)) x c t h = link_leads x c q t h
 leads stage.Table x c t h = via_number same t (spell_text x ++ mark kind.Table ∷ []) _ _ (λ n. (append_assoc (spell_text x) (mark kind.Table ∷ []) (number n ∷ []), refl)) tt
@@ -388,20 +388,20 @@ leads (stage.InRow (in_row.MatchTested p ms w)) x c t h =
     (λ n. (
       append_assoc (within x c ++ spell_matches p ms) (name w ∷ mark kind.Equal ∷ []) (number n ∷ [])
           ∙ sym (match_pushed (within x c) p ms w n None [])
-          ∙ append-nil (within x c ++ spell_matches p (with_match ms w n None)),
+          ∙ append-nil (within x c ++ spell_matches p (with_table_match ms w n None)),
       tt,
     )) tt
 leads (stage.InRow (in_row.MatchValued p ms w n)) x c t h =
-    via_mark same t (within x c ++ spell_matches p (with_match ms w n None)) kind.Slash _ _ (refl, tt)
-    (match_begins x c p (with_match ms w n None) t)
+    via_mark same t (within x c ++ spell_matches p (with_table_match ms w n None)) kind.Slash _ _ (refl, tt)
+    (match_begins x c p (with_table_match ms w n None) t)
 leads (stage.InRow (in_row.MatchSlashed p ms w n)) x c t h =
-    let us = within x c ++ spell_matches p (with_match ms w n None) in
+    let us = within x c ++ spell_matches p (with_table_match ms w n None) in
     via_number same t (us ++ mark kind.Slash ∷ []) _ _
     (λ l. (
       append_assoc us (mark kind.Slash ∷ []) (number l ∷ [])
           ∙ match_pushed (within x c) p ms w n None (mark kind.Slash ∷ number l ∷ [])
           ∙ sym (match_pushed (within x c) p ms w n (Some l) [])
-          ∙ append-nil (within x c ++ spell_matches p (with_match ms w n (Some l))),
+          ∙ append-nil (within x c ++ spell_matches p (with_table_match ms w n (Some l))),
       tt,
     )) tt
 leads (stage.InRow (in_row.Target p ms)) x c t h =
@@ -432,23 +432,23 @@ pub some_same : {A : Type 0} (x y : A) → ◌≡◌ {A = Option A} (Some x) (So
 some_same x y e = cc
 
 -- all tokens
-pub fronts : (us ts : List Terminal) (r r' : Reading) → IsAt ts r → read_all us r ≡ Some r' → IsAt (ts ++ us) r'
+pub fronts : (us ts : List Terminal) (r r' : Reading) → IsAt ts r → read_table_tokens us r ≡ Some r' → IsAt (ts ++ us) r'
 fronts [] ts r r' h e = subst (λ x. IsAt x r') (sym (append-nil ts)) (subst (IsAt ts) (some_same r r' e) h)
 fronts (t ∷ us) ts r r' h e =
-    by_step (read_one r t) (subst (λ l. Leads (read_one r t) (l ++ t ∷ [])) (sym h.0) (leads r.stage r.text r.table t h.1)) e (λ s k f. fronts us (ts ++ t ∷ []) s r' k f)
+    by_step (read_table_token r t) (subst (λ l. Leads (read_table_token r t) (l ++ t ∷ [])) (sym h.0) (leads r.stage r.text r.table t h.1)) e (λ s k f. fronts us (ts ++ t ∷ []) s r' k f)
   where
-    by_step : (o : Option Reading) → Leads o (ts ++ t ∷ []) → option_and_then (read_all us) o ≡ Some r'
-        → ((s : Reading) → IsAt (ts ++ t ∷ []) s → read_all us s ≡ Some r' → IsAt ((ts ++ t ∷ []) ++ us) r')
+    by_step : (o : Option Reading) → Leads o (ts ++ t ∷ []) → option_and_then (read_table_tokens us) o ≡ Some r'
+        → ((s : Reading) → IsAt (ts ++ t ∷ []) s → read_table_tokens us s ≡ Some r' → IsAt ((ts ++ t ∷ []) ++ us) r')
         → IsAt (ts ++ t ∷ us) r'
     by_step None l e go = absurd (none_some r' e)
     by_step (Some s) l e go = subst (λ x. IsAt x r') (append_assoc ts (t ∷ []) us) (go s l e)
 
 -- the tokens of a state that is reached are its front
-pub front_of : (ts : List Terminal) (r : Reading) → read_all ts first_reading ≡ Some r → IsAt ts r
-front_of ts r e = fronts ts [] first_reading r (refl, tt) e
+pub front_of : (ts : List Terminal) (r : Reading) → read_table_tokens ts first_table_reading ≡ Some r → IsAt ts r
+front_of ts r e = fronts ts [] first_table_reading r (refl, tt) e
 
 -- what may end is spelled
-pub ends : (s : Stage) (x : WrittenTables) (c : WrittenTable) (y : WrittenTables) → Fits s x c → text_ended s x c ≡ Some y
+pub ends : (s : Stage) (x : WrittenTables) (c : WrittenTable) (y : WrittenTables) → Fits s x c → table_text_ended s x c ≡ Some y
     → spelled s x c ≡ spell_text y
 ends stage.Between x c y h e = ap spell_text (some_same x y e)
 ends (stage.Declared (declaring.PortRead n p ps)) x c y h e = declaration_pushed x (declared.Switch n p ps) h ∙ ap spell_text (some_same _ y e)

@@ -27,10 +27,10 @@ use Rattle.nk_tabgrammar.specs.declared.states.State.{State}
 use Rattle.nk_tabgrammar.specs.declared.states.State.TheVariants as state
 use Rattle.nk_tabgrammar.specs.declared.states.Tells.{Tells}
 use Rattle.nk_tabgrammar.specs.declared.states.Tells.TheVariants as tells
-use Rattle.nk_tabgrammar.specs.Terminal.{Terminal, name, number, mark, terminal_of}
-use Rattle.nk_tabgrammar.specs.Spelling.{spell_port, spell_declaration, spell_length, spell_match, spell_set, spell_bucket, spell_target, spell_row, spell_group, spell_table, spell_text, way_token}
-use Rattle.nk_tabgrammar.specs.Machine.{Reading, read_all, read_one, first_reading, written_at_end}
-use Rattle.nk_tabgrammar.specs.Answer.{terminals, IsTableParse}
+use Rattle.nk_tabgrammar.specs.Terminal.{Terminal, name, number, mark, table_terminal_of}
+use Rattle.nk_tabgrammar.specs.Spelling.{spell_port, spell_table_declaration, spell_length, spell_match, spell_set, spell_bucket, spell_target, spell_table_row, spell_group, spell_table, spell_text, way_token}
+use Rattle.nk_tabgrammar.specs.Machine.{Reading, read_table_tokens, read_table_token, first_table_reading, written_at_end}
+use Rattle.nk_tabgrammar.specs.Answer.{table_terminals, IsTableParse}
 use Rattle.nk_tabgrammar.specs.States.{MaybeStep, after_token, after_in, at_end, state_of_stage}
 use Rattle.nk_tabgrammar.specs.Telling.{Telling, told_alone, told_by_number, told_by, told_bucket, told_declaration, told_group, told_length, told_match, told_row, told_set, told_table, told_target, told_text, told_way, worded, tellings_from, tellings_of}
 use Rattle.nk_tabgrammar.proofs.Answering.{answers, rest_reads}
@@ -45,24 +45,24 @@ kind_in (name w) = kind.Name
 kind_in (number n) = kind.Number
 kind_in (mark k) = k
 
-kind_of : (t : Token) → kind_in (terminal_of t) ≡ t.kind
+kind_of : (t : Token) → kind_in (table_terminal_of t) ≡ t.kind
 kind_of t = by_kind (λ k t. kind_in t ≡ k) (λ w. refl) (λ n. refl) (λ k _ _. refl) t
 
 abbrev tell_from : List Terminal → State → Option (List Telling)
 tell_from [] s = option_map (λ e. told_by e None) (at_end s)
 tell_from (t ∷ ts) s = option_and_then (λ p. option_map (λ l. told_by p.1 (worded t) ++ l) (tell_from ts p.0)) (after_token s (kind_in t))
 
-same_tellings : (ts : List Token) (s : State) → tellings_from ts s ≡ tell_from (terminals ts) s
+same_tellings : (ts : List Token) (s : State) → tellings_from ts s ≡ tell_from (table_terminals ts) s
 same_tellings [] s = refl
 same_tellings (t ∷ ts) s = by_step (after_token s t.kind) (λ r. same_tellings ts r) ∙ ap (λ k. option_and_then go_on (after_token s k)) (sym (kind_of t))
   where
     go_on : State × Tells → Option (List Telling)
-    go_on p = option_map (λ l. told_by p.1 (worded (terminal_of t)) ++ l) (tell_from (terminals ts) p.0)
+    go_on p = option_map (λ l. told_by p.1 (worded (table_terminal_of t)) ++ l) (tell_from (table_terminals ts) p.0)
 
-    by_step : (o : Option (State × Tells)) → ((r : State) → tellings_from ts r ≡ tell_from (terminals ts) r)
-        → option_and_then (λ p. option_map (λ l. told_by p.1 (worded (terminal_of t)) ++ l) (tellings_from ts p.0)) o ≡ option_and_then go_on o
+    by_step : (o : Option (State × Tells)) → ((r : State) → tellings_from ts r ≡ tell_from (table_terminals ts) r)
+        → option_and_then (λ p. option_map (λ l. told_by p.1 (worded (table_terminal_of t)) ++ l) (tellings_from ts p.0)) o ≡ option_and_then go_on o
     by_step None go = refl
-    by_step (Some p) go = ap (option_map (λ l. told_by p.1 (worded (terminal_of t)) ++ l)) (go p.0)
+    by_step (Some p) go = ap (option_map (λ l. told_by p.1 (worded (table_terminal_of t)) ++ l)) (go p.0)
 
 -- ---- tokens after others
 
@@ -161,7 +161,7 @@ target_tells (target.Group n) =
     next (mark kind.Group) (state.Row row.TargetGroup) tells.Nothing refl (next (number n) state.Rows tells.RowGroup refl (nothing state.Rows))
 target_tells target.Discard = next (mark kind.Drop) state.Rows tells.RowDrop refl (nothing state.Rows)
 
-row_tells : (r : WrittenRow) → Leads (spell_row r) (told_row r) state.Rows state.Rows
+row_tells : (r : WrittenRow) → Leads (spell_table_row r) (told_row r) state.Rows state.Rows
 row_tells r =
     next (mark kind.Row) (state.Row row.Row) tells.Nothing refl
     (next (number r.priority) (state.Row row.Numbered) tells.Row refl
@@ -199,7 +199,7 @@ regroup a e c d = sym (append_assoc (a ++ e ∷ []) c d ∙ append_assoc a (e �
 
 -- rows and further tables
 abbrev rows_tables : List WrittenRow → List WrittenTable → List Terminal
-rows_tables rs ts = flat_map spell_row rs ++ flat_map spell_table ts
+rows_tables rs ts = flat_map spell_table_row rs ++ flat_map spell_table ts
 
 group_ends : (gs : List WrittenGroup) (rs : List WrittenRow) (ts : List WrittenTable)
     → tell_from (flat_map spell_group gs ++ rows_tables rs ts) state.BucketRead
@@ -230,9 +230,9 @@ tables_tell : (ts : List WrittenTable) → tell_from (flat_map spell_table ts) s
 tables_tell [] = refl
 tables_tell (t ∷ ts) =
     ap (λ o. option_map (λ l. [] ++ l) (option_map (λ l. (told_by_number tells.Table t.switch ∷ []) ++ l) o))
-    (ap (λ us. tell_from us state.Groups) (append_assoc (flat_map spell_group t.groups) (flat_map spell_row t.rows) (flat_map spell_table ts))
+    (ap (λ us. tell_from us state.Groups) (append_assoc (flat_map spell_group t.groups) (flat_map spell_table_row t.rows) (flat_map spell_table ts))
     ∙ groups_tell t.groups t.rows ts (flat_map told_row t.rows ++ flat_map told_table ts)
-    (from_groups t.rows ts ∙ (each spell_row told_row state.Rows row_tells t.rows).go (flat_map spell_table ts)
+    (from_groups t.rows ts ∙ (each spell_table_row told_row state.Rows row_tells t.rows).go (flat_map spell_table ts)
     ∙ ap (option_map (λ m. flat_map told_row t.rows ++ m)) (tables_tell ts))
     ∙ ap Some (sym (append_assoc (flat_map told_group t.groups) (flat_map told_row t.rows) (flat_map told_table ts))))
 
@@ -252,14 +252,14 @@ ports_tell (p ∷ ps) =
 abbrev switch_front : Number → Number → List Number → List Telling
 switch_front n p ps = told_by_number tells.Switch n ∷ told_by_number tells.Port p ∷ map (told_by_number tells.Port) ps
 
-switch_tells : (n p : Number) (ps : List Number) → Leads (spell_declaration (declared.Switch n p ps)) (switch_front n p ps) state.Between state.PortRead
+switch_tells : (n p : Number) (ps : List Number) → Leads (spell_table_declaration (declared.Switch n p ps)) (switch_front n p ps) state.Between state.PortRead
 switch_tells n p ps =
     next (mark kind.Switch) state.Switch tells.Nothing refl
     (next (number n) state.SwitchNumbered tells.Switch refl
     (next (mark kind.Ports) state.FirstPort tells.Nothing refl
     (next (number p) state.PortRead tells.Port refl (ports_tell ps))))
 
-link_tells : (a m b n : Number) → Leads (spell_declaration (declared.Link a m b n)) (told_declaration (declared.Link a m b n)) state.Between state.Between
+link_tells : (a m b n : Number) → Leads (spell_table_declaration (declared.Link a m b n)) (told_declaration (declared.Link a m b n)) state.Between state.Between
 link_tells a m b n =
     next (mark kind.Link) (state.Link link.Start) tells.Nothing refl
     (next (number a) (state.Link link.Switch) tells.LinkSwitch refl
@@ -272,7 +272,7 @@ link_tells a m b n =
 
 -- declarations and tables
 abbrev declarations_tables : List Declaration → List WrittenTable → List Terminal
-declarations_tables ds ts = flat_map spell_declaration ds ++ flat_map spell_table ts
+declarations_tables ds ts = flat_map spell_table_declaration ds ++ flat_map spell_table ts
 
 switch_ends : (ds : List Declaration) (ts : List WrittenTable)
     → tell_from (declarations_tables ds ts) state.PortRead
@@ -286,11 +286,11 @@ switch_ends (declared.Link a m b n ∷ ds) ts = ended (told_alone tells.SwitchEn
 
 -- a declaration that is whole with its last token
 declaration_tells : (d : Declaration) (ds : List Declaration) (ts : List WrittenTable)
-    → Leads (spell_declaration d) (told_declaration d) state.Between state.Between
+    → Leads (spell_table_declaration d) (told_declaration d) state.Between state.Between
     → tell_from (declarations_tables ds ts) state.Between ≡ Some (flat_map told_declaration ds ++ flat_map told_table ts)
     → tell_from (declarations_tables (d ∷ ds) ts) state.Between ≡ Some (flat_map told_declaration (d ∷ ds) ++ flat_map told_table ts)
 declaration_tells d ds ts one more =
-    ap (λ us. tell_from us state.Between) (append_assoc (spell_declaration d) (flat_map spell_declaration ds) (flat_map spell_table ts))
+    ap (λ us. tell_from us state.Between) (append_assoc (spell_table_declaration d) (flat_map spell_table_declaration ds) (flat_map spell_table ts))
     ∙ one.go (declarations_tables ds ts) ∙ ap (option_map (λ m. told_declaration d ++ m)) more
     ∙ ap Some (sym (append_assoc (told_declaration d) (flat_map told_declaration ds) (flat_map told_table ts)))
 
@@ -309,7 +309,7 @@ declarations_tell (declared.Tag w ∷ ds) ts =
 declarations_tell (declared.Link a m b n ∷ ds) ts =
     declaration_tells (declared.Link a m b n) ds ts (link_tells a m b n) (declarations_tell ds ts)
 declarations_tell (declared.Switch n p ps ∷ ds) ts =
-    ap (λ us. tell_from us state.Between) (append_assoc (spell_declaration (declared.Switch n p ps)) (flat_map spell_declaration ds) (flat_map spell_table ts))
+    ap (λ us. tell_from us state.Between) (append_assoc (spell_table_declaration (declared.Switch n p ps)) (flat_map spell_table_declaration ds) (flat_map spell_table ts))
     ∙ (switch_tells n p ps).go (declarations_tables ds ts)
     ∙ ap (option_map (λ m. switch_front n p ps ++ m))
     (switch_ends ds ts ∙ ap (option_map (λ m. told_alone tells.SwitchEnds ∷ m)) (declarations_tell ds ts))
@@ -323,7 +323,7 @@ text_tells x =
     (declarations_tell x.declarations x.tables)
 
 -- tokens that spell a text tell what is written
-spelled_tells : (ts : List Token) (x : WrittenTables) → terminals ts ≡ spell_text x → tellings_of ts ≡ Some (told_text x)
+spelled_tells : (ts : List Token) (x : WrittenTables) → table_terminals ts ≡ spell_text x → tellings_of ts ≡ Some (told_text x)
 spelled_tells ts x h = same_tellings ts state.Start ∙ ap (λ us. tell_from us state.Start) h ∙ text_tells x
 
 -- what is told after something is told
@@ -333,7 +333,7 @@ map_some f (Some a) b e = (a, refl)
 
 -- what the states take to an end, the machine takes
 accepts : (ts : List Token) (r : Reading) (s : State) → state_of_stage r.stage ≡ s → (l : List Telling) → tellings_from ts s ≡ Some l
-    → (x : WrittenTables) × (option_and_then written_at_end (read_all (terminals ts) r) ≡ Some x)
+    → (x : WrittenTables) × (option_and_then written_at_end (read_table_tokens (table_terminals ts) r) ≡ Some x)
 accepts [] r s is l e = found (written_at_end r) (at_end s) ((follows r).1 ∙ ap (λ q. is_some (at_end q)) is) e
   where
     found : (o : Option WrittenTables) (q : Option Tells) → is_some o ≡ is_some q → option_map (λ e. told_by e None) q ≡ Some l
@@ -342,28 +342,28 @@ accepts [] r s is l e = found (written_at_end r) (at_end s) ((follows r).1 ∙ a
     found None None a b = absurd (none_some l b)
     found None (Some q) a b = absurd cc
 accepts (t ∷ ts) r s is l e =
-    by_step (read_one r (terminal_of t)) (after_token s t.kind) ((follows r).0 t ∙ ap (λ q. option_map (λ p. p.0) (after_token q t.kind)) is) e
+    by_step (read_table_token r (table_terminal_of t)) (after_token s t.kind) ((follows r).0 t ∙ ap (λ q. option_map (λ p. p.0) (after_token q t.kind)) is) e
     (λ q u same m f. accepts ts q u same m f)
   where
     by_step : (o : Option Reading) (q : MaybeStep) → option_map (λ r. state_of_stage r.stage) o ≡ option_map (λ p. p.0) q
-        → option_and_then (λ p. option_map (λ l. told_by p.1 (worded (terminal_of t)) ++ l) (tellings_from ts p.0)) q ≡ Some l
+        → option_and_then (λ p. option_map (λ l. told_by p.1 (worded (table_terminal_of t)) ++ l) (tellings_from ts p.0)) q ≡ Some l
         → ((r : Reading) (s : State) → state_of_stage r.stage ≡ s → (m : List Telling) → tellings_from ts s ≡ Some m
-        → (x : WrittenTables) × (option_and_then written_at_end (read_all (terminals ts) r) ≡ Some x))
-        → (x : WrittenTables) × (option_and_then written_at_end (option_and_then (read_all (terminals ts)) o) ≡ Some x)
+        → (x : WrittenTables) × (option_and_then written_at_end (read_table_tokens (table_terminals ts) r) ≡ Some x))
+        → (x : WrittenTables) × (option_and_then written_at_end (option_and_then (read_table_tokens (table_terminals ts)) o) ≡ Some x)
     by_step None None a b go = absurd (none_some l b)
     by_step None (Some p) a b go = absurd (none_some p.0 a)
     by_step (Some r) None a b go = absurd (none_some (state_of_stage r.stage) (sym a))
     by_step (Some r) (Some p) a b go =
-        let told = map_some (λ m. told_by p.1 (worded (terminal_of t)) ++ m) (tellings_from ts p.0) l b in
+        let told = map_some (λ m. told_by p.1 (worded (table_terminal_of t)) ++ m) (tellings_from ts p.0) l b in
         go r p.0 (some_same (state_of_stage r.stage) p.0 a) told.0 told.1
 
 -- the states take tokens to an end exactly where they spell a text, and tell what is written
 pub tells_texts : (ts : List Token) (l : List Telling)
-    → (tellings_of ts ≡ Some l) ↔ ((x : WrittenTables) × (terminals ts ≡ spell_text x) × (l ≡ told_text x))
+    → (tellings_of ts ≡ Some l) ↔ ((x : WrittenTables) × (table_terminals ts ≡ spell_text x) × (l ≡ told_text x))
 tells_texts ts l = (there, λ w. spelled_tells ts w.0 w.1 ∙ ap Some (sym w.2))
   where
-    there : tellings_of ts ≡ Some l → (x : WrittenTables) × (terminals ts ≡ spell_text x) × (l ≡ told_text x)
+    there : tellings_of ts ≡ Some l → (x : WrittenTables) × (table_terminals ts ≡ spell_text x) × (l ≡ told_text x)
     there e =
-        let read = accepts ts first_reading state.Start refl l e in
-        let h : terminals ts ≡ spell_text read.0 = subst (IsTableParse ts) (rest_reads ts first_reading 1 read.0 read.1) (answers ts) in
+        let read = accepts ts first_table_reading state.Start refl l e in
+        let h : table_terminals ts ≡ spell_text read.0 = subst (IsTableParse ts) (rest_reads ts first_table_reading 1 read.0 read.1) (answers ts) in
         (read.0, h, some_same l (told_text read.0) (sym e ∙ spelled_tells ts read.0 h))

@@ -32,12 +32,12 @@ abbrev pub spell_port : Number → List Terminal
 spell_port p = mark kind.Comma ∷ number p ∷ []
 
 -- a declaration
-abbrev pub spell_declaration : Declaration → List Terminal
-spell_declaration (declared.Field w n) = mark kind.Field ∷ name w ∷ number n ∷ []
-spell_declaration (declared.Tag w) = mark kind.Tag ∷ name w ∷ []
-spell_declaration (declared.Switch n p ps) =
+abbrev pub spell_table_declaration : Declaration → List Terminal
+spell_table_declaration (declared.Field w n) = mark kind.Field ∷ name w ∷ number n ∷ []
+spell_table_declaration (declared.Tag w) = mark kind.Tag ∷ name w ∷ []
+spell_table_declaration (declared.Switch n p ps) =
     mark kind.Switch ∷ number n ∷ mark kind.Ports ∷ number p ∷ flat_map spell_port ps
-spell_declaration (declared.Link a m b n) =
+spell_table_declaration (declared.Link a m b n) =
     mark kind.Link ∷ number a ∷ mark kind.Colon ∷ number m ∷ mark kind.Arrow ∷ number b ∷ mark kind.Colon ∷ number n ∷ []
 
 -- how many digits of a match's value count, where it is written
@@ -74,8 +74,8 @@ abbrev pub spell_matches : Number → List WrittenMatch → List Terminal
 spell_matches p ms = mark kind.Row ∷ number p ∷ mark kind.Colon ∷ flat_map spell_match ms
 
 -- a row
-abbrev pub spell_row : WrittenRow → List Terminal
-spell_row r = spell_matches r.priority r.matches ++ mark kind.Arrow ∷ spell_target r.target
+abbrev pub spell_table_row : WrittenRow → List Terminal
+spell_table_row r = spell_matches r.priority r.matches ++ mark kind.Arrow ∷ spell_target r.target
 
 -- a group
 abbrev pub spell_group : WrittenGroup → List Terminal
@@ -84,12 +84,12 @@ spell_group g =
 
 -- a table
 abbrev pub spell_table : WrittenTable → List Terminal
-spell_table t = mark kind.Table ∷ number t.switch ∷ (flat_map spell_group t.groups ++ flat_map spell_row t.rows)
+spell_table t = mark kind.Table ∷ number t.switch ∷ (flat_map spell_group t.groups ++ flat_map spell_table_row t.rows)
 
 -- a text
 abbrev pub spell_text : WrittenTables → List Terminal
 spell_text x =
-    mark kind.Tables ∷ number x.version ∷ (flat_map spell_declaration x.declarations ++ flat_map spell_table x.tables)
+    mark kind.Tables ∷ number x.version ∷ (flat_map spell_table_declaration x.declarations ++ flat_map spell_table x.tables)
 
 -- a text goes on with these tokens
 abbrev pub TableTextGoesOn : List Terminal → Type 0

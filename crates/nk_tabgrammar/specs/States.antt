@@ -25,8 +25,8 @@ use Rattle.nk_tabgrammar.specs.declared.stage.Declaring.TheVariants as declaring
 use Rattle.nk_tabgrammar.specs.declared.stage.Grouping.TheVariants as grouping
 use Rattle.nk_tabgrammar.specs.declared.stage.InRow.TheVariants as in_row
 use Rattle.nk_lex.specs.declared.token.Token.{Token}
-use Rattle.nk_tabgrammar.specs.Terminal.{kind_place, terminal_of}
-use Rattle.nk_tabgrammar.specs.Machine.{Reading, read_one, written_at_end}
+use Rattle.nk_tabgrammar.specs.Terminal.{kind_place, table_terminal_of}
+use Rattle.nk_tabgrammar.specs.Machine.{Reading, read_table_token, written_at_end}
 
 -- what may come after a token, and what the token tells; none where no text goes on with it
 abbrev pub MaybeStep : Type 0
@@ -46,8 +46,8 @@ or_else (Some p) other = Some p
 or_else None other = other
 
 -- a declaration or a table begins
-abbrev pub begin : Kind → Tells → MaybeStep
-begin k t =
+abbrev pub begin_state : Kind → Tells → MaybeStep
+begin_state k t =
     or_else (step_if kind.Field k state.Field t)
     (or_else (step_if kind.Tag k state.Tag t)
     (or_else (step_if kind.Switch k state.Switch t)
@@ -62,14 +62,14 @@ abbrev pub begin_group : Kind → Tells → MaybeStep
 begin_group k t = or_else (step_if kind.Group k state.Group t) (begin_row k t)
 
 -- a link
-abbrev pub after_link : LinkState → Kind → MaybeStep
-after_link link.Start k = step_if kind.Number k (state.Link link.Switch) tells.LinkSwitch
-after_link link.Switch k = step_if kind.Colon k (state.Link link.SwitchColon) tells.Nothing
-after_link link.SwitchColon k = step_if kind.Number k (state.Link link.Port) tells.LinkPort
-after_link link.Port k = step_if kind.Arrow k (state.Link link.Arrow) tells.Nothing
-after_link link.Arrow k = step_if kind.Number k (state.Link link.ToSwitch) tells.LinkToSwitch
-after_link link.ToSwitch k = step_if kind.Colon k (state.Link link.ToColon) tells.Nothing
-after_link link.ToColon k = step_if kind.Number k state.Between tells.LinkToPort
+abbrev pub after_table_link : LinkState → Kind → MaybeStep
+after_table_link link.Start k = step_if kind.Number k (state.Link link.Switch) tells.LinkSwitch
+after_table_link link.Switch k = step_if kind.Colon k (state.Link link.SwitchColon) tells.Nothing
+after_table_link link.SwitchColon k = step_if kind.Number k (state.Link link.Port) tells.LinkPort
+after_table_link link.Port k = step_if kind.Arrow k (state.Link link.Arrow) tells.Nothing
+after_table_link link.Arrow k = step_if kind.Number k (state.Link link.ToSwitch) tells.LinkToSwitch
+after_table_link link.ToSwitch k = step_if kind.Colon k (state.Link link.ToColon) tells.Nothing
+after_table_link link.ToColon k = step_if kind.Number k state.Between tells.LinkToPort
 
 -- a bucket, but the bracket that ends it
 abbrev pub after_open : BucketState → Kind → Option (BucketState × Tells)
@@ -134,9 +134,9 @@ after_plain s k = None
 
 -- one more token
 abbrev pub after_token : State → Kind → MaybeStep
-after_token state.Between k = begin k tells.Nothing
-after_token state.PortRead k = or_else (step_if kind.Comma k state.NextPort tells.Nothing) (begin k tells.SwitchEnds)
-after_token (state.Link at) k = after_link at k
+after_token state.Between k = begin_state k tells.Nothing
+after_token state.PortRead k = or_else (step_if kind.Comma k state.NextPort tells.Nothing) (begin_state k tells.SwitchEnds)
+after_token (state.Link at) k = after_table_link at k
 after_token state.Groups k = begin_group k tells.Nothing
 after_token state.BucketRead k =
     or_else (step_if kind.OpenBracket k (state.InGroup bucket.Sets) tells.Nothing) (begin_group k tells.GroupEnds)
@@ -213,5 +213,5 @@ state_of_stage (stage.InRow (in_row.TargetGroup p ms)) = state.Row row.TargetGro
 abbrev pub FollowStages : Type 0
 FollowStages =
     (r : Reading)
-    → ((t : Token) → option_map (λ s. state_of_stage s.stage) (read_one r (terminal_of t)) ≡ option_map (λ p. p.0) (after_token (state_of_stage r.stage) t.kind))
+    → ((t : Token) → option_map (λ s. state_of_stage s.stage) (read_table_token r (table_terminal_of t)) ≡ option_map (λ p. p.0) (after_token (state_of_stage r.stage) t.kind))
     × (is_some (written_at_end r) ≡ is_some (at_end (state_of_stage r.stage)))

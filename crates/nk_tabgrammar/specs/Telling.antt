@@ -22,9 +22,9 @@ use Rattle.nk_tabgrammar.specs.declared.states.State.{State}
 use Rattle.nk_tabgrammar.specs.declared.states.State.TheVariants as state
 use Rattle.nk_tabgrammar.specs.declared.states.Tells.{Tells}
 use Rattle.nk_tabgrammar.specs.declared.states.Tells.TheVariants as tells
-use Rattle.nk_tabgrammar.specs.Terminal.{Terminal, name, number, mark, terminal_of}
+use Rattle.nk_tabgrammar.specs.Terminal.{Terminal, name, number, mark, table_terminal_of}
 use Rattle.nk_tabgrammar.specs.Spelling.{spell_text}
-use Rattle.nk_tabgrammar.specs.Answer.{terminals}
+use Rattle.nk_tabgrammar.specs.Answer.{table_terminals}
 use Rattle.nk_tabgrammar.specs.States.{after_token, at_end}
 
 -- what is told, and the name or number that tells it, where one does
@@ -103,7 +103,7 @@ told_by e t = (e, t) ∷ []
 abbrev pub tellings_from : List Token → State → Option (List Telling)
 tellings_from [] s = option_map (λ e. told_by e None) (at_end s)
 tellings_from (t ∷ ts) s =
-    option_and_then (λ p. option_map (λ l. told_by p.1 (worded (terminal_of t)) ++ l) (tellings_from ts p.0)) (after_token s t.kind)
+    option_and_then (λ p. option_map (λ l. told_by p.1 (worded (table_terminal_of t)) ++ l) (tellings_from ts p.0)) (after_token s t.kind)
 
 abbrev pub tellings_of : List Token → Option (List Telling)
 tellings_of ts = tellings_from ts state.Start
@@ -112,4 +112,4 @@ tellings_of ts = tellings_from ts state.Start
 abbrev pub TellTexts : Type 0
 TellTexts =
     (ts : List Token) (l : List Telling)
-    → (tellings_of ts ≡ Some l) ↔ ((x : WrittenTables) × (terminals ts ≡ spell_text x) × (l ≡ told_text x))
+    → (tellings_of ts ≡ Some l) ↔ ((x : WrittenTables) × (table_terminals ts ≡ spell_text x) × (l ≡ told_text x))

@@ -12,14 +12,14 @@ pub data Terminal : Type 0 where
   mark : Kind → Terminal
 
 -- the terminal of a kind, with the token's line, value and text
-abbrev pub terminal_from : Kind → ℕ → ℕ → List ℕ → Terminal
-terminal_from kind.Name line value text = name (record { text = text; line = line })
-terminal_from kind.Number line value text = number (record { value = value; line = line })
-terminal_from k line value text = mark k
+abbrev pub table_terminal_from : Kind → ℕ → ℕ → List ℕ → Terminal
+table_terminal_from kind.Name line value text = name (record { text = text; line = line })
+table_terminal_from kind.Number line value text = number (record { value = value; line = line })
+table_terminal_from k line value text = mark k
 
 -- the terminal of a token
-abbrev pub terminal_of : Token → Terminal
-terminal_of t = terminal_from t.kind t.line t.value t.text
+abbrev pub table_terminal_of : Token → Terminal
+table_terminal_of t = table_terminal_from t.kind t.line t.value t.text
 
 -- the place of a kind among all kinds
 abbrev pub kind_place : Kind → ℕ
@@ -69,16 +69,16 @@ is_mark k (name w) = false
 is_mark k (number n) = false
 
 -- the name that a token is, if it is one
-abbrev pub name_in : Terminal → Option Ident
-name_in (name w) = Some w
-name_in (number n) = None
-name_in (mark k) = None
+abbrev pub table_name_in : Terminal → Option Ident
+table_name_in (name w) = Some w
+table_name_in (number n) = None
+table_name_in (mark k) = None
 
 -- the number that a token is, if it is one
-abbrev pub number_in : Terminal → Option Number
-number_in (number n) = Some n
-number_in (name w) = None
-number_in (mark k) = None
+abbrev pub table_number_in : Terminal → Option Number
+table_number_in (number n) = Some n
+table_number_in (name w) = None
+table_number_in (mark k) = None
 
 -- by what is there, or the other
 abbrev pub in_case : {A B : Type 0} → Option A → B → (A → B) → B
@@ -86,9 +86,9 @@ in_case (Some x) other f = f x
 in_case None other f = other
 
 -- a name may come
-abbrev pub with_name : {A : Type 0} → Terminal → A → (Ident → A) → A
-with_name t other f = in_case (name_in t) other f
+abbrev pub with_table_name : {A : Type 0} → Terminal → A → (Ident → A) → A
+with_table_name t other f = in_case (table_name_in t) other f
 
 -- a number may come
-abbrev pub with_number : {A : Type 0} → Terminal → A → (Number → A) → A
-with_number t other f = in_case (number_in t) other f
+abbrev pub with_table_number : {A : Type 0} → Terminal → A → (Number → A) → A
+with_table_number t other f = in_case (table_number_in t) other f

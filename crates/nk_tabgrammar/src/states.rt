@@ -1,6 +1,6 @@
 //! What may come next in a text of tables, without what was read, and what a token tells there. Nothing here takes memory.
 ghost use Rattle.std.specs.Prelude.{◌≡◌, Some};
-ghost use Rattle.nk_tabgrammar.specs.States.{after_token, after_in, after_link, after_open, after_plain, after_row, at_end, begin, begin_group, begin_match, begin_row, begin_target};
+ghost use Rattle.nk_tabgrammar.specs.States.{after_token, after_in, after_table_link, after_open, after_plain, after_row, at_end, begin_state, begin_group, begin_match, begin_row, begin_target};
 ghost use Rattle.nk_tabgrammar.specs.declared.states.State.TheVariants as state;
 ghost use Rattle.nk_tabgrammar.specs.declared.states.Tells.TheVariants as tells;
 
@@ -183,7 +183,7 @@ fn silent(state: State) -> Option<Step>
 
 /// A declaration or a table begins, where the token before it ended what stood there, or told nothing.
 fn begin(kind: Kind, tells: Tells) -> Option<Step>
-    ensures { result ≡ begin kind tells }
+    ensures { result ≡ begin_state kind tells }
 {
     match kind {
         Kind::Field => Some((State::Field, tells)),
@@ -218,7 +218,7 @@ fn begin_group(kind: Kind, tells: Tells) -> Option<Step>
 
 /// One more token of a link.
 fn after_link(at: LinkState, kind: Kind) -> Option<Step>
-    ensures { result ≡ after_link at kind }
+    ensures { result ≡ after_table_link at kind }
 {
     match (at, kind) {
         (LinkState::Start, Kind::Number) => {

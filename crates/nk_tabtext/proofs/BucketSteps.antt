@@ -23,8 +23,8 @@ use Rattle.nk_tabgrammar.specs.declared.stage.PlaceNext.TheVariants as then_plac
 use Rattle.nk_tabgrammar.specs.declared.stage.Owner.{Owner}
 use Rattle.nk_tabgrammar.specs.declared.stage.Owner.TheVariants as owner
 use Rattle.nk_tabgrammar.specs.declared.stage.Stage.TheVariants as stage
-use Rattle.nk_tabgrammar.specs.Terminal.{mark, kind_place, terminal_of}
-use Rattle.nk_tabgrammar.specs.Machine.{bucket_done, bucket_on, next_reading, row_written, with_row}
+use Rattle.nk_tabgrammar.specs.Terminal.{mark, kind_place, table_terminal_of}
+use Rattle.nk_tabgrammar.specs.Machine.{bucket_done, bucket_on, next_table_reading, row_written, with_table_row}
 use Rattle.nk_tabgrammar.specs.declared.states.BucketState.{BucketState}
 use Rattle.nk_tabgrammar.specs.declared.states.BucketState.TheVariants as bucket
 use Rattle.nk_tabgrammar.specs.declared.states.State.{State}
@@ -71,9 +71,9 @@ owns_said x c (owner.Row q ms) ss v p h = h.0.said
 -- ---- assignments
 
 step_sets : (x : WrittenTables) (c : WrittenTable) (o : Owner) (ps : List Pair) (k : KnownValue) (t : Token) → Fits (stage.InBucket o (place.Sets ps)) x c k
-    → Both (Follows k t) (next_reading (stage.InBucket o (place.Sets ps)) x c (terminal_of t)) (after_bucket o bucket.Sets t.kind)
+    → Both (Follows k t) (next_table_reading (stage.InBucket o (place.Sets ps)) x c (table_terminal_of t)) (after_bucket o bucket.Sets t.kind)
 step_sets x c o ps k t h =
-    by_token (Follows k t) (next_reading (stage.InBucket o (place.Sets ps)) x c) (after_bucket o bucket.Sets) t (
+    by_token (Follows k t) (next_table_reading (stage.InBucket o (place.Sets ps)) x c) (after_bucket o bucket.Sets) t (
       refl,
       (
         h.0,
@@ -91,24 +91,24 @@ step_sets x c o ps k t h =
       ),
     )
     tt
-    (λ l m. none_through (Follows k t) (λ z. option_map (at_part o) z) (kind_place kind.Name == kind_place l) (next_reading (stage.InBucket o (place.Sets ps)) x c (mark l))
+    (λ l m. none_through (Follows k t) (λ z. option_map (at_part o) z) (kind_place kind.Name == kind_place l) (next_table_reading (stage.InBucket o (place.Sets ps)) x c (mark l))
     (Some (bucket.Named, tells.SetName)) (if kind_place kind.Out == kind_place l then Some (bucket.Out, tells.Nothing) else None) m.named
     (both_through (Follows k t) (bucket_on x c o) (λ z. option_map (at_part o) z) (kind_place kind.Out == kind_place l) (then_place.Going (place.Out ps)) then_place.Refused
     (Some (bucket.Out, tells.Nothing)) None
     (refl, (h.0, gives_still (assigned_so x c o ps) (λ v p. Owns x c o v.sets v p) (λ v p. Owns x c o v.sets v p) k t (λ v p d. d) h.1)) tt))
 
 step_named : (x : WrittenTables) (c : WrittenTable) (o : Owner) (ps : List Pair) (w : Ident) (k : KnownValue) (t : Token) → Fits (stage.InBucket o (place.Named ps w)) x c k
-    → Both (Follows k t) (next_reading (stage.InBucket o (place.Named ps w)) x c (terminal_of t)) (after_bucket o bucket.Named t.kind)
+    → Both (Follows k t) (next_table_reading (stage.InBucket o (place.Named ps w)) x c (table_terminal_of t)) (after_bucket o bucket.Named t.kind)
 step_named x c o ps w k t h =
-    by_token (Follows k t) (next_reading (stage.InBucket o (place.Named ps w)) x c) (after_bucket o bucket.Named) t tt tt
+    by_token (Follows k t) (next_table_reading (stage.InBucket o (place.Named ps w)) x c) (after_bucket o bucket.Named) t tt tt
     (λ l m. both_through (Follows k t) (bucket_on x c o) (λ z. option_map (at_part o) z) (kind_place kind.Assign == kind_place l) (then_place.Going (place.Assigned ps w)) then_place.Refused
     (Some (bucket.Assigned, tells.Nothing)) None
     (refl, (h.0, gives_still (named_so x c o ps w) (λ v p. Owns x c o v.sets v p × IsField w v p) (λ v p. Owns x c o v.sets v p × IsField w v p) k t (λ v p d. d) h.1)) tt)
 
 step_assigned : (x : WrittenTables) (c : WrittenTable) (o : Owner) (ps : List Pair) (w : Ident) (k : KnownValue) (t : Token) → Fits (stage.InBucket o (place.Assigned ps w)) x c k
-    → Both (Follows k t) (next_reading (stage.InBucket o (place.Assigned ps w)) x c (terminal_of t)) (after_bucket o bucket.Assigned t.kind)
+    → Both (Follows k t) (next_table_reading (stage.InBucket o (place.Assigned ps w)) x c (table_terminal_of t)) (after_bucket o bucket.Assigned t.kind)
 step_assigned x c o ps w k t h =
-    by_token (Follows k t) (next_reading (stage.InBucket o (place.Assigned ps w)) x c) (after_bucket o bucket.Assigned) t tt (
+    by_token (Follows k t) (next_table_reading (stage.InBucket o (place.Assigned ps w)) x c) (after_bucket o bucket.Assigned) t tt (
       refl,
       (
         h.0,
@@ -128,9 +128,9 @@ step_assigned x c o ps w k t h =
 -- ---- the exit
 
 step_out : (x : WrittenTables) (c : WrittenTable) (o : Owner) (ps : List Pair) (k : KnownValue) (t : Token) → Fits (stage.InBucket o (place.Out ps)) x c k
-    → Both (Follows k t) (next_reading (stage.InBucket o (place.Out ps)) x c (terminal_of t)) (after_bucket o bucket.Out t.kind)
+    → Both (Follows k t) (next_table_reading (stage.InBucket o (place.Out ps)) x c (table_terminal_of t)) (after_bucket o bucket.Out t.kind)
 step_out x c o ps k t h =
-    by_token (Follows k t) (next_reading (stage.InBucket o (place.Out ps)) x c) (after_bucket o bucket.Out) t tt (
+    by_token (Follows k t) (next_table_reading (stage.InBucket o (place.Out ps)) x c) (after_bucket o bucket.Out) t tt (
       refl,
       (
         h.0,
@@ -142,7 +142,7 @@ step_out x c o ps k t h =
             (owns_still x c o v.sets v.sets (exit.Port t.value) v p (record p.filling { exit = exit.Port t.value }) d (record { switch = refl; groups = refl; rows = refl; number = refl; buckets = refl; priority = refl; matches = refl }) (owns_sets x c o v.sets v p d), refl)) h.1,
       ),
     )
-    (λ l m. none_through (Follows k t) (λ z. option_map (at_part o) z) (kind_place kind.Number == kind_place l) (next_reading (stage.InBucket o (place.Out ps)) x c (mark l))
+    (λ l m. none_through (Follows k t) (λ z. option_map (at_part o) z) (kind_place kind.Number == kind_place l) (next_table_reading (stage.InBucket o (place.Out ps)) x c (mark l))
     (Some (bucket.Left, tells.OutPort)) (if kind_place kind.In == kind_place l then Some (bucket.Left, tells.OutBack) else None) m.numbered
     (both_through (Follows k t) (bucket_on x c o) (λ z. option_map (at_part o) z) (kind_place kind.In == kind_place l) (then_place.Going (place.Left ps way.Back)) then_place.Refused
     (Some (bucket.Left, tells.OutBack)) None (
@@ -199,12 +199,12 @@ bucket_whole x c (owner.Next g) ps e k t h = (
 )
 bucket_whole x c (owner.Row q ms) ps e k t h = (
   refl,
-  gives_on (left_so x c (owner.Row q ms) ps e) (rowed_so x (with_row c (row_written q ms (target.Bucket (record { sets = ps; way = e })))))
+  gives_on (left_so x c (owner.Row q ms) ps e) (rowed_so x (with_table_row c (row_written q ms (target.Bucket (record { sets = ps; way = e })))))
       (λ v. Ok (so_far v.said v.tables v.groups (v.rows ++ row_with q v.matches (does.Bucket (bucket_with v.sets v.out)) ∷ []) [] []))
-      (λ v p. Owns x c (owner.Row q ms) v.sets v p × (p.filling.exit ≡ v.out)) (Rows x (with_row c (row_written q ms (target.Bucket (record { sets = ps; way = e })))))
+      (λ v p. Owns x c (owner.Row q ms) v.sets v p × (p.filling.exit ≡ v.out)) (Rows x (with_table_row c (row_written q ms (target.Bucket (record { sets = ps; way = e })))))
       k tells.RowBucket t (row_more_bucket x c q ms ps e)
       (λ v p d. (
-        opens_still x c (with_row c (row_written q ms (target.Bucket (record { sets = ps; way = e })))) v.rows (v.rows ++ row_with q v.matches (does.Bucket (bucket_with v.sets v.out)) ∷ []) v
+        opens_still x c (with_table_row c (row_written q ms (target.Bucket (record { sets = ps; way = e })))) v.rows (v.rows ++ row_with q v.matches (does.Bucket (bucket_with v.sets v.out)) ∷ []) v
             (so_far v.said v.tables v.groups (v.rows ++ row_with q v.matches (does.Bucket (bucket_with v.sets v.out)) ∷ []) [] []) p (row_bucket_told p.filling) d.0.0 refl refl refl refl d.0.0.groups
             (rows_same v.rows q.value v.matches (does.Bucket (bucket_with v.sets v.out)) p.filling (does.Bucket (bucket_with p.filling.sets p.filling.exit)) d.0.0.rows d.0.2 d.0.1.matches
             (ap (λ y. does.Bucket y) (bucket_same v.sets v.out p.filling d.0.1.sets d.1))),
@@ -213,16 +213,16 @@ bucket_whole x c (owner.Row q ms) ps e k t h = (
 )
 
 step_left : (x : WrittenTables) (c : WrittenTable) (o : Owner) (ps : List Pair) (e : Way) (k : KnownValue) (t : Token) → Fits (stage.InBucket o (place.Left ps e)) x c k
-    → Both (Follows k t) (next_reading (stage.InBucket o (place.Left ps e)) x c (terminal_of t)) (after_bucket o bucket.Left t.kind)
+    → Both (Follows k t) (next_table_reading (stage.InBucket o (place.Left ps e)) x c (table_terminal_of t)) (after_bucket o bucket.Left t.kind)
 step_left x c o ps e k t h =
-    by_token (Follows k t) (next_reading (stage.InBucket o (place.Left ps e)) x c) (after_bucket o bucket.Left) t tt tt
+    by_token (Follows k t) (next_table_reading (stage.InBucket o (place.Left ps e)) x c) (after_bucket o bucket.Left) t tt tt
     (λ l m. both_through (Follows k t) (bucket_on x c o) (λ z. or_else z None) (kind_place kind.CloseBracket == kind_place l) (then_place.Full (record { sets = ps; way = e })) then_place.Refused
     (Some (whole_of o, tells_of o)) None (bucket_whole x c o ps e k t h) tt)
 
 -- ---- all of it
 
 step_in : (x : WrittenTables) (c : WrittenTable) (o : Owner) (l : Place) (k : KnownValue) (t : Token) → Fits (stage.InBucket o l) x c k
-    → Both (Follows k t) (next_reading (stage.InBucket o l) x c (terminal_of t)) (after_bucket o (bucket_state l) t.kind)
+    → Both (Follows k t) (next_table_reading (stage.InBucket o l) x c (table_terminal_of t)) (after_bucket o (bucket_state l) t.kind)
 step_in x c o (place.Sets ps) k t h = step_sets x c o ps k t h
 step_in x c o (place.Named ps w) k t h = step_named x c o ps w k t h
 step_in x c o (place.Assigned ps w) k t h = step_assigned x c o ps w k t h
@@ -230,6 +230,6 @@ step_in x c o (place.Out ps) k t h = step_out x c o ps k t h
 step_in x c o (place.Left ps e) k t h = step_left x c o ps e k t h
 
 pub step_bucket : (x : WrittenTables) (c : WrittenTable) (o : Owner) (l : Place) (k : KnownValue) (t : Token) → Fits (stage.InBucket o l) x c k
-    → Both (Follows k t) (next_reading (stage.InBucket o l) x c (terminal_of t)) (after_token (state_of_stage (stage.InBucket o l)) t.kind)
+    → Both (Follows k t) (next_table_reading (stage.InBucket o l) x c (table_terminal_of t)) (after_token (state_of_stage (stage.InBucket o l)) t.kind)
 step_bucket x c o l k t h =
-    subst (λ z. Both (Follows k t) (next_reading (stage.InBucket o l) x c (terminal_of t)) z) (sym (is_after o (bucket_state l) t.kind)) (step_in x c o l k t h)
+    subst (λ z. Both (Follows k t) (next_table_reading (stage.InBucket o l) x c (table_terminal_of t)) z) (sym (is_after o (bucket_state l) t.kind)) (step_in x c o l k t h)

@@ -25,8 +25,8 @@ use Rattle.nk_tabgrammar.specs.declared.stage.Quad.TheVariants as quad
 use Rattle.nk_tabgrammar.specs.declared.stage.QuadNext.TheVariants as next
 use Rattle.nk_tabgrammar.specs.declared.stage.Stage.TheVariants as stage
 use Rattle.nk_tabgrammar.specs.declared.stage.Declaring.TheVariants as declaring
-use Rattle.nk_tabgrammar.specs.Terminal.{mark, kind_place, terminal_of}
-use Rattle.nk_tabgrammar.specs.Machine.{begin, link_on, next_reading, opened, reading, with_declaration}
+use Rattle.nk_tabgrammar.specs.Terminal.{mark, kind_place, table_terminal_of}
+use Rattle.nk_tabgrammar.specs.Machine.{begin_table_text, table_link_on, next_table_reading, opened, table_reading, with_declaration}
 use Rattle.nk_tabgrammar.specs.declared.states.LinkState.TheVariants as link
 use Rattle.nk_tabgrammar.specs.declared.states.State.{State}
 use Rattle.nk_tabgrammar.specs.declared.states.State.TheVariants as state
@@ -124,30 +124,30 @@ then_ok (Err e) = refl
 
 -- a declaration begins, or the first table
 begins : (x : WrittenTables) (c : WrittenTable) (k : KnownValue) (tl : Tells) (t : Token) (l : Kind) → Fits stage.Between x c (known_after k tl t)
-    → Both (Follows k t) (begin x c (mark l)) (states.begin l tl)
+    → Both (Follows k t) (begin_table_text x c (mark l)) (states.begin_state l tl)
 begins x c k tl t l h =
-    both_if (Follows k t) (kind_place kind.Field == kind_place l) (reading (stage.Declared declaring.Field) x c) (state.Field, tl) _ _ (refl, h)
-    (both_if (Follows k t) (kind_place kind.Tag == kind_place l) (reading (stage.Declared declaring.Tag) x c) (state.Tag, tl) _ _ (refl, h)
-    (both_if (Follows k t) (kind_place kind.Switch == kind_place l) (reading (stage.Declared declaring.Switch) x c) (state.Switch, tl) _ _ (refl, h)
-    (both_if (Follows k t) (kind_place kind.Link == kind_place l) (reading (stage.Declared (declaring.Link quad.Start)) x c) (state.Link link.Start, tl) _ _
+    both_if (Follows k t) (kind_place kind.Field == kind_place l) (table_reading (stage.Declared declaring.Field) x c) (state.Field, tl) _ _ (refl, h)
+    (both_if (Follows k t) (kind_place kind.Tag == kind_place l) (table_reading (stage.Declared declaring.Tag) x c) (state.Tag, tl) _ _ (refl, h)
+    (both_if (Follows k t) (kind_place kind.Switch == kind_place l) (table_reading (stage.Declared declaring.Switch) x c) (state.Switch, tl) _ _ (refl, h)
+    (both_if (Follows k t) (kind_place kind.Link == kind_place l) (table_reading (stage.Declared (declaring.Link quad.Start)) x c) (state.Link link.Start, tl) _ _
     (refl, (h.0, gives_with (declared_so x) (Declares x) (λ v p. Declares x v p × Linked quad.Start p.declaring) (known_after k tl t) (λ v p d. (d, tt)) h.1))
-    (both_last (Follows k t) (kind_place kind.Table == kind_place l) (reading stage.Table x c) (state.Table, tl) (
+    (both_last (Follows k t) (kind_place kind.Table == kind_place l) (table_reading stage.Table x c) (state.Table, tl) (
       refl,
       gives_more (declared_so x) (tabled_so x) (λ v. so_far v.said [] [] [] [] []) (Declares x) (λ v p. Closes x v.tables v p) (known_after k tl t)
           (no_table_more x h.0) (λ v p d. record { version = d.version; said = d.said; tables = d.tables; parts = d.parts }) h.1,
     )))))
 
 pub step_start : (x : WrittenTables) (c : WrittenTable) (k : KnownValue) (t : Token) → Fits stage.Start x c k
-    → Both (Follows k t) (next_reading stage.Start x c (terminal_of t)) (after_token state.Start t.kind)
+    → Both (Follows k t) (next_table_reading stage.Start x c (table_terminal_of t)) (after_token state.Start t.kind)
 step_start x c k t h =
-    by_token (Follows k t) (next_reading stage.Start x c) (after_token state.Start) t tt tt
-    (λ l m. both_last (Follows k t) (kind_place kind.Tables == kind_place l) (reading stage.Version x c) (state.Version, tells.Nothing)
+    by_token (Follows k t) (next_table_reading stage.Start x c) (after_token state.Start) t tt tt
+    (λ l m. both_last (Follows k t) (kind_place kind.Tables == kind_place l) (table_reading stage.Version x c) (state.Version, tells.Nothing)
     (refl, ap (λ a. known_after a tells.Nothing t) h))
 
 pub step_version : (x : WrittenTables) (c : WrittenTable) (k : KnownValue) (t : Token) → Fits stage.Version x c k
-    → Both (Follows k t) (next_reading stage.Version x c (terminal_of t)) (after_token state.Version t.kind)
+    → Both (Follows k t) (next_table_reading stage.Version x c (table_terminal_of t)) (after_token state.Version t.kind)
 step_version x c k t h =
-    by_token (Follows k t) (next_reading stage.Version x c) (after_token state.Version) t tt (
+    by_token (Follows k t) (next_table_reading stage.Version x c) (after_token state.Version) t tt (
       refl,
       (
         refl,
@@ -159,17 +159,17 @@ step_version x c k t h =
     (λ l m. none_if (Follows k t) _ _ m.numbered)
 
 pub step_between : (x : WrittenTables) (c : WrittenTable) (k : KnownValue) (t : Token) → Fits stage.Between x c k
-    → Both (Follows k t) (next_reading stage.Between x c (terminal_of t)) (after_token state.Between t.kind)
+    → Both (Follows k t) (next_table_reading stage.Between x c (table_terminal_of t)) (after_token state.Between t.kind)
 step_between x c k t h =
-    by_token (Follows k t) (next_reading stage.Between x c) (after_token state.Between) t tt tt
+    by_token (Follows k t) (next_table_reading stage.Between x c) (after_token state.Between) t tt tt
     (λ l m. begins x c k tells.Nothing t l (h.0, gives_still (declared_so x) (Declares x) (Declares x) k t (λ v p d. d) h.1))
 
 -- ---- fields and the tag
 
 pub step_field : (x : WrittenTables) (c : WrittenTable) (k : KnownValue) (t : Token) → Fits (stage.Declared declaring.Field) x c k
-    → Both (Follows k t) (next_reading (stage.Declared declaring.Field) x c (terminal_of t)) (after_token state.Field t.kind)
+    → Both (Follows k t) (next_table_reading (stage.Declared declaring.Field) x c (table_terminal_of t)) (after_token state.Field t.kind)
 step_field x c k t h =
-    by_token (Follows k t) (next_reading (stage.Declared declaring.Field) x c) (after_token state.Field) t (
+    by_token (Follows k t) (next_table_reading (stage.Declared declaring.Field) x c) (after_token state.Field) t (
       refl,
       (
         h.0,
@@ -180,9 +180,9 @@ step_field x c k t h =
     tt (λ l m. none_if (Follows k t) _ _ m.named)
 
 pub step_named : (x : WrittenTables) (c : WrittenTable) (w : Ident) (k : KnownValue) (t : Token) → Fits (stage.Declared (declaring.FieldNamed w)) x c k
-    → Both (Follows k t) (next_reading (stage.Declared (declaring.FieldNamed w)) x c (terminal_of t)) (after_token state.FieldNamed t.kind)
+    → Both (Follows k t) (next_table_reading (stage.Declared (declaring.FieldNamed w)) x c (table_terminal_of t)) (after_token state.FieldNamed t.kind)
 step_named x c w k t h =
-    by_token (Follows k t) (next_reading (stage.Declared (declaring.FieldNamed w)) x c) (after_token state.FieldNamed) t tt (
+    by_token (Follows k t) (next_table_reading (stage.Declared (declaring.FieldNamed w)) x c) (after_token state.FieldNamed) t tt (
       refl,
       (
         h.0,
@@ -197,9 +197,9 @@ step_named x c w k t h =
     (λ l m. none_if (Follows k t) _ _ m.numbered)
 
 pub step_tag : (x : WrittenTables) (c : WrittenTable) (k : KnownValue) (t : Token) → Fits (stage.Declared declaring.Tag) x c k
-    → Both (Follows k t) (next_reading (stage.Declared declaring.Tag) x c (terminal_of t)) (after_token state.Tag t.kind)
+    → Both (Follows k t) (next_table_reading (stage.Declared declaring.Tag) x c (table_terminal_of t)) (after_token state.Tag t.kind)
 step_tag x c k t h =
-    by_token (Follows k t) (next_reading (stage.Declared declaring.Tag) x c) (after_token state.Tag) t (
+    by_token (Follows k t) (next_table_reading (stage.Declared declaring.Tag) x c) (after_token state.Tag) t (
       refl,
       (
         h.0,
@@ -224,9 +224,9 @@ new_switch topo n e = by (is_switch topo n.value) ((none_both (above 65535 n) (f
     by false q = refl
 
 pub step_switch : (x : WrittenTables) (c : WrittenTable) (k : KnownValue) (t : Token) → Fits (stage.Declared declaring.Switch) x c k
-    → Both (Follows k t) (next_reading (stage.Declared declaring.Switch) x c (terminal_of t)) (after_token state.Switch t.kind)
+    → Both (Follows k t) (next_table_reading (stage.Declared declaring.Switch) x c (table_terminal_of t)) (after_token state.Switch t.kind)
 step_switch x c k t h =
-    by_token (Follows k t) (next_reading (stage.Declared declaring.Switch) x c) (after_token state.Switch) t tt (
+    by_token (Follows k t) (next_table_reading (stage.Declared declaring.Switch) x c) (after_token state.Switch) t tt (
       refl,
       (
         h.0,
@@ -239,10 +239,10 @@ step_switch x c k t h =
     (λ l m. none_if (Follows k t) _ _ m.numbered)
 
 pub step_numbered : (x : WrittenTables) (c : WrittenTable) (n : Number) (k : KnownValue) (t : Token) → Fits (stage.Declared (declaring.SwitchNumbered n)) x c k
-    → Both (Follows k t) (next_reading (stage.Declared (declaring.SwitchNumbered n)) x c (terminal_of t)) (after_token state.SwitchNumbered t.kind)
+    → Both (Follows k t) (next_table_reading (stage.Declared (declaring.SwitchNumbered n)) x c (table_terminal_of t)) (after_token state.SwitchNumbered t.kind)
 step_numbered x c n k t h =
-    by_token (Follows k t) (next_reading (stage.Declared (declaring.SwitchNumbered n)) x c) (after_token state.SwitchNumbered) t tt tt
-    (λ l m. both_last (Follows k t) (kind_place kind.Ports == kind_place l) (reading (stage.Declared (declaring.FirstPort n)) x c) (state.FirstPort, tells.Nothing)
+    by_token (Follows k t) (next_table_reading (stage.Declared (declaring.SwitchNumbered n)) x c) (after_token state.SwitchNumbered) t tt tt
+    (λ l m. both_last (Follows k t) (kind_place kind.Ports == kind_place l) (table_reading (stage.Declared (declaring.FirstPort n)) x c) (state.FirstPort, tells.Nothing)
     (refl, (h.0, gives_still (switch_so x n) (Ported x n []) (Ported x n []) k t (λ v p d. d) h.1)))
 
 -- one more port
@@ -284,9 +284,9 @@ port_gives x n ps v p t d =
     (λ e. (same_declares x v p (record p.declaring { ports = p.declaring.ports ++ t.value ∷ [] }) d.0 refl, d.1, ap (λ l. l ++ t.value ∷ []) d.2, d.3))
 
 pub step_first_port : (x : WrittenTables) (c : WrittenTable) (n : Number) (k : KnownValue) (t : Token) → Fits (stage.Declared (declaring.FirstPort n)) x c k
-    → Both (Follows k t) (next_reading (stage.Declared (declaring.FirstPort n)) x c (terminal_of t)) (after_token state.FirstPort t.kind)
+    → Both (Follows k t) (next_table_reading (stage.Declared (declaring.FirstPort n)) x c (table_terminal_of t)) (after_token state.FirstPort t.kind)
 step_first_port x c n k t h =
-    by_token (Follows k t) (next_reading (stage.Declared (declaring.FirstPort n)) x c) (after_token state.FirstPort) t tt (
+    by_token (Follows k t) (next_table_reading (stage.Declared (declaring.FirstPort n)) x c) (after_token state.FirstPort) t tt (
       refl,
       (
         h.0,
@@ -297,9 +297,9 @@ step_first_port x c n k t h =
     (λ l m. none_if (Follows k t) _ _ m.numbered)
 
 pub step_next_port : (x : WrittenTables) (c : WrittenTable) (n q : Number) (qs : List Number) (k : KnownValue) (t : Token) → Fits (stage.Declared (declaring.NextPort n q qs)) x c k
-    → Both (Follows k t) (next_reading (stage.Declared (declaring.NextPort n q qs)) x c (terminal_of t)) (after_token state.NextPort t.kind)
+    → Both (Follows k t) (next_table_reading (stage.Declared (declaring.NextPort n q qs)) x c (table_terminal_of t)) (after_token state.NextPort t.kind)
 step_next_port x c n q qs k t h =
-    by_token (Follows k t) (next_reading (stage.Declared (declaring.NextPort n q qs)) x c) (after_token state.NextPort) t tt (
+    by_token (Follows k t) (next_table_reading (stage.Declared (declaring.NextPort n q qs)) x c) (after_token state.NextPort) t tt (
       refl,
       (
         h.0,
@@ -349,10 +349,10 @@ switch_ends x n q qs v p d = record {
 }
 
 pub step_port : (x : WrittenTables) (c : WrittenTable) (n q : Number) (qs : List Number) (k : KnownValue) (t : Token) → Fits (stage.Declared (declaring.PortRead n q qs)) x c k
-    → Both (Follows k t) (next_reading (stage.Declared (declaring.PortRead n q qs)) x c (terminal_of t)) (after_token state.PortRead t.kind)
+    → Both (Follows k t) (next_table_reading (stage.Declared (declaring.PortRead n q qs)) x c (table_terminal_of t)) (after_token state.PortRead t.kind)
 step_port x c n q qs k t h =
-    by_token (Follows k t) (next_reading (stage.Declared (declaring.PortRead n q qs)) x c) (after_token state.PortRead) t tt tt
-    (λ l m. both_if (Follows k t) (kind_place kind.Comma == kind_place l) (reading (stage.Declared (declaring.NextPort n q qs)) x c) (state.NextPort, tells.Nothing) _ _
+    by_token (Follows k t) (next_table_reading (stage.Declared (declaring.PortRead n q qs)) x c) (after_token state.PortRead) t tt tt
+    (λ l m. both_if (Follows k t) (kind_place kind.Comma == kind_place l) (table_reading (stage.Declared (declaring.NextPort n q qs)) x c) (state.NextPort, tells.Nothing) _ _
     (refl, (h.0, gives_still (ports_so x n (q ∷ qs)) (Ported x n (values_of (q ∷ qs))) (Ported x n (values_of (q ∷ qs))) k t (λ v p d. d) h.1))
     (begins (with_declaration x (declared.Switch n q qs)) c k tells.SwitchEnds t l (
       h.0,
@@ -368,15 +368,15 @@ Links x q v p = Declares x v p × Linked q p.declaring
 -- a link goes on without a number
 link_goes : (x : WrittenTables) (c : WrittenTable) (q r : Quad) (b : Bool) (st : State) (k : KnownValue) (t : Token)
     → st ≡ state_of_stage (stage.Declared (declaring.Link r)) → ((d : DeclaringValue) → Linked q d → Linked r d) → Fits (stage.Declared (declaring.Link q)) x c k
-    → Both (Follows k t) (link_on x c (if b then next.Going r else next.Refused)) (if b then Some (st, tells.Nothing) else None)
+    → Both (Follows k t) (table_link_on x c (if b then next.Going r else next.Refused)) (if b then Some (st, tells.Nothing) else None)
 link_goes x c q r b st k t e step h =
-    both_through (Follows k t) (link_on x c) (λ (z : MaybeStep). z) b (next.Going r) next.Refused (Some (st, tells.Nothing)) None
+    both_through (Follows k t) (table_link_on x c) (λ (z : MaybeStep). z) b (next.Going r) next.Refused (Some (st, tells.Nothing)) None
     (e, (h.0, gives_still (declared_so x) (Links x q) (Links x r) k t (λ v p d. (d.0, step p.declaring d.1)) h.1)) tt
 
 pub step_link : (x : WrittenTables) (c : WrittenTable) (q : Quad) (k : KnownValue) (t : Token) → Fits (stage.Declared (declaring.Link q)) x c k
-    → Both (Follows k t) (next_reading (stage.Declared (declaring.Link q)) x c (terminal_of t)) (after_token (state_of_stage (stage.Declared (declaring.Link q))) t.kind)
+    → Both (Follows k t) (next_table_reading (stage.Declared (declaring.Link q)) x c (table_terminal_of t)) (after_token (state_of_stage (stage.Declared (declaring.Link q))) t.kind)
 step_link x c quad.Start k t h =
-    by_token (Follows k t) (next_reading (stage.Declared (declaring.Link quad.Start)) x c) (after_token (state.Link link.Start)) t tt (
+    by_token (Follows k t) (next_table_reading (stage.Declared (declaring.Link quad.Start)) x c) (after_token (state.Link link.Start)) t tt (
       refl,
       (
         h.0,
@@ -386,10 +386,10 @@ step_link x c quad.Start k t h =
     )
     (λ l m. none_if (Follows k t) _ _ m.numbered)
 step_link x c (quad.Switch a) k t h =
-    by_token (Follows k t) (next_reading (stage.Declared (declaring.Link (quad.Switch a))) x c) (after_token (state.Link link.Switch)) t tt tt
+    by_token (Follows k t) (next_table_reading (stage.Declared (declaring.Link (quad.Switch a))) x c) (after_token (state.Link link.Switch)) t tt tt
     (λ l m. link_goes x c (quad.Switch a) (quad.SwitchColon a) (kind_place kind.Colon == kind_place l) (state.Link link.SwitchColon) k t refl (λ d y. y) h)
 step_link x c (quad.SwitchColon a) k t h =
-    by_token (Follows k t) (next_reading (stage.Declared (declaring.Link (quad.SwitchColon a))) x c) (after_token (state.Link link.SwitchColon)) t tt (
+    by_token (Follows k t) (next_table_reading (stage.Declared (declaring.Link (quad.SwitchColon a))) x c) (after_token (state.Link link.SwitchColon)) t tt (
       refl,
       (
         h.0,
@@ -399,10 +399,10 @@ step_link x c (quad.SwitchColon a) k t h =
     )
     (λ l m. none_if (Follows k t) _ _ m.numbered)
 step_link x c (quad.Port a n) k t h =
-    by_token (Follows k t) (next_reading (stage.Declared (declaring.Link (quad.Port a n))) x c) (after_token (state.Link link.Port)) t tt tt
+    by_token (Follows k t) (next_table_reading (stage.Declared (declaring.Link (quad.Port a n))) x c) (after_token (state.Link link.Port)) t tt tt
     (λ l m. link_goes x c (quad.Port a n) (quad.Arrow a n) (kind_place kind.Arrow == kind_place l) (state.Link link.Arrow) k t refl (λ d y. y) h)
 step_link x c (quad.Arrow a n) k t h =
-    by_token (Follows k t) (next_reading (stage.Declared (declaring.Link (quad.Arrow a n))) x c) (after_token (state.Link link.Arrow)) t tt (
+    by_token (Follows k t) (next_table_reading (stage.Declared (declaring.Link (quad.Arrow a n))) x c) (after_token (state.Link link.Arrow)) t tt (
       refl,
       (
         h.0,
@@ -412,10 +412,10 @@ step_link x c (quad.Arrow a n) k t h =
     )
     (λ l m. none_if (Follows k t) _ _ m.numbered)
 step_link x c (quad.ToSwitch a n b) k t h =
-    by_token (Follows k t) (next_reading (stage.Declared (declaring.Link (quad.ToSwitch a n b))) x c) (after_token (state.Link link.ToSwitch)) t tt tt
+    by_token (Follows k t) (next_table_reading (stage.Declared (declaring.Link (quad.ToSwitch a n b))) x c) (after_token (state.Link link.ToSwitch)) t tt tt
     (λ l m. link_goes x c (quad.ToSwitch a n b) (quad.ToColon a n b) (kind_place kind.Colon == kind_place l) (state.Link link.ToColon) k t refl (λ d y. y) h)
 step_link x c (quad.ToColon a n b) k t h =
-    by_token (Follows k t) (next_reading (stage.Declared (declaring.Link (quad.ToColon a n b))) x c) (after_token (state.Link link.ToColon)) t tt (
+    by_token (Follows k t) (next_table_reading (stage.Declared (declaring.Link (quad.ToColon a n b))) x c) (after_token (state.Link link.ToColon)) t tt (
       refl,
       (
         h.0,

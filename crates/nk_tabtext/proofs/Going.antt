@@ -4,7 +4,7 @@ use Rattle.std.specs.Prelude.{◌==◌, if◌then◌else◌}
 use Rattle.nk_lex.specs.declared.kind.Kind.{Kind}
 use Rattle.nk_lex.specs.declared.kind.Kind.TheVariants as kind
 use Rattle.nk_lex.specs.declared.token.Token.{Token}
-use Rattle.nk_tabgrammar.specs.Terminal.{Terminal, name, number, mark, kind_place, terminal_from, terminal_of}
+use Rattle.nk_tabgrammar.specs.Terminal.{Terminal, name, number, mark, kind_place, table_terminal_from, table_terminal_of}
 use Rattle.nk_tabgrammar.specs.Machine.{Reading}
 use Rattle.nk_tabgrammar.specs.declared.states.State.{State}
 use Rattle.nk_tabgrammar.specs.declared.states.Tells.{Tells}
@@ -30,7 +30,7 @@ pub record IsMark (k : Kind) : Type 0 where
 -- by what a token is
 by_kind : (R : Reading → State × Tells → Type 0) (f : Terminal → Option Reading) (g : Kind → MaybeStep) (t : Token) (k : Kind)
     → Both R (f (name (word_of_token t))) (g kind.Name) → Both R (f (number (number_of_token t))) (g kind.Number) → ((l : Kind) → IsMark l → Both R (f (mark l)) (g l))
-    → Both R (f (terminal_from k t.line t.value t.text)) (g k)
+    → Both R (f (table_terminal_from k t.line t.value t.text)) (g k)
 by_kind R f g t kind.Name a b m = a
 by_kind R f g t kind.Number a b m = b
 by_kind R f g t kind.Field a b m = m kind.Field (record { named = refl; numbered = refl })
@@ -72,7 +72,7 @@ by_kind R f g t kind.CloseBracket a b m = m kind.CloseBracket (record { named = 
 
 pub by_token : (R : Reading → State × Tells → Type 0) (f : Terminal → Option Reading) (g : Kind → MaybeStep) (t : Token)
     → Both R (f (name (word_of_token t))) (g kind.Name) → Both R (f (number (number_of_token t))) (g kind.Number) → ((l : Kind) → IsMark l → Both R (f (mark l)) (g l))
-    → Both R (f (terminal_of t)) (g t.kind)
+    → Both R (f (table_terminal_of t)) (g t.kind)
 by_token R f g t a b m = by_kind R f g t t.kind a b m
 
 module _ (R : Reading → State × Tells → Type 0) where

@@ -26,9 +26,9 @@ use Rattle.nk_tabgrammar.specs.declared.written.WrittenTable.{WrittenTable}
 use Rattle.nk_tabgrammar.specs.declared.written.WrittenTables.{WrittenTables}
 use Rattle.nk_tabgrammar.specs.declared.written.ReadError.{ReadError}
 use Rattle.nk_tabgrammar.specs.declared.written.ReadError.TheVariants as error
-use Rattle.nk_tabgrammar.specs.Terminal.{Terminal, name, number, mark, terminal_from}
-use Rattle.nk_tabgrammar.specs.Spelling.{spell_declaration, spell_group, spell_row, spell_table, spell_text}
-use Rattle.nk_tabgrammar.specs.Answer.{terminals, IsTableParse}
+use Rattle.nk_tabgrammar.specs.Terminal.{Terminal, name, number, mark, table_terminal_from}
+use Rattle.nk_tabgrammar.specs.Spelling.{spell_table_declaration, spell_group, spell_table_row, spell_table, spell_text}
+use Rattle.nk_tabgrammar.specs.Answer.{table_terminals, IsTableParse}
 use Rattle.nk_tabgrammar.specs.Machine.{written_of}
 use Rattle.nk_tabtext.specs.Values.{FaultLine, line_if, line_above, unless_at, checked, plain_declaration, fault_of, read_of, said_after}
 use Rattle.nk_tabgrammar.proofs.Answering.{answers}
@@ -76,12 +76,12 @@ IsTerminalOfText (number n) = n.value ≤ largest
 IsTerminalOfText (mark k) = ⊤
 
 terminal_fits : (k : Kind) (line value : ℕ) (text : List ℕ) → (k ≡ kind.Name → IsName text) → value ≤ largest
-    → IsTerminalOfText (terminal_from k line value text)
+    → IsTerminalOfText (table_terminal_from k line value text)
 terminal_fits kind.Name line value text h le = h refl
 terminal_fits kind.Number line value text h le = le
 terminal_fits k line value text h le = tt
 
-terminals_fit : (ts : List Token) → AllByRecursion IsOfText ts → AllByRecursion IsTerminalOfText (terminals ts)
+terminals_fit : (ts : List Token) → AllByRecursion IsOfText ts → AllByRecursion IsTerminalOfText (table_terminals ts)
 terminals_fit [] h = tt
 terminals_fit (t ∷ ts) h = (terminal_fits t.kind t.line t.value t.text h.0.0 h.0.1, terminals_fit ts h.1)
 
@@ -106,14 +106,14 @@ front (x ∷ xs) ys h = (h.0, front xs ys h.1)
 abbrev pub IsDeclarationOfText : Declaration → Type 0
 IsDeclarationOfText d = HasFieldOfText (plain_declaration d)
 
-declarations_fit : (ds : List Declaration) → AllByRecursion IsTerminalOfText (flat_map spell_declaration ds) → AllByRecursion IsDeclarationOfText ds
+declarations_fit : (ds : List Declaration) → AllByRecursion IsTerminalOfText (flat_map spell_table_declaration ds) → AllByRecursion IsDeclarationOfText ds
 declarations_fit [] h = tt
 declarations_fit (declared.Field w n ∷ ds) h = ((h.1.0, h.1.1.0), declarations_fit ds h.1.1.1)
-declarations_fit (declared.Tag w ∷ ds) h = (tt, declarations_fit ds (following (spell_declaration (declared.Tag w)) (flat_map spell_declaration ds) h))
+declarations_fit (declared.Tag w ∷ ds) h = (tt, declarations_fit ds (following (spell_table_declaration (declared.Tag w)) (flat_map spell_table_declaration ds) h))
 declarations_fit (declared.Switch n p ps ∷ ds) h =
-    (tt, declarations_fit ds (following (spell_declaration (declared.Switch n p ps)) (flat_map spell_declaration ds) h))
+    (tt, declarations_fit ds (following (spell_table_declaration (declared.Switch n p ps)) (flat_map spell_table_declaration ds) h))
 declarations_fit (declared.Link a m b n ∷ ds) h =
-    (tt, declarations_fit ds (following (spell_declaration (declared.Link a m b n)) (flat_map spell_declaration ds) h))
+    (tt, declarations_fit ds (following (spell_table_declaration (declared.Link a m b n)) (flat_map spell_table_declaration ds) h))
 
 -- a group and a table as a text has them
 abbrev pub IsGroupOfText : WrittenGroup → Type 0
@@ -129,8 +129,8 @@ groups_fit (g ∷ gs) h = (h.1.0, groups_fit gs (following (spell_group g) (flat
 tables_fit : (ts : List WrittenTable) → AllByRecursion IsTerminalOfText (flat_map spell_table ts) → AllByRecursion IsTableOfText ts
 tables_fit [] h = tt
 tables_fit (t ∷ ts) h = (
-  groups_fit t.groups (front (flat_map spell_group t.groups) (flat_map spell_row t.rows)
-      (front (flat_map spell_group t.groups ++ flat_map spell_row t.rows) (flat_map spell_table ts) h.1.1)),
+  groups_fit t.groups (front (flat_map spell_group t.groups) (flat_map spell_table_row t.rows)
+      (front (flat_map spell_group t.groups ++ flat_map spell_table_row t.rows) (flat_map spell_table ts) h.1.1)),
   tables_fit ts (following (spell_table t) (flat_map spell_table ts) h),
 )
 
@@ -142,7 +142,7 @@ of_text text ts x cut read =
     (λ k d lt. (names_are_names text k d lt, values_are_small text k d lt)) in
     let answer : IsTableParse ts (Ok x) = subst (IsTableParse ts) read (answers ts) in
     let fit : AllByRecursion IsTerminalOfText (spell_text x) = subst (AllByRecursion IsTerminalOfText) answer (terminals_fit ts (recursion_from_All IsOfText ts all)) in
-    let ds = flat_map spell_declaration x.declarations in
+    let ds = flat_map spell_table_declaration x.declarations in
     let us = flat_map spell_table x.tables in
     (declarations_fit x.declarations (front ds us fit.1.1), tables_fit x.tables (following ds us fit.1.1))
 

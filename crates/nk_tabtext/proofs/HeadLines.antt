@@ -9,9 +9,9 @@ use Rattle.nk_topo.specs.Topology.{SwitchPorts, Link}
 use Rattle.nk_tabgrammar.specs.declared.written.Declaration.{Declaration}
 use Rattle.nk_tabgrammar.specs.declared.written.Declaration.TheVariants as declared
 use Rattle.nk_tabgrammar.specs.Terminal.{Terminal, number, mark}
-use Rattle.nk_tabgrammar.specs.Spelling.{spell_port, spell_declaration}
+use Rattle.nk_tabgrammar.specs.Spelling.{spell_port, spell_table_declaration}
 use Rattle.nk_tabtext.specs.Text.{field_text, ports_text, switch_text, link_text}
-use Rattle.nk_tabtext.specs.Text.{field_lines}
+use Rattle.nk_tabtext.specs.Text.{table_field_lines}
 use Rattle.nk_tabtext.proofs.Lines.{left3, left5, left9, terminals_on, word_on, number_on, named, put, feed_apart}
 use Rattle.nk_tabtext.proofs.TableLines.{HasOne, following}
 
@@ -35,13 +35,13 @@ written_fields line [] ms = []
 written_fields line (n ∷ ns) [] = []
 written_fields line (n ∷ ns) (m ∷ ms) = declared.Field (word_on line n) (number_on line m) ∷ written_fields (line + 1) ns ms
 
-pub fields_bytes : (ns : List (List ℕ)) (ms : List ℕ) (r : List Lexeme) → text_of (lex_fields ns ms r) ≡ field_lines ns ms ++ text_of r
+pub fields_bytes : (ns : List (List ℕ)) (ms : List ℕ) (r : List Lexeme) → text_of (lex_fields ns ms r) ≡ table_field_lines ns ms ++ text_of r
 fields_bytes [] ms r = refl
 fields_bytes (n ∷ ns) [] r = refl
 fields_bytes (n ∷ ns) (m ∷ ms) r =
     ap (λ l. codes "field " ++ (n ++ (codes " " ++ (decimal m ++ (codes "\n" ++ l))))) (fields_bytes ns ms r)
-    ∙ sym (left5 (codes "field ") n (codes " ") (decimal m) (codes "\n") (field_lines ns ms ++ text_of r))
-    ∙ sym (append_assoc (field_text n m) (field_lines ns ms) (text_of r))
+    ∙ sym (left5 (codes "field ") n (codes " ") (decimal m) (codes "\n") (table_field_lines ns ms ++ text_of r))
+    ∙ sym (append_assoc (field_text n m) (table_field_lines ns ms) (text_of r))
 
 pub fields_apart : (ns : List (List ℕ)) (ms : List ℕ) (r : List Lexeme) → AreFieldsShown ns ms → AreSeparate r → AreSeparate (lex_fields ns ms r)
 fields_apart [] ms r h a = a
@@ -56,7 +56,7 @@ after_fields line (n ∷ ns) [] = line
 after_fields line (n ∷ ns) (m ∷ ms) = after_fields (line + 1) ns ms
 
 pub fields_spelled : (line : ℕ) (ns : List (List ℕ)) (ms : List ℕ) (r : List Lexeme) → AreFieldsShown ns ms
-    → terminals_on line (lex_fields ns ms r) ≡ flat_map spell_declaration (written_fields line ns ms) ++ terminals_on (after_fields line ns ms) r
+    → terminals_on line (lex_fields ns ms r) ≡ flat_map spell_table_declaration (written_fields line ns ms) ++ terminals_on (after_fields line ns ms) r
 fields_spelled line [] ms r h = refl
 fields_spelled line (n ∷ ns) [] r h = refl
 fields_spelled line (n ∷ ns) (m ∷ ms) r h =
@@ -74,7 +74,7 @@ pub tag_apart : (n : List ℕ) (r : List Lexeme) → IsName n → AreSeparate r 
 tag_apart n r h a = ((refl, refl), refl, (tt, refl, (h.0, refl, (tt, feed_apart r, a))))
 
 pub tag_spelled : (line : ℕ) (n : List ℕ) (r : List Lexeme) → IsName n
-    → terminals_on line (lex_tag n r) ≡ spell_declaration (declared.Tag (word_on line n)) ++ terminals_on (line + 1) r
+    → terminals_on line (lex_tag n r) ≡ spell_table_declaration (declared.Tag (word_on line n)) ++ terminals_on (line + 1) r
 tag_spelled line n r h = ap (λ l. mark kind.Tag ∷ l) (put _ _ _ _ (named line n h) refl)
 
 -- ---- switches
@@ -153,21 +153,21 @@ ports_spelled line [] r = refl
 ports_spelled line (p ∷ ps) r = ap (λ l. mark kind.Comma ∷ number (number_on line p) ∷ l) (ports_spelled line ps r)
 
 pub switches_spelled : (line : ℕ) (ss : List SwitchPorts) (r : List Lexeme) → AreSwitchesShown ss
-    → terminals_on line (lex_switches ss r) ≡ flat_map spell_declaration (written_switches line ss) ++ terminals_on (following line ss) r
+    → terminals_on line (lex_switches ss r) ≡ flat_map spell_table_declaration (written_switches line ss) ++ terminals_on (following line ss) r
 switches_spelled line [] r h = refl
 switches_spelled line (s ∷ ss) r h = by s.ports h.0.2 (switches_spelled (line + 1) ss r h.1)
   where
     rest : List Terminal
-    rest = flat_map spell_declaration (written_switches (line + 1) ss) ++ terminals_on (following (line + 1) ss) r
+    rest = flat_map spell_table_declaration (written_switches (line + 1) ss) ++ terminals_on (following (line + 1) ss) r
 
     by : (ps : List ℕ) → HasOne ps → terminals_on (line + 1) (lex_switches ss r) ≡ rest
         → mark kind.Switch ∷ number (number_on line s.switch) ∷ mark kind.Ports ∷ terminals_on line (lex_all_ports ps (lex_switches ss r))
-        ≡ (spell_declaration (switch_with line s.switch ps) ++ flat_map spell_declaration (written_switches (line + 1) ss)) ++ terminals_on (following (line + 1) ss) r
+        ≡ (spell_table_declaration (switch_with line s.switch ps) ++ flat_map spell_table_declaration (written_switches (line + 1) ss)) ++ terminals_on (following (line + 1) ss) r
     by [] one e = absurd one
     by (p ∷ ps) one e =
         ap (λ l. mark kind.Switch ∷ number (number_on line s.switch) ∷ mark kind.Ports ∷ number (number_on line p) ∷ l)
         (ports_spelled line ps (lex_switches ss r) ∙ ap (λ l. flat_map spell_port (map (number_on line) ps) ++ l) e)
-        ∙ sym (append_assoc (spell_declaration (switch_with line s.switch (p ∷ ps))) (flat_map spell_declaration (written_switches (line + 1) ss)) (terminals_on (following (line + 1) ss) r))
+        ∙ sym (append_assoc (spell_table_declaration (switch_with line s.switch (p ∷ ps))) (flat_map spell_table_declaration (written_switches (line + 1) ss)) (terminals_on (following (line + 1) ss) r))
 
 -- ---- links
 
@@ -203,8 +203,8 @@ links_apart (l ∷ ls) r h a =
     ((refl, refl), refl, (tt, refl, (h.0.0, refl, (tt, refl, (h.0.1, refl, (tt, refl, (tt, refl, (tt, refl, (h.0.2, refl, (tt, refl, (h.0.3, refl, (tt, feed_apart (lex_links ls r), links_apart ls r h.1 a))))))))))))
 
 pub links_spelled : (line : ℕ) (ls : List Link) (r : List Lexeme)
-    → terminals_on line (lex_links ls r) ≡ flat_map spell_declaration (written_links line ls) ++ terminals_on (following line ls) r
+    → terminals_on line (lex_links ls r) ≡ flat_map spell_table_declaration (written_links line ls) ++ terminals_on (following line ls) r
 links_spelled line [] r = refl
 links_spelled line (l ∷ ls) r =
-    ap (λ x. spell_declaration (written_link line l) ++ x) (links_spelled (line + 1) ls r)
-    ∙ sym (append_assoc (spell_declaration (written_link line l)) (flat_map spell_declaration (written_links (line + 1) ls)) (terminals_on (following (line + 1) ls) r))
+    ap (λ x. spell_table_declaration (written_link line l) ++ x) (links_spelled (line + 1) ls r)
+    ∙ sym (append_assoc (spell_table_declaration (written_link line l)) (flat_map spell_table_declaration (written_links (line + 1) ls)) (terminals_on (following (line + 1) ls) r))

@@ -17,10 +17,10 @@ use Rattle.nk_tabgrammar.specs.declared.written.WrittenMatch.{WrittenMatch}
 use Rattle.nk_tabgrammar.specs.declared.written.Way.{Way}
 use Rattle.nk_tabgrammar.specs.declared.written.Way.TheVariants as way
 use Rattle.nk_tabgrammar.specs.declared.written.WrittenBucket.{WrittenBucket}
-use Rattle.nk_tabgrammar.specs.Terminal.{Terminal, name, number, mark, terminal_from}
+use Rattle.nk_tabgrammar.specs.Terminal.{Terminal, name, number, mark, table_terminal_from}
 use Rattle.nk_tabgrammar.specs.Spelling.{spell_length, spell_match, spell_set, way_token, spell_bucket}
 use Rattle.nk_tabtext.specs.Text.{is_tag, is_exact, name_of, length_text, match_text, set_text, where_same, matches_text, sets_text, exit_text, bucket_text}
-use Rattle.nk_tabgrammar.specs.Answer.{terminals}
+use Rattle.nk_tabgrammar.specs.Answer.{table_terminals}
 use Rattle.nk_tabtext.proofs.Keyed.{kept_where, set_field, sets_where, matches_where, all_where}
 
 -- ---- lists one after the other
@@ -55,17 +55,17 @@ abbrev pub terminals_on : ℕ → List Lexeme → List Terminal
 terminals_on line [] = []
 terminals_on line (Lexeme.space ∷ xs) = terminals_on line xs
 terminals_on line (Lexeme.line_feed ∷ xs) = terminals_on (line + 1) xs
-terminals_on line (Lexeme.word w ∷ xs) = terminal_from (kind_of_name w) line 0 w ∷ terminals_on line xs
-terminals_on line (Lexeme.numeral n ∷ xs) = terminal_from kind.Number line n [] ∷ terminals_on line xs
-terminals_on line (Lexeme.sign s ∷ xs) = terminal_from (sign_kind s) line 0 [] ∷ terminals_on line xs
+terminals_on line (Lexeme.word w ∷ xs) = table_terminal_from (kind_of_name w) line 0 w ∷ terminals_on line xs
+terminals_on line (Lexeme.numeral n ∷ xs) = table_terminal_from kind.Number line n [] ∷ terminals_on line xs
+terminals_on line (Lexeme.sign s ∷ xs) = table_terminal_from (sign_kind s) line 0 [] ∷ terminals_on line xs
 
-pub of_tokens : (xs : List Lexeme) (line at : ℕ) → terminals (tokens_from line at xs) ≡ terminals_on line xs
+pub of_tokens : (xs : List Lexeme) (line at : ℕ) → table_terminals (tokens_from line at xs) ≡ terminals_on line xs
 of_tokens [] line at = refl
 of_tokens (Lexeme.space ∷ xs) line at = of_tokens xs line (at + 1)
 of_tokens (Lexeme.line_feed ∷ xs) line at = of_tokens xs (line + 1) (at + 1)
-of_tokens (Lexeme.word w ∷ xs) line at = ap (λ l. terminal_from (kind_of_name w) line 0 w ∷ l) (of_tokens xs line (at + length w))
-of_tokens (Lexeme.numeral n ∷ xs) line at = ap (λ l. terminal_from kind.Number line n [] ∷ l) (of_tokens xs line (at + length (decimal n)))
-of_tokens (Lexeme.sign s ∷ xs) line at = ap (λ l. terminal_from (sign_kind s) line 0 [] ∷ l) (of_tokens xs line (at + length (sign_bytes s)))
+of_tokens (Lexeme.word w ∷ xs) line at = ap (λ l. table_terminal_from (kind_of_name w) line 0 w ∷ l) (of_tokens xs line (at + length w))
+of_tokens (Lexeme.numeral n ∷ xs) line at = ap (λ l. table_terminal_from kind.Number line n [] ∷ l) (of_tokens xs line (at + length (decimal n)))
+of_tokens (Lexeme.sign s ∷ xs) line at = ap (λ l. table_terminal_from (sign_kind s) line 0 [] ∷ l) (of_tokens xs line (at + length (sign_bytes s)))
 
 -- a name and a number on a line
 abbrev pub word_on : ℕ → List ℕ → Ident
@@ -75,8 +75,8 @@ abbrev pub number_on : ℕ → ℕ → Number
 number_on line n = record { value = n; line = line }
 
 -- a name's terminal
-pub named : (line : ℕ) (w : List ℕ) → IsName w → terminal_from (kind_of_name w) line 0 w ≡ name (word_on line w)
-named line w h = ap (λ k. terminal_from k line 0 w) h.1
+pub named : (line : ℕ) (w : List ℕ) → IsName w → table_terminal_from (kind_of_name w) line 0 w ≡ name (word_on line w)
+named line w h = ap (λ k. table_terminal_from k line 0 w) h.1
 
 -- the first terminal and the others
 pub put : (x y : Terminal) (xs ys : List Terminal) → x ≡ y → xs ≡ ys → x ∷ xs ≡ y ∷ ys

@@ -18,12 +18,12 @@ use Rattle.nk_tabgrammar.specs.declared.written.Declaration.TheVariants as decla
 use Rattle.nk_tabgrammar.specs.declared.written.WrittenTables.{WrittenTables}
 use Rattle.nk_tabgrammar.specs.declared.written.ReadError.{ReadError}
 use Rattle.nk_tabgrammar.specs.Terminal.{number, mark}
-use Rattle.nk_tabgrammar.specs.Spelling.{spell_declaration, spell_table, spell_text}
+use Rattle.nk_tabgrammar.specs.Spelling.{spell_table_declaration, spell_table, spell_text}
 use Rattle.nk_declare.specs.declared.fault.DeclareError.{DeclareError}
 use Rattle.nk_declare.specs.Declarations.{DeclaredValue, nothing_declared, declared_with, declared_after}
 use Rattle.nk_declare.specs.Kept.{IsWritable}
 use Rattle.nk_tabgrammar.specs.Machine.{written_of}
-use Rattle.nk_tabtext.specs.Text.{name_of, have_prefix, field_lines, tag_line, switch_text, link_text, section_text, version_of, version_text, table_bytes}
+use Rattle.nk_tabtext.specs.Text.{name_of, have_prefix, table_field_lines, tag_line, switch_text, link_text, section_text, version_of, version_text, table_bytes}
 use Rattle.nk_tabtext.specs.Values.{line_if, unless_at, checked, plain_declaration, read_of, said_after, tables_read, table_for, whole, tables_from, lexed}
 use Rattle.nk_lex.specs.Spans.{last_line}
 use Rattle.nk_lex.specs.Faults.{and_then}
@@ -122,7 +122,7 @@ record Fits (t : Tables) (f : ℕ) : Type 0 where
 
 bytes_are : (t : Tables) (f : ℕ) → Fits t f → text_of (lexemes t f) ≡ table_bytes t
 bytes_are t f h =
-    let fl = field_lines (names_of t) (maxima_of t) in
+    let fl = table_field_lines (names_of t) (maxima_of t) in
     let tl = tag_line t.fields (Some f) in
     let sw = flat_map switch_text t.topo.switches in
     let ln = flat_map link_text t.topo.links in
@@ -186,8 +186,8 @@ spelled t f h =
     let fw = written_fields 2 (names_of t) (maxima_of t) in
     let sw = written_switches (switches_at t) t.topo.switches in
     let lw = written_links (links_at t) t.topo.links in
-    let each = flat_map spell_declaration in
-    let tag = spell_declaration (tag_declared t f) in
+    let each = flat_map spell_table_declaration in
+    let tag = spell_table_declaration (tag_declared t f) in
     let ts = flat_map spell_table (written_tables t.fields (tables_at t) t.tables) in
     ap (λ l. mark kind.Tables ∷ number (number_on 1 (version_of t)) ∷ l)
     (fields_spelled 2 (names_of t) (maxima_of t) (lex_tag (name_of t.fields f) (lex_topo t)) h.fields_shown
@@ -196,10 +196,10 @@ spelled t f h =
     ∙ ap (λ l. each sw ++ l) (links_spelled (links_at t) t.topo.links (lex_tables t.fields t.tables [])
     ∙ ap (λ l. each lw ++ l) (tables_spelled t.fields (tables_at t) t.tables h.tables_shown))
     ∙ sym (append_assoc (each sw) (each lw) ts)
-    ∙ ap (λ l. l ++ ts) (sym (flat_joined spell_declaration sw lw)))
+    ∙ ap (λ l. l ++ ts) (sym (flat_joined spell_table_declaration sw lw)))
     ∙ sym (append_assoc tag (each (sw ++ lw)) ts))
     ∙ sym (append_assoc (each fw) (tag ++ each (sw ++ lw)) ts)
-    ∙ ap (λ l. l ++ ts) (sym (flat_joined spell_declaration fw (tag_declared t f ∷ (sw ++ lw)))))
+    ∙ ap (λ l. l ++ ts) (sym (flat_joined spell_table_declaration fw (tag_declared t f ∷ (sw ++ lw)))))
 
 -- ---- what is read
 

@@ -31,7 +31,7 @@ use Rattle.nk_tabgrammar.specs.declared.written.WrittenTables.{WrittenTables}
 use Rattle.nk_tabgrammar.specs.declared.written.ReadError.{ReadError}
 use Rattle.nk_tabgrammar.specs.declared.stage.Owner.{Owner}
 use Rattle.nk_tabgrammar.specs.declared.stage.Owner.TheVariants as owner
-use Rattle.nk_tabgrammar.specs.Machine.{with_declaration, with_table, with_group, with_row, with_match, row_written}
+use Rattle.nk_tabgrammar.specs.Machine.{with_declaration, with_table, with_group, with_table_row, with_table_match, row_written}
 use Rattle.nk_tabtext.specs.Values.{FaultLine, bucket_with, checked, digits_in, group_fault, group_of, group_read, groups_read, has_key, length_fault, line_above, line_if, matches_read, ones_fault, pairs_read, plain_declaration, placed_match, read_of, row_with, rows_read, said_after, table_fault, table_with, tables_read, version_fault, way_read}
 use Rattle.nk_tabtext.specs.Progress.{match_set}
 use Rattle.nk_tabtext.proofs.Sofar.{then_assoc, checked_assoc, checked_first, unless_assoc, said_more, pairs_more, matches_more, buckets_more, groups_more, rows_more, tables_more}
@@ -155,17 +155,17 @@ pub group_more : (x : WrittenTables) (c : WrittenTable) (g : WrittenGroup)
 group_more x c g = simp (groups_more, then_assoc, checked_assoc)
 
 pub row_more_bucket : (x : WrittenTables) (c : WrittenTable) (p : Number) (ms : List WrittenMatch) (ps : List Pair) (e : Way)
-    → rowed_so x (with_row c (row_written p ms (target.Bucket (record { sets = ps; way = e }))))
+    → rowed_so x (with_table_row c (row_written p ms (target.Bucket (record { sets = ps; way = e }))))
     ≡ and_then (left_so x c (owner.Row p ms) ps e) (λ v. Ok (so_far v.said v.tables v.groups (v.rows ++ row_with p v.matches (does.Bucket (bucket_with v.sets v.out)) ∷ []) [] []))
 row_more_bucket x c p ms ps e = simp (rows_more, then_assoc, checked_assoc)
 
 pub row_more_group : (x : WrittenTables) (c : WrittenTable) (p : Number) (ms : List WrittenMatch) (n : Number)
-    → rowed_so x (with_row c (row_written p ms (target.Group n)))
+    → rowed_so x (with_table_row c (row_written p ms (target.Group n)))
     ≡ and_then (matched_so x c p ms) (λ v. checked (line_if (not (has_key v.groups n.value)) n.line) (Ok (so_far v.said v.tables v.groups (v.rows ++ row_with p v.matches (does.Group n.value) ∷ []) [] [])))
 row_more_group x c p ms n = simp (rows_more, then_assoc, checked_assoc, unless_assoc)
 
 pub row_more_drop : (x : WrittenTables) (c : WrittenTable) (p : Number) (ms : List WrittenMatch)
-    → rowed_so x (with_row c (row_written p ms target.Discard))
+    → rowed_so x (with_table_row c (row_written p ms target.Discard))
     ≡ and_then (matched_so x c p ms) (λ v. Ok (so_far v.said v.tables v.groups (v.rows ++ row_with p v.matches does.Discard ∷ []) [] []))
 row_more_drop x c p ms = simp (rows_more, then_assoc, checked_assoc)
 
@@ -221,11 +221,11 @@ put_again f v d l (m ∷ ms) = by (nat_lt m.0 f) refl (put_again f v d l ms)
         ∙ sym (placed_front (λ x. nat_lt x.0 f) (f, v, l) m ms e)
 
 pub match_more : (x : WrittenTables) (c : WrittenTable) (p : Number) (ms : List WrittenMatch) (w : Ident) (n : Number)
-    → matched_so x c p (with_match ms w n None) ≡ tested_so x c p ms w n
+    → matched_so x c p (with_table_match ms w n None) ≡ tested_so x c p ms w n
 match_more x c p ms w n = simp (matches_more, then_assoc, checked_assoc, checked_first, unless_assoc, no_ones)
 
 pub match_more_length : (x : WrittenTables) (c : WrittenTable) (p : Number) (ms : List WrittenMatch) (w : Ident) (n l : Number)
-    → matched_so x c p (with_match ms w n (Some l))
+    → matched_so x c p (with_table_match ms w n (Some l))
     ≡ and_then (tested_so x c p ms w n) (λ v. checked (first_of (length_fault x.version.value (digits_in v.said.fields w) (Some l)) (ones_fault (digits_in v.said.fields w) l.value n))
     (Ok (with_matches v (match_set (place_of_field v.said.fields w, n.value, l.value) v.matches))))
 match_more_length x c p ms w n l = simp (matches_more, then_assoc, checked_assoc, checked_first, unless_assoc, put_again)

@@ -17,7 +17,7 @@ use Rattle.nk_tabgrammar.specs.declared.written.WrittenTarget.TheVariants as tar
 use Rattle.nk_tabgrammar.specs.declared.written.WrittenRow.{WrittenRow}
 use Rattle.nk_tabgrammar.specs.declared.written.WrittenGroup.{WrittenGroup}
 use Rattle.nk_tabgrammar.specs.Terminal.{number, mark}
-use Rattle.nk_tabgrammar.specs.Spelling.{spell_match, spell_bucket, spell_target, spell_row, spell_group}
+use Rattle.nk_tabgrammar.specs.Spelling.{spell_match, spell_bucket, spell_target, spell_table_row, spell_group}
 use Rattle.nk_tabtext.specs.Text.{matches_text, bucket_text, target_text, row_text, group_text}
 use Rattle.nk_table.specs.declared.Table.{Table}
 use Rattle.nk_tabgrammar.specs.declared.written.WrittenTable.{WrittenTable}
@@ -198,7 +198,7 @@ target_spelled fs line (does.Group n) r h = refl
 target_spelled fs line does.Discard r h = refl
 
 row_spelled : (fs : FieldTable) (line : ℕ) (w : Row) (r : List Lexeme) → IsRowShown fs w
-    → terminals_on line (lex_row fs w r) ≡ spell_row (written_row fs line w) ++ terminals_on (line + 1) r
+    → terminals_on line (lex_row fs w r) ≡ spell_table_row (written_row fs line w) ++ terminals_on (line + 1) r
 row_spelled fs line w r h =
     let tw = matches_where fs true w.matches in
     let fw = matches_where fs false w.matches in
@@ -328,12 +328,12 @@ groups_spelled fs line (g ∷ gs) r h =
     ∙ sym (append_assoc (spell_group (written_group fs line g)) (flat_map spell_group (written_groups fs (line + 1) gs)) (terminals_on (following (line + 1) gs) r))
 
 rows_spelled : (fs : FieldTable) (line : ℕ) (ws : List Row) (r : List Lexeme) → AreRowsShown fs ws
-    → terminals_on line (lex_rows fs ws r) ≡ flat_map spell_row (written_rows fs line ws) ++ terminals_on (following line ws) r
+    → terminals_on line (lex_rows fs ws r) ≡ flat_map spell_table_row (written_rows fs line ws) ++ terminals_on (following line ws) r
 rows_spelled fs line [] r h = refl
 rows_spelled fs line (w ∷ ws) r h =
     row_spelled fs line w (lex_rows fs ws r) h.0
-    ∙ ap (λ l. spell_row (written_row fs line w) ++ l) (rows_spelled fs (line + 1) ws r h.1)
-    ∙ sym (append_assoc (spell_row (written_row fs line w)) (flat_map spell_row (written_rows fs (line + 1) ws)) (terminals_on (following (line + 1) ws) r))
+    ∙ ap (λ l. spell_table_row (written_row fs line w) ++ l) (rows_spelled fs (line + 1) ws r h.1)
+    ∙ sym (append_assoc (spell_table_row (written_row fs line w)) (flat_map spell_table_row (written_rows fs (line + 1) ws)) (terminals_on (following (line + 1) ws) r))
 
 pub tables_spelled : (fs : FieldTable) (line : ℕ) (ts : List Table) → AreTablesShown fs ts
     → terminals_on line (lex_tables fs ts []) ≡ flat_map spell_table (written_tables fs line ts)
@@ -343,7 +343,7 @@ tables_spelled fs line (t ∷ ts) h =
     let rl = following gl t.groups in
     let el = following rl t.rows in
     let gs = flat_map spell_group (written_groups fs gl t.groups) in
-    let ws = flat_map spell_row (written_rows fs rl t.rows) in
+    let ws = flat_map spell_table_row (written_rows fs rl t.rows) in
     ap (λ l. mark kind.Table ∷ number (number_on line t.switch) ∷ l)
     (groups_spelled fs gl t.groups (lex_rows fs t.rows (lex_tables fs ts [])) h.0.1
     ∙ ap (λ l. gs ++ l) (rows_spelled fs rl t.rows (lex_tables fs ts []) h.0.2 ∙ ap (λ l. ws ++ l) (tables_spelled fs el ts h.1))

@@ -24,8 +24,8 @@ use Rattle.nk_tabgrammar.specs.declared.stage.Owner.TheVariants as owner
 use Rattle.nk_tabgrammar.specs.declared.stage.Stage.TheVariants as stage
 use Rattle.nk_tabgrammar.specs.declared.stage.Grouping.TheVariants as grouping
 use Rattle.nk_tabgrammar.specs.declared.stage.InRow.TheVariants as in_row
-use Rattle.nk_tabgrammar.specs.Terminal.{mark, kind_place, terminal_of}
-use Rattle.nk_tabgrammar.specs.Machine.{begin_group, begin_row, next_reading, no_table, opened_table, reading, with_group, with_table}
+use Rattle.nk_tabgrammar.specs.Terminal.{mark, kind_place, table_terminal_of}
+use Rattle.nk_tabgrammar.specs.Machine.{begin_group, begin_row, next_table_reading, no_table, opened_table, table_reading, with_group, with_table}
 use Rattle.nk_tabgrammar.specs.declared.states.BucketState.TheVariants as bucket
 use Rattle.nk_tabgrammar.specs.declared.states.RowState.TheVariants as row
 use Rattle.nk_tabgrammar.specs.declared.states.State.TheVariants as state
@@ -96,21 +96,21 @@ groups_rows x c k e h =
 pub rows_begin : (x : WrittenTables) (c : WrittenTable) (k : KnownValue) (tl : Tells) (t : Token) (l : Kind) → Gives (rowed_so x c) (Rows x c) (known_after k tl t)
     → Both (Follows k t) (begin_row x c (mark l)) (states.begin_row l tl)
 rows_begin x c k tl t l h =
-    both_if (Follows k t) (kind_place kind.Row == kind_place l) (reading (stage.InRow in_row.Row) x c) (state.Row row.Row, tl) _ _ (refl, h)
-    (both_last (Follows k t) (kind_place kind.Table == kind_place l) (reading stage.Table (with_table x c) no_table) (state.Table, tl)
+    both_if (Follows k t) (kind_place kind.Row == kind_place l) (table_reading (stage.InRow in_row.Row) x c) (state.Row row.Row, tl) _ _ (refl, h)
+    (both_last (Follows k t) (kind_place kind.Table == kind_place l) (table_reading stage.Table (with_table x c) no_table) (state.Table, tl)
     (refl, table_closes x c (known_after k tl t) h))
 
 -- a group begins, or a row, or the next table
 pub groups_begin : (x : WrittenTables) (c : WrittenTable) (k : KnownValue) (tl : Tells) (t : Token) (l : Kind) → c.rows ≡ [] → Gives (grouped_so x c) (Groups x c) (known_after k tl t)
     → Both (Follows k t) (begin_group x c (mark l)) (states.begin_group l tl)
 groups_begin x c k tl t l e h =
-    both_if (Follows k t) (kind_place kind.Group == kind_place l) (reading (stage.Grouped grouping.Group) x c) (state.Group, tl) _ _ (refl, (e, h))
+    both_if (Follows k t) (kind_place kind.Group == kind_place l) (table_reading (stage.Grouped grouping.Group) x c) (state.Group, tl) _ _ (refl, (e, h))
     (rows_begin x c k tl t l (groups_rows x c (known_after k tl t) e h))
 
 pub step_table : (x : WrittenTables) (c : WrittenTable) (k : KnownValue) (t : Token) → Fits stage.Table x c k
-    → Both (Follows k t) (next_reading stage.Table x c (terminal_of t)) (after_token state.Table t.kind)
+    → Both (Follows k t) (next_table_reading stage.Table x c (table_terminal_of t)) (after_token state.Table t.kind)
 step_table x c k t h =
-    by_token (Follows k t) (next_reading stage.Table x c) (after_token state.Table) t tt (
+    by_token (Follows k t) (next_table_reading stage.Table x c) (after_token state.Table) t tt (
       refl,
       (
         refl,
@@ -127,21 +127,21 @@ step_table x c k t h =
     (λ l m. none_if (Follows k t) _ _ m.numbered)
 
 pub step_groups : (x : WrittenTables) (c : WrittenTable) (k : KnownValue) (t : Token) → Fits stage.Groups x c k
-    → Both (Follows k t) (next_reading stage.Groups x c (terminal_of t)) (after_token state.Groups t.kind)
+    → Both (Follows k t) (next_table_reading stage.Groups x c (table_terminal_of t)) (after_token state.Groups t.kind)
 step_groups x c k t h =
-    by_token (Follows k t) (next_reading stage.Groups x c) (after_token state.Groups) t tt tt
+    by_token (Follows k t) (next_table_reading stage.Groups x c) (after_token state.Groups) t tt tt
     (λ l m. groups_begin x c k tells.Nothing t l h.0 (gives_still (grouped_so x c) (Groups x c) (Groups x c) k t (λ v p d. d) h.1))
 
 pub step_rows : (x : WrittenTables) (c : WrittenTable) (k : KnownValue) (t : Token) → Fits stage.Rows x c k
-    → Both (Follows k t) (next_reading stage.Rows x c (terminal_of t)) (after_token state.Rows t.kind)
+    → Both (Follows k t) (next_table_reading stage.Rows x c (table_terminal_of t)) (after_token state.Rows t.kind)
 step_rows x c k t h =
-    by_token (Follows k t) (next_reading stage.Rows x c) (after_token state.Rows) t tt tt
+    by_token (Follows k t) (next_table_reading stage.Rows x c) (after_token state.Rows) t tt tt
     (λ l m. rows_begin x c k tells.Nothing t l (gives_still (rowed_so x c) (Rows x c) (Rows x c) k t (λ v p d. d) h))
 
 pub step_group : (x : WrittenTables) (c : WrittenTable) (k : KnownValue) (t : Token) → Fits (stage.Grouped grouping.Group) x c k
-    → Both (Follows k t) (next_reading (stage.Grouped grouping.Group) x c (terminal_of t)) (after_token state.Group t.kind)
+    → Both (Follows k t) (next_table_reading (stage.Grouped grouping.Group) x c (table_terminal_of t)) (after_token state.Group t.kind)
 step_group x c k t h =
-    by_token (Follows k t) (next_reading (stage.Grouped grouping.Group) x c) (after_token state.Group) t tt (
+    by_token (Follows k t) (next_table_reading (stage.Grouped grouping.Group) x c) (after_token state.Group) t tt (
       refl,
       (
         h.0,
@@ -159,10 +159,10 @@ step_group x c k t h =
     (λ l m. none_if (Follows k t) _ _ m.numbered)
 
 pub step_group_numbered : (x : WrittenTables) (c : WrittenTable) (n : Number) (k : KnownValue) (t : Token) → Fits (stage.Grouped (grouping.GroupNumbered n)) x c k
-    → Both (Follows k t) (next_reading (stage.Grouped (grouping.GroupNumbered n)) x c (terminal_of t)) (after_token state.GroupNumbered t.kind)
+    → Both (Follows k t) (next_table_reading (stage.Grouped (grouping.GroupNumbered n)) x c (table_terminal_of t)) (after_token state.GroupNumbered t.kind)
 step_group_numbered x c n k t h =
-    by_token (Follows k t) (next_reading (stage.Grouped (grouping.GroupNumbered n)) x c) (after_token state.GroupNumbered) t tt tt
-    (λ l m. both_last (Follows k t) (kind_place kind.Equal == kind_place l) (reading (stage.Grouped (grouping.FirstBucket n)) x c) (state.FirstBucket, tells.Nothing)
+    by_token (Follows k t) (next_table_reading (stage.Grouped (grouping.GroupNumbered n)) x c) (after_token state.GroupNumbered) t tt tt
+    (λ l m. both_last (Follows k t) (kind_place kind.Equal == kind_place l) (table_reading (stage.Grouped (grouping.FirstBucket n)) x c) (state.FirstBucket, tells.Nothing)
     (refl, (h.0, gives_still (numbered_so x c n) (Owns x c (owner.First n) []) (Owns x c (owner.First n) []) k t (λ v p d. d) h.1)))
 
 -- ---- a bucket begins
@@ -209,10 +209,10 @@ bucket_opens x c o k t h =
     (gives_still (owned_so x c o) (Owns x c o []) (Owns x c o []) k t (λ v p d. d) h)
 
 pub step_first_bucket : (x : WrittenTables) (c : WrittenTable) (n : Number) (k : KnownValue) (t : Token) → Fits (stage.Grouped (grouping.FirstBucket n)) x c k
-    → Both (Follows k t) (next_reading (stage.Grouped (grouping.FirstBucket n)) x c (terminal_of t)) (after_token state.FirstBucket t.kind)
+    → Both (Follows k t) (next_table_reading (stage.Grouped (grouping.FirstBucket n)) x c (table_terminal_of t)) (after_token state.FirstBucket t.kind)
 step_first_bucket x c n k t h =
-    by_token (Follows k t) (next_reading (stage.Grouped (grouping.FirstBucket n)) x c) (after_token state.FirstBucket) t tt tt
-    (λ l m. both_last (Follows k t) (kind_place kind.OpenBracket == kind_place l) (reading (stage.InBucket (owner.First n) (place.Sets [])) x c) (state.InGroup bucket.Sets, tells.Nothing)
+    by_token (Follows k t) (next_table_reading (stage.Grouped (grouping.FirstBucket n)) x c) (after_token state.FirstBucket) t tt tt
+    (λ l m. both_last (Follows k t) (kind_place kind.OpenBracket == kind_place l) (table_reading (stage.InBucket (owner.First n) (place.Sets [])) x c) (state.InGroup bucket.Sets, tells.Nothing)
     (refl, (h.0, bucket_opens x c (owner.First n) k t h.1)))
 
 -- the group is whole
@@ -228,10 +228,10 @@ group_closes x c g v p d = (
 )
 
 pub step_bucket_read : (x : WrittenTables) (c : WrittenTable) (g : WrittenGroup) (k : KnownValue) (t : Token) → Fits (stage.Grouped (grouping.BucketRead g)) x c k
-    → Both (Follows k t) (next_reading (stage.Grouped (grouping.BucketRead g)) x c (terminal_of t)) (after_token state.BucketRead t.kind)
+    → Both (Follows k t) (next_table_reading (stage.Grouped (grouping.BucketRead g)) x c (table_terminal_of t)) (after_token state.BucketRead t.kind)
 step_bucket_read x c g k t h =
-    by_token (Follows k t) (next_reading (stage.Grouped (grouping.BucketRead g)) x c) (after_token state.BucketRead) t tt tt
-    (λ l m. both_if (Follows k t) (kind_place kind.OpenBracket == kind_place l) (reading (stage.InBucket (owner.Next g) (place.Sets [])) x c) (state.InGroup bucket.Sets, tells.Nothing) _ _
+    by_token (Follows k t) (next_table_reading (stage.Grouped (grouping.BucketRead g)) x c) (after_token state.BucketRead) t tt tt
+    (λ l m. both_if (Follows k t) (kind_place kind.OpenBracket == kind_place l) (table_reading (stage.InBucket (owner.Next g) (place.Sets [])) x c) (state.InGroup bucket.Sets, tells.Nothing) _ _
     (refl, (h.0, bucket_opens x c (owner.Next g) k t h.1))
     (groups_begin x (with_group c g) k tells.GroupEnds t l h.0
     (gives_on (filled_so x c g) (grouped_so x (with_group c g)) (λ v. Ok (so_far v.said v.tables (insert_entry nat_cmp v.groups g.number.value (group_of g.number v.buckets)) [] [] []))

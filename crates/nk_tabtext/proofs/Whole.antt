@@ -16,8 +16,8 @@ use Rattle.nk_tabgrammar.specs.declared.stage.Owner.TheVariants as owner
 use Rattle.nk_tabgrammar.specs.declared.stage.Stage.TheVariants as stage
 use Rattle.nk_tabgrammar.specs.declared.stage.Grouping.TheVariants as grouping
 use Rattle.nk_tabgrammar.specs.declared.stage.InRow.TheVariants as in_row
-use Rattle.nk_tabgrammar.specs.Terminal.{terminal_of}
-use Rattle.nk_tabgrammar.specs.Machine.{next_reading, reading, with_group, with_table}
+use Rattle.nk_tabgrammar.specs.Terminal.{table_terminal_of}
+use Rattle.nk_tabgrammar.specs.Machine.{next_table_reading, table_reading, with_group, with_table}
 use Rattle.nk_tabgrammar.specs.declared.states.BucketState.{BucketState}
 use Rattle.nk_tabgrammar.specs.declared.states.State.{State}
 use Rattle.nk_tabgrammar.specs.declared.states.Tells.{Tells}
@@ -39,10 +39,10 @@ use Rattle.nk_tabgrammar.specs.declared.written.ReadError.TheVariants as error
 use Rattle.nk_tabgrammar.specs.declared.stage.Stage.{Stage}
 use Rattle.nk_tabgrammar.specs.declared.stage.Declaring.TheVariants as declaring
 use Rattle.nk_tabgrammar.specs.declared.stage.InRow.{InRow}
-use Rattle.nk_tabgrammar.specs.Machine.{Reading, first_reading, judged, rest_of_text, text_ended, with_declaration}
+use Rattle.nk_tabgrammar.specs.Machine.{Reading, first_table_reading, table_judged, rest_of_text, table_text_ended, with_declaration}
 use Rattle.nk_tabgrammar.specs.States.{at_end}
 use Rattle.nk_tabtext.specs.Values.{tables_from, whole}
-use Rattle.nk_tabtext.specs.Progress.{Progress, ReadsAsWhole, Sound, Faulty, Stopped, read_at_end, end_told, first_progress, progress_after, progress_on, step_on, tables_of_progress}
+use Rattle.nk_tabtext.specs.Progress.{Progress, ReadsAsWhole, Sound, Faulty, Stopped, read_at_end, end_told, first_table_progress, progress_after, progress_on, step_on, tables_of_progress}
 use Rattle.nk_tabtext.proofs.Sofar.{checked_assoc}
 use Rattle.nk_tabtext.proofs.Stages.{declared_so, no_table_more}
 use Rattle.nk_tabtext.proofs.Fitting.{Declares, Ported, ports_so}
@@ -53,7 +53,7 @@ use Rattle.nk_tabtext.proofs.RowSteps.{step_row}
 
 -- one more token, at any stage
 pub step : (s : Stage) (x : WrittenTables) (c : WrittenTable) (k : KnownValue) (t : Token) → Fits s x c k
-    → Both (Follows k t) (next_reading s x c (terminal_of t)) (after_token (state_of_stage s) t.kind)
+    → Both (Follows k t) (next_table_reading s x c (table_terminal_of t)) (after_token (state_of_stage s) t.kind)
 step stage.Start x c k t h = step_start x c k t h
 step stage.Version x c k t h = step_version x c k t h
 step stage.Between x c k t h = step_between x c k t h
@@ -186,7 +186,7 @@ declared_end x k e h =
     (λ v p d. record { version = d.version; said = d.said; tables = d.tables; parts = d.parts }) h
 
 ends : (s : Stage) (x : WrittenTables) (c : WrittenTable) (k : KnownValue) (line : ℕ) → Fits s x c k
-    → read_at_end k (at_end (state_of_stage s)) line ≡ and_then (judged line (text_ended s x c)) (λ y. tables_from line y)
+    → read_at_end k (at_end (state_of_stage s)) line ≡ and_then (table_judged line (table_text_ended s x c)) (λ y. tables_from line y)
 ends stage.Between x c k line h = closes_end x tells.Nothing k line (to_end (tabled_so x) (λ v p. Closes x v.tables v p) tells.Nothing k (declared_end x k h.0 h.1))
 ends (stage.Declared (declaring.PortRead n q qs)) x c k line h =
     closes_end (with_declaration x (declared.Switch n q qs)) tells.SwitchEnds k line
@@ -241,18 +241,18 @@ stays_stopped [] s line l = refl
 stays_stopped (t ∷ ts) s line l = stays_stopped ts s line l
 
 from_here : (ts : List Token) (s : Stage) (x : WrittenTables) (c : WrittenTable) (k : KnownValue) (line : ℕ) → Fits s x c k
-    → tables_of_progress (fold progress_after (at_place (state_of_stage s) line k) ts) ≡ and_then (rest_of_text ts (reading s x c) line) (λ y. tables_from (last_line line ts) y)
+    → tables_of_progress (fold progress_after (at_place (state_of_stage s) line k) ts) ≡ and_then (rest_of_text ts (table_reading s x c) line) (λ y. tables_from (last_line line ts) y)
 from_here [] s x c k line h = ends s x c k line h
 from_here (t ∷ ts) s x c k line h =
     ap (λ p. tables_of_progress (fold progress_after p ts)) (goes_on k (at_place (state_of_stage s) line k) t (going s x c k h))
-    ∙ by (next_reading s x c (terminal_of t)) (after_token (state_of_stage s) t.kind) (λ r l f. from_here ts r.stage r.text r.table l t.line f) (step s x c k t h)
+    ∙ by (next_table_reading s x c (table_terminal_of t)) (after_token (state_of_stage s) t.kind) (λ r l f. from_here ts r.stage r.text r.table l t.line f) (step s x c k t h)
   where
     by : (r : Option Reading) (z : MaybeStep)
         → ((r : Reading) (l : KnownValue) → Fits r.stage r.text r.table l
         → tables_of_progress (fold progress_after (at_place (state_of_stage r.stage) t.line l) ts) ≡ and_then (rest_of_text ts r t.line) (λ y. tables_from (last_line t.line ts) y))
         → Both (Follows k t) r z
         → tables_of_progress (fold progress_after (step_on z (at_place (state_of_stage s) line k) t) ts)
-        ≡ and_then (and_then (judged t.line r) (λ u. rest_of_text ts u t.line)) (λ y. tables_from (last_line t.line ts) y)
+        ≡ and_then (and_then (table_judged t.line r) (λ u. rest_of_text ts u t.line)) (λ y. tables_from (last_line t.line ts) y)
     by None None ih b = stays_stopped ts (state_of_stage s) line t.line
     by (Some r) (Some z) ih b =
         ap (λ a. tables_of_progress (fold progress_after (at_place a t.line (known_after k z.1 t)) ts)) b.0 ∙ ih r (known_after k z.1 t) b.1
@@ -260,4 +260,4 @@ from_here (t ∷ ts) s x c k line h =
     by (Some r) None ih b = absurd b
 
 pub reads_as_whole : ReadsAsWhole
-reads_as_whole ts = from_here ts first_reading.stage first_reading.text first_reading.table first_progress.known 1 refl
+reads_as_whole ts = from_here ts first_table_reading.stage first_table_reading.text first_table_reading.table first_table_progress.known 1 refl

@@ -44,10 +44,10 @@ partial_in p = record {
   filling = filling_in p.filling;
 }
 
-abbrev pub known_in : Known → KnownValue
-known_in (known.Sound p) = Sound (partial_in p)
-known_in (known.Faulty line) = Faulty line
-known_in (known.Stopped line) = Stopped line
+abbrev pub known_names_in : Known → KnownValue
+known_names_in (known.Sound p) = Sound (partial_in p)
+known_names_in (known.Faulty line) = Faulty line
+known_names_in (known.Stopped line) = Stopped line
 
-abbrev pub progress_of : State → ℕ → Known → Progress
-progress_of s line k = record { state = s; line = line; known = known_in k }
+abbrev pub table_progress_of : State → ℕ → Known → Progress
+table_progress_of s line k = record { state = s; line = line; known = known_names_in k }

@@ -31,7 +31,7 @@ use Rattle.nk_tabgrammar.specs.declared.states.Tells.{Tells}
 use Rattle.nk_tabgrammar.specs.declared.states.Tells.TheVariants as tells
 use Rattle.nk_tabgrammar.specs.declared.written.ReadError.{ReadError}
 use Rattle.nk_tabgrammar.specs.declared.written.ReadError.TheVariants as error
-use Rattle.nk_tabgrammar.specs.Answer.{terminals}
+use Rattle.nk_tabgrammar.specs.Answer.{table_terminals}
 use Rattle.nk_tabgrammar.specs.Machine.{no_number}
 use Rattle.nk_tabgrammar.specs.Spelling.{TableTextGoesOn}
 use Rattle.nk_tabgrammar.specs.States.{after_token, at_end}
@@ -315,8 +315,8 @@ pub record Progress : Type 0 where
   pub line : ℕ
   pub known : KnownValue
 
-abbrev pub first_progress : Progress
-first_progress = record { state = state.Start; line = 1; known = Sound first_partial }
+abbrev pub first_table_progress : Progress
+first_table_progress = record { state = state.Start; line = 1; known = Sound first_partial }
 
 -- the line of a fault
 abbrev pub line_of_fault : ReadError → Option ℕ
@@ -354,15 +354,15 @@ progress_after p t = progress_on p.known p t
 
 -- these are the tokens so far
 abbrev pub IsTaken : List Token → Progress → Type 0
-IsTaken ts p = p ≡ fold progress_after first_progress ts
+IsTaken ts p = p ≡ fold progress_after first_table_progress ts
 
 -- no text goes on with the tokens
-abbrev pub is_stopped : KnownValue → Bool
-is_stopped (Stopped line) = true
-is_stopped k = false
+abbrev pub is_table_stopped : KnownValue → Bool
+is_table_stopped (Stopped line) = true
+is_table_stopped k = false
 
 abbrev pub IsStopped : Progress → Type 0
-IsStopped p = is_stopped p.known ≡ true
+IsStopped p = is_table_stopped p.known ≡ true
 
 -- what the text is, where it ends with what is known; `e` is what its end tells, where it may end
 abbrev pub read_at_end : KnownValue → Option Tells → (line : ℕ) → Result Tables ReadError
@@ -377,11 +377,11 @@ tables_of_progress p = read_at_end p.known (at_end p.state) p.line
 
 -- Read token by token, a text is what it is as a whole: this is the law that `end` rests on.
 abbrev pub ReadsAsWhole : Type 0
-ReadsAsWhole = (ts : List Token) → tables_of_progress (fold progress_after first_progress ts) ≡ tables_of_tokens ts
+ReadsAsWhole = (ts : List Token) → tables_of_progress (fold progress_after first_table_progress ts) ≡ tables_of_tokens ts
 
 -- A reader has stopped exactly where no text goes on with the tokens.
 abbrev pub StopsWithTexts : Type 0
-StopsWithTexts = (ts : List Token) → IsStopped (fold progress_after first_progress ts) ↔ (TableTextGoesOn (terminals ts) → ⊥)
+StopsWithTexts = (ts : List Token) → IsStopped (fold progress_after first_table_progress ts) ↔ (TableTextGoesOn (table_terminals ts) → ⊥)
 
 -- where memory ran out, nothing changed
 abbrev pub StaysWithoutMemory : {X V : Type 0} → Result X ReadError → V → V → Type 0

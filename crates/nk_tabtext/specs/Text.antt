@@ -25,14 +25,14 @@ abbrev pub field_text : List ℕ → ℕ → List ℕ
 field_text name max = codes "field " ++ name ++ codes " " ++ decimal max ++ codes "\n"
 
 -- the lines of fields with these names and largest values
-abbrev pub field_lines : List (List ℕ) → List ℕ → List ℕ
-field_lines [] maxima = []
-field_lines (name ∷ names) [] = []
-field_lines (name ∷ names) (max ∷ maxima) = field_text name max ++ field_lines names maxima
+abbrev pub table_field_lines : List (List ℕ) → List ℕ → List ℕ
+table_field_lines [] maxima = []
+table_field_lines (name ∷ names) [] = []
+table_field_lines (name ∷ names) (max ∷ maxima) = field_text name max ++ table_field_lines names maxima
 
 -- the lines of the declared fields: those after the switch and the port
 abbrev pub fields_text : FieldTable → List ℕ
-fields_text fs = field_lines (drop 2 fs.names) (drop 2 fs.maxima)
+fields_text fs = table_field_lines (drop 2 fs.names) (drop 2 fs.maxima)
 
 -- the line of the tag, if there is one
 abbrev pub tag_line : FieldTable → Option ℕ → List ℕ

@@ -2,11 +2,11 @@
 ghost use Rattle.std.specs.Prelude.{◌≡◌, ℕ, ◌++◌, ◌∷◌, List, [], Ok, IfOk, IsOk, OnErr, OnOk};
 ghost use Rattle.nk_lex.specs.declared.token.Token.{Token};
 ghost use Rattle.nk_lex.specs.Lex.{tokens_of};
-ghost use Rattle.nk_tabgrammar.specs.Answer.{terminals};
+ghost use Rattle.nk_tabgrammar.specs.Answer.{table_terminals};
 ghost use Rattle.nk_tabgrammar.specs.Machine.{TableParseReturns};
 ghost use Rattle.nk_tabgrammar.specs.Spelling.{TableTextGoesOn};
-ghost use Rattle.nk_tabtext.specs.InMemory.{known_in};
-ghost use Rattle.nk_tabtext.specs.Progress.{IsStopped, IsTaken, Stopped, line_of_fault, is_stopped, known_after, progress_after, tables_of_progress, with_fault};
+ghost use Rattle.nk_tabtext.specs.InMemory.{known_names_in};
+ghost use Rattle.nk_tabtext.specs.Progress.{IsStopped, IsTaken, Stopped, line_of_fault, is_table_stopped, known_after, progress_after, tables_of_progress, with_fault};
 ghost use Rattle.nk_tabtext.specs.ReadBack.{ArePrintableTables};
 ghost use Rattle.nk_tabtext.specs.Values.{lexed, tables_of, tables_of_tokens};
 
@@ -50,8 +50,8 @@ impl Known {
         tells: Tells,
         token: &Token,
     ) -> Result<Option<u64>, AllocError>
-        ensures told { IfOk result (λ line. known_after (known_in self.old) tells token.now ≡ with_fault line (known_in self.new)) }
-        ensures err { OnErr result (known_in self.new ≡ known_in self.old) }
+        ensures told { IfOk result (λ line. known_after (known_names_in self.old) tells token.now ≡ with_fault line (known_names_in self.new)) }
+        ensures err { OnErr result (known_names_in self.new ≡ known_names_in self.old) }
     {
         let told = match self {
             Known::Sound(partial) => partial.tell(alloc, tells, token),
@@ -69,7 +69,7 @@ impl Known {
 
     /// The first rule is broken on this line, where one is.
     fn put_fault(&mut self, line: Option<u64>)
-        ensures { known_in self.new ≡ with_fault line (known_in self.old) }
+        ensures { known_names_in self.new ≡ with_fault line (known_names_in self.old) }
     {
         if let Some(line) = line {
             *self = Known::Faulty(line);
@@ -78,8 +78,8 @@ impl Known {
 
     /// One more token, by what it tells. Where memory ran out, nothing changed.
     fn go_on(&mut self, alloc: Global, tells: Tells, token: &Token) -> Result<(), AllocError>
-        ensures ok { OnOk result (known_in self.new ≡ known_after (known_in self.old) tells token.now) }
-        ensures kept { OnErr result (known_in self.new ≡ known_in self.old) }
+        ensures ok { OnOk result (known_names_in self.new ≡ known_after (known_names_in self.old) tells token.now) }
+        ensures kept { OnErr result (known_names_in self.new ≡ known_names_in self.old) }
     {
         let line = self.tell(alloc, tells, token)?;
         self.put_fault(line);
@@ -88,7 +88,7 @@ impl Known {
 
     /// No text goes on with the token on this line.
     fn stop(&mut self, line: u64)
-        ensures { known_in self.new ≡ Stopped line }
+        ensures { known_names_in self.new ≡ Stopped line }
     {
         *self = Known::Stopped(line);
     }
@@ -114,12 +114,12 @@ impl Drop for TableReader {
 }
 
 impl Model for TableReader {
-    ghost use Rattle.nk_tabtext.specs.InMemory.{progress_of};
+    ghost use Rattle.nk_tabtext.specs.InMemory.{table_progress_of};
     ghost use Rattle.nk_tabtext.specs.Progress.{Progress};
 
     ghost Value = { Progress };
 
-    ghost view = { λ r. progress_of r.state r.line r.known };
+    ghost view = { λ r. table_progress_of r.state r.line r.known };
 }
 
 impl TableReader {
@@ -160,7 +160,7 @@ impl TableReader {
     /// with the tokens so far, nothing changes any more and no memory is taken.
     pub fn take(&mut self, alloc: Global, token: &Token) -> Result<(), AllocError>
         ensures tokens { (ts : List Token) → IsTaken ts self.old → OnOk result (IsTaken (ts ++ token.now ∷ []) self.new) }
-        ensures unmended { (ts : List Token) → IsTaken ts self.old → (TableTextGoesOn (terminals ts) → ⊥) → IsOk result × (self.new ≡ self.old) }
+        ensures unmended { (ts : List Token) → IsTaken ts self.old → (TableTextGoesOn (table_terminals ts) → ⊥) → IsOk result × (self.new ≡ self.old) }
         ensures stopped { IsStopped self.old → IsOk result × (self.new ≡ self.old) }
         ensures err { OnErr result (self.new ≡ self.old) }
     {
@@ -169,7 +169,7 @@ impl TableReader {
 
     /// Whether a token came with which no text goes on.
     pub fn is_stopped(&self) -> bool
-        ensures { result ≡ is_stopped self.now.known }
+        ensures { result ≡ is_table_stopped self.now.known }
     {
         match &self.known {
             Known::Stopped(_) => true,

@@ -17,8 +17,8 @@ use Rattle.nk_table.specs.declared.Target.{Target}
 use Rattle.nk_table.specs.declared.Target.TheVariants as target
 use Rattle.nk_table.specs.Rules.{agrees, agrees_at, rows_of, groups_at_switch, is_above_all, highest, buckets_in, buckets_for, buckets_of_row, sent_by, sent_for}
 use Rattle.nk_update.specs.declared.plans.Plan.{Plan}
-use Rattle.nk_update.specs.Plans.{Pair, tag_digits, asked_of, plan_table, switches_of, HasOldTag, HasNewTag, NamesOneOf, AreNumberedFrom, IsPlannable, is_tagged, is_tagged_row, old_stands, new_stands, numbered_on, target_on, row_on, rows_at, groups_at}
-use Rattle.nk_update.specs.Steps.{steps_of, plan_of, table_after, tables_after, AreFourTables}
+use Rattle.nk_update.specs.Plans.{Pair, tag_digits, asked_of, plan_table, switches_of, HasOldTag, HasNewTag, NamesOneOf, AreNumberedFrom, IsPlannable, is_tagged, is_tagged_row, old_stands, new_stands, numbered_on, target_on, plan_row_on, rows_at, groups_at}
+use Rattle.nk_update.specs.Steps.{plan_steps_of, plan_of, table_after, tables_after, AreFourTables}
 
 -- a test is true or false
 pub true_or_false : (b : Bool) → (b ≡ true) ⊎ (b ≡ false)
@@ -99,13 +99,13 @@ kept_in q (y ∷ ys) x i = by (q y) i (kept_in q ys x)
     by false i r = inr (r i)
 
 -- new group numbers change nothing of what matches
-kept_on : (mx pk : List ℕ) (n : ℕ) (rows : List Row) → filter (agrees mx pk) (map (row_on n) rows) ≡ map (row_on n) (filter (agrees mx pk) rows)
+kept_on : (mx pk : List ℕ) (n : ℕ) (rows : List Row) → filter (agrees mx pk) (map (plan_row_on n) rows) ≡ map (plan_row_on n) (filter (agrees mx pk) rows)
 kept_on mx pk n [] = refl
 kept_on mx pk n (r ∷ rs) = by (agrees mx pk r) (kept_on mx pk n rs)
   where
-    by : (b : Bool) → filter (agrees mx pk) (map (row_on n) rs) ≡ map (row_on n) (filter (agrees mx pk) rs) →
-        cond b (row_on n r ∷ filter (agrees mx pk) (map (row_on n) rs)) (filter (agrees mx pk) (map (row_on n) rs)) ≡ map (row_on n) (cond b (r ∷ filter (agrees mx pk) rs) (filter (agrees mx pk) rs))
-    by true e = ap (λ l. row_on n r ∷ l) e
+    by : (b : Bool) → filter (agrees mx pk) (map (plan_row_on n) rs) ≡ map (plan_row_on n) (filter (agrees mx pk) rs) →
+        cond b (plan_row_on n r ∷ filter (agrees mx pk) (map (plan_row_on n) rs)) (filter (agrees mx pk) (map (plan_row_on n) rs)) ≡ map (plan_row_on n) (cond b (r ∷ filter (agrees mx pk) rs) (filter (agrees mx pk) rs))
+    by true e = ap (λ l. plan_row_on n r ∷ l) e
     by false e = e
 
 -- both tests passed
@@ -144,27 +144,27 @@ asked f v mx pk (m ∷ ms) e h =
     (both_or (m.0 == f) (nat_le d m.2))
 
 -- new group numbers leave priorities
-above_on : (q n : ℕ) (xs : List Row) → is_above_all q (map (row_on n) xs) ≡ is_above_all q xs
+above_on : (q n : ℕ) (xs : List Row) → is_above_all q (map (plan_row_on n) xs) ≡ is_above_all q xs
 above_on q n [] = refl
 above_on q n (x ∷ xs) = ap (λ b. nat_lt x.priority q && b) (above_on q n xs)
 
 -- the row with new numbers, if there is one
 abbrev found_on : ℕ → Option Row → Option Row
 found_on n None = None
-found_on n (Some r) = Some (row_on n r)
+found_on n (Some r) = Some (plan_row_on n r)
 
 -- so the same row is the highest
-highest_on : (n : ℕ) (before xs : List Row) → highest (map (row_on n) before) (map (row_on n) xs) ≡ found_on n (highest before xs)
+highest_on : (n : ℕ) (before xs : List Row) → highest (map (plan_row_on n) before) (map (plan_row_on n) xs) ≡ found_on n (highest before xs)
 highest_on n before [] = refl
 highest_on n before (r ∷ rest) =
-    ap (λ b. if b then Some (row_on n r) else highest (map (row_on n) before ++ row_on n r ∷ []) (map (row_on n) rest))
-    (ap (is_above_all r.priority) (sym (map_joined (row_on n) before rest)) ∙ above_on r.priority n (before ++ rest))
+    ap (λ b. if b then Some (plan_row_on n r) else highest (map (plan_row_on n) before ++ plan_row_on n r ∷ []) (map (plan_row_on n) rest))
+    (ap (is_above_all r.priority) (sym (map_joined (plan_row_on n) before rest)) ∙ above_on r.priority n (before ++ rest))
     ∙ by (is_above_all r.priority (before ++ rest)) (highest_on n (before ++ r ∷ []) rest)
   where
-    by : (b : Bool) → highest (map (row_on n) (before ++ r ∷ [])) (map (row_on n) rest) ≡ found_on n (highest (before ++ r ∷ []) rest) →
-        (if b then Some (row_on n r) else highest (map (row_on n) before ++ row_on n r ∷ []) (map (row_on n) rest)) ≡ found_on n (if b then Some r else highest (before ++ r ∷ []) rest)
+    by : (b : Bool) → highest (map (plan_row_on n) (before ++ r ∷ [])) (map (plan_row_on n) rest) ≡ found_on n (highest (before ++ r ∷ []) rest) →
+        (if b then Some (plan_row_on n r) else highest (map (plan_row_on n) before ++ plan_row_on n r ∷ []) (map (plan_row_on n) rest)) ≡ found_on n (if b then Some r else highest (before ++ r ∷ []) rest)
     by true e = refl
-    by false e = ap (λ l. highest l (map (row_on n) rest)) (sym (map_joined (row_on n) before (r ∷ []))) ∙ e
+    by false e = ap (λ l. highest l (map (plan_row_on n) rest)) (sym (map_joined (plan_row_on n) before (r ∷ []))) ∙ e
 
 -- the highest row is one of them
 pub found_in : (before xs : List Row) (r : Row) → highest before xs ≡ Some r → In xs r
@@ -281,7 +281,7 @@ mapped_twice f g [] = refl
 mapped_twice f g (x ∷ xs) = ap (λ l. f (g x) ∷ l) (mapped_twice f g xs)
 
 -- after at most three steps a switch has its table
-table_is : (p : Pair) (d : ℕ) → d ≤ 3 → (sw : ℕ) → table_after d (steps_of p.old p.new p.tag sw) ≡ plan_table p.old p.new p.tag d sw
+table_is : (p : Pair) (d : ℕ) → d ≤ 3 → (sw : ℕ) → table_after d (plan_steps_of p.old p.new p.tag sw) ≡ plan_table p.old p.new p.tag d sw
 table_is p zero le sw = refl
 table_is p (suc zero) le sw = refl
 table_is p (suc (suc zero)) le sw = refl
@@ -314,7 +314,7 @@ module _ (p : Pair) (ok : IsPlannable p) (d : ℕ) (most : d ≤ 3) (pk : List �
   stage = tables_after (plan_of p) d
 
   abbrev made : ℕ → Table
-  made sw = table_after d (steps_of p.old p.new p.tag sw)
+  made sw = table_after d (plan_steps_of p.old p.new p.tag sw)
 
   -- each table is that of its switch
   made_at : (sw : ℕ) → (made sw).switch ≡ sw
@@ -331,7 +331,7 @@ module _ (p : Pair) (ok : IsPlannable p) (d : ℕ) (most : d ≤ 3) (pk : List �
   there_sent : sent_for stage pk ≡ filter_map (sent_by pk) (buckets_of_row (groups_at p.old p.new d here) (highest [] (filter (agrees mx pk) (rows_at p.old p.new p.tag d here))))
   there_sent =
       ap (λ ts. filter_map (sent_by pk) (buckets_of_row (groups_at_switch ts here) (highest [] (filter (agrees mx pk) (rows_of ts here)))))
-      (mapped_twice (table_after d) (steps_of p.old p.new p.tag) switches)
+      (mapped_twice (table_after d) (plan_steps_of p.old p.new p.tag) switches)
       ∙ ⊎_elim
       (λ i.
       ap (λ gs. filter_map (sent_by pk) (buckets_of_row gs (highest [] (filter (agrees mx pk) (rows_of (map made switches) here)))))
@@ -340,14 +340,14 @@ module _ (p : Pair) (ok : IsPlannable p) (d : ℕ) (most : d ≤ 3) (pk : List �
       (rows_made made made_at switches here i ∙ ap (λ (t : Table). t.rows) (table_is p d most here)))
       (λ n.
       ap (λ rs. filter_map (sent_by pk) (buckets_of_row (groups_at_switch (map made switches) here) (highest [] (filter (agrees mx pk) rs)))) (none_made made made_at switches here n)
-      ∙ sym (ap (λ rs. filter_map (sent_by pk) (buckets_of_row (groups_at p.old p.new d here) (highest [] (filter (agrees mx pk) (filter (old_stands (tag_digits p.old p.tag) p.tag d) rs ++ map (row_on shift) (filter (new_stands (tag_digits p.old p.tag) p.tag d) news)))))) (no_rows n).0
-      ∙ ap (λ rs. filter_map (sent_by pk) (buckets_of_row (groups_at p.old p.new d here) (highest [] (filter (agrees mx pk) (map (row_on shift) (filter (new_stands (tag_digits p.old p.tag) p.tag d) rs)))))) (no_rows n).1))
+      ∙ sym (ap (λ rs. filter_map (sent_by pk) (buckets_of_row (groups_at p.old p.new d here) (highest [] (filter (agrees mx pk) (filter (old_stands (tag_digits p.old p.tag) p.tag d) rs ++ map (plan_row_on shift) (filter (new_stands (tag_digits p.old p.tag) p.tag d) news)))))) (no_rows n).0
+      ∙ ap (λ rs. filter_map (sent_by pk) (buckets_of_row (groups_at p.old p.new d here) (highest [] (filter (agrees mx pk) (map (plan_row_on shift) (filter (new_stands (tag_digits p.old p.tag) p.tag d) rs)))))) (no_rows n).1))
       (in_decided numbers_decided switches here)
 
   -- the rows that match, old and new
-  matching : filter (agrees mx pk) (rows_at p.old p.new p.tag d here) ≡ filter (agrees mx pk) (filter (old_stands (tag_digits p.old p.tag) p.tag d) olds) ++ map (row_on shift) (filter (agrees mx pk) (filter (new_stands (tag_digits p.old p.tag) p.tag d) news))
+  matching : filter (agrees mx pk) (rows_at p.old p.new p.tag d here) ≡ filter (agrees mx pk) (filter (old_stands (tag_digits p.old p.tag) p.tag d) olds) ++ map (plan_row_on shift) (filter (agrees mx pk) (filter (new_stands (tag_digits p.old p.tag) p.tag d) news))
   matching =
-      filter-append (agrees mx pk) (filter (old_stands (tag_digits p.old p.tag) p.tag d) olds) (map (row_on shift) (filter (new_stands (tag_digits p.old p.tag) p.tag d) news))
+      filter-append (agrees mx pk) (filter (old_stands (tag_digits p.old p.tag) p.tag d) olds) (map (plan_row_on shift) (filter (new_stands (tag_digits p.old p.tag) p.tag d) news))
       ∙ ap (λ l. filter (agrees mx pk) (filter (old_stands (tag_digits p.old p.tag) p.tag d) olds) ++ l) (kept_on mx pk shift (filter (new_stands (tag_digits p.old p.tag) p.tag d) news))
 
   -- where all old rows that match stand, and no new one
@@ -360,8 +360,8 @@ module _ (p : Pair) (ok : IsPlannable p) (d : ℕ) (most : d ≤ 3) (pk : List �
       let rows = filter (agrees mx pk) olds in
       let all : filter (agrees mx pk) (rows_at p.old p.new p.tag d here) ≡ rows =
       matching
-      ∙ ap (λ l. l ++ map (row_on shift) (filter (agrees mx pk) (filter (new_stands (tag_digits p.old p.tag) p.tag d) news))) (kept_twice (agrees mx pk) (old_stands (tag_digits p.old p.tag) p.tag d) olds stand)
-      ∙ ap (λ l. rows ++ map (row_on shift) l) (none_kept (agrees mx pk) (new_stands (tag_digits p.old p.tag) p.tag d) news none)
+      ∙ ap (λ l. l ++ map (plan_row_on shift) (filter (agrees mx pk) (filter (new_stands (tag_digits p.old p.tag) p.tag d) news))) (kept_twice (agrees mx pk) (old_stands (tag_digits p.old p.tag) p.tag d) olds stand)
+      ∙ ap (λ l. rows ++ map (plan_row_on shift) l) (none_kept (agrees mx pk) (new_stands (tag_digits p.old p.tag) p.tag d) news none)
       ∙ append-nil rows in
       there_sent
       ∙ ap (λ l. filter_map (sent_by pk) (buckets_of_row (groups_at p.old p.new d here) (highest [] l))) all
@@ -378,10 +378,10 @@ module _ (p : Pair) (ok : IsPlannable p) (d : ℕ) (most : d ≤ 3) (pk : List �
       let groups = groups_at_switch p.old.tables here in
       let later = groups_at_switch p.new.tables here in
       let rows = filter (agrees mx pk) news in
-      let all : filter (agrees mx pk) (rows_at p.old p.new p.tag d here) ≡ map (row_on shift) rows =
+      let all : filter (agrees mx pk) (rows_at p.old p.new p.tag d here) ≡ map (plan_row_on shift) rows =
       matching
-      ∙ ap (λ l. l ++ map (row_on shift) (filter (agrees mx pk) (filter (new_stands (tag_digits p.old p.tag) p.tag d) news))) (none_kept (agrees mx pk) (old_stands (tag_digits p.old p.tag) p.tag d) olds none)
-      ∙ ap (map (row_on shift)) (kept_twice (agrees mx pk) (new_stands (tag_digits p.old p.tag) p.tag d) news stand) in
+      ∙ ap (λ l. l ++ map (plan_row_on shift) (filter (agrees mx pk) (filter (new_stands (tag_digits p.old p.tag) p.tag d) news))) (none_kept (agrees mx pk) (old_stands (tag_digits p.old p.tag) p.tag d) olds none)
+      ∙ ap (map (plan_row_on shift)) (kept_twice (agrees mx pk) (new_stands (tag_digits p.old p.tag) p.tag d) news stand) in
       there_sent
       ∙ ap (λ l. filter_map (sent_by pk) (buckets_of_row (groups_at p.old p.new d here) (highest [] l))) all
       ∙ ap (λ o. filter_map (sent_by pk) (buckets_of_row (groups_at p.old p.new d here) o)) (highest_on shift [] rows)
@@ -399,8 +399,8 @@ module _ (p : Pair) (ok : IsPlannable p) (d : ℕ) (most : d ≤ 3) (pk : List �
       there_sent
       ∙ ap (λ l. filter_map (sent_by pk) (buckets_of_row (groups_at p.old p.new d here) (highest [] l)))
       (matching
-      ∙ ap (λ l. l ++ map (row_on shift) (filter (agrees mx pk) (filter (new_stands (tag_digits p.old p.tag) p.tag d) news))) (none_kept (agrees mx pk) (old_stands (tag_digits p.old p.tag) p.tag d) olds none)
-      ∙ ap (map (row_on shift)) (none_kept (agrees mx pk) (new_stands (tag_digits p.old p.tag) p.tag d) news none'))
+      ∙ ap (λ l. l ++ map (plan_row_on shift) (filter (agrees mx pk) (filter (new_stands (tag_digits p.old p.tag) p.tag d) news))) (none_kept (agrees mx pk) (old_stands (tag_digits p.old p.tag) p.tag d) olds none)
+      ∙ ap (map (plan_row_on shift)) (none_kept (agrees mx pk) (new_stands (tag_digits p.old p.tag) p.tag d) news none'))
 
   -- an old row that matches asks for the packet's tag, which is an old one or 0
   old_asks : (r : Row) → In olds r → agrees mx pk r ≡ true → (asked_of (tag_digits p.old p.tag) p.tag r.matches ≡ Some tag) × (tag ≤ p.old_tags)
@@ -548,13 +548,13 @@ by_test true = refl
 by_test false = refl
 
 -- the four tables of a switch
-pub four_tables : (old new : Tables) (f sw : ℕ) → AreFourTables old new f sw (steps_of old new f sw)
+pub four_tables : (old new : Tables) (f sw : ℕ) → AreFourTables old new f sw (plan_steps_of old new f sw)
 four_tables old new f sw =
     let olds = rows_of old.tables sw in
     let news = rows_of new.tables sw in
     let n = length (groups_at_switch old.tables sw) in
     let d = tag_digits old f in
-    let on : List Row → List Row = λ l. map (row_on n) l in
+    let on : List Row → List Row = λ l. map (plan_row_on n) l in
     record {
       switch = refl;
       before_rows =

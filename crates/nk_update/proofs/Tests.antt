@@ -4,7 +4,7 @@ use Rattle.std.specs.Prelude.{nat_lt, filter, map, if◌then◌else◌}
 use Rattle.std.proofs.lemmas.List.Elements.{filter_more}
 use Rattle.nk_field.proofs.Lists.{map_joined}
 use Rattle.nk_table.specs.declared.Row.{Row}
-use Rattle.nk_update.specs.Plans.{is_tagged, old_stands, new_stands, row_on}
+use Rattle.nk_update.specs.Plans.{is_tagged, old_stands, new_stands, plan_row_on}
 
 -- a value is a tag where it is above 0
 pub tagged_is : (n : ℕ) → nat_lt 0 n ≡ is_tagged (Some n)
@@ -12,7 +12,7 @@ tagged_is zero = refl
 tagged_is (suc n) = grind (arith)
 
 -- one choice more
-if_more : (n : ℕ) (b : Bool) (x : Row) → map (row_on n) (cond b (x ∷ []) []) ≡ (if b then row_on n x ∷ [] else [])
+if_more : (n : ℕ) (b : Bool) (x : Row) → map (plan_row_on n) (cond b (x ∷ []) []) ≡ (if b then plan_row_on n x ∷ [] else [])
 if_more n true x = refl
 if_more n false x = refl
 
@@ -25,12 +25,12 @@ old_more digits f steps xs i x lt e =
 
 -- one new row more
 pub new_more : (digits f steps n : ℕ) (us : List Row) (xs : List Row) (i : ℕ) (x : Row) → i < length xs → x ≡ get_or xs i x →
-    (us ++ map (row_on n) (filter (new_stands digits f steps) (take i xs))) ++ (if new_stands digits f steps x then row_on n x ∷ [] else []) ≡ us ++ map (row_on n) (filter (new_stands digits f steps) (take (i + 1) xs))
+    (us ++ map (plan_row_on n) (filter (new_stands digits f steps) (take i xs))) ++ (if new_stands digits f steps x then plan_row_on n x ∷ [] else []) ≡ us ++ map (plan_row_on n) (filter (new_stands digits f steps) (take (i + 1) xs))
 new_more digits f steps n us xs i x lt e =
     let kept = filter (new_stands digits f steps) (take i xs) in
-    append_assoc us (map (row_on n) kept) (if new_stands digits f steps x then row_on n x ∷ [] else [])
+    append_assoc us (map (plan_row_on n) kept) (if new_stands digits f steps x then plan_row_on n x ∷ [] else [])
     ∙ ap (λ l. us ++ l)
-    (ap (λ l. map (row_on n) kept ++ l) (sym (if_more n (new_stands digits f steps x) x))
-    ∙ sym (map_joined (row_on n) kept (cond (new_stands digits f steps x) (x ∷ []) []))
-    ∙ ap (λ y. map (row_on n) (kept ++ cond (new_stands digits f steps y) (y ∷ []) [])) e
-    ∙ ap (map (row_on n)) (sym (filter_more (new_stands digits f steps) xs i x lt)))
+    (ap (λ l. map (plan_row_on n) kept ++ l) (sym (if_more n (new_stands digits f steps x) x))
+    ∙ sym (map_joined (plan_row_on n) kept (cond (new_stands digits f steps x) (x ∷ []) []))
+    ∙ ap (λ y. map (plan_row_on n) (kept ++ cond (new_stands digits f steps y) (y ∷ []) [])) e
+    ∙ ap (map (plan_row_on n)) (sym (filter_more (new_stands digits f steps) xs i x lt)))

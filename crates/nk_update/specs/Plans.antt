@@ -108,15 +108,15 @@ target_on n (target.Bucket b) = target.Bucket b
 target_on n (target.Group g) = target.Group (g + n)
 target_on n target.Discard = target.Discard
 
-abbrev pub row_on : ℕ → Row → Row
-row_on n r = record { priority = r.priority; matches = r.matches; target = target_on n r.target }
+abbrev pub plan_row_on : ℕ → Row → Row
+plan_row_on n r = record { priority = r.priority; matches = r.matches; target = target_on n r.target }
 
 -- The rows of a switch after so many plan steps: the old ones that still stand, and the new ones that stand already, whose
 -- groups are numbered on after the old ones.
 abbrev pub rows_at : (old new : Tables) (tag steps sw : ℕ) → List Row
 rows_at old new tag steps sw =
     filter (old_stands (tag_digits old tag) tag steps) (rows_of old.tables sw)
-    ++ map (row_on (length (groups_at_switch old.tables sw))) (filter (new_stands (tag_digits old tag) tag steps) (rows_of new.tables sw))
+    ++ map (plan_row_on (length (groups_at_switch old.tables sw))) (filter (new_stands (tag_digits old tag) tag steps) (rows_of new.tables sw))
 
 -- its groups: the old ones until the third step, the new ones, with their numbers after those, from the first on
 abbrev pub groups_at : (old new : Tables) (steps sw : ℕ) → List Group

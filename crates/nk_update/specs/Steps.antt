@@ -7,11 +7,11 @@ use Rattle.nk_table.specs.declared.Group.{Group}
 use Rattle.nk_table.specs.Rules.{rows_of, groups_at_switch}
 use Rattle.nk_update.specs.declared.plans.Plan.{Plan}
 use Rattle.nk_update.specs.declared.plans.PlanTables.{PlanTables}
-use Rattle.nk_update.specs.Plans.{Pair, tag_digits, is_tagged_row, numbered_on, row_on, plan_table, switches_of}
+use Rattle.nk_update.specs.Plans.{Pair, tag_digits, is_tagged_row, numbered_on, plan_row_on, plan_table, switches_of}
 
 -- the tables of a switch before the first plan step and after each of the three
-abbrev pub steps_of : (old new : Tables) (tag sw : ℕ) → PlanTables
-steps_of old new tag sw = record {
+abbrev pub plan_steps_of : (old new : Tables) (tag sw : ℕ) → PlanTables
+plan_steps_of old new tag sw = record {
   switch = sw;
   before = plan_table old new tag 0 sw;
   added = plan_table old new tag 1 sw;
@@ -25,7 +25,7 @@ plan_of p = record {
   fields = p.old.fields;
   topo = p.old.topo;
   old_tags = p.old_tags;
-  switches = map (steps_of p.old p.new p.tag) (switches_of p.old);
+  switches = map (plan_steps_of p.old p.new p.tag) (switches_of p.old);
 }
 
 -- the table of a switch after so many plan steps
@@ -44,8 +44,8 @@ abbrev pub tagged_rows : (digits tag : ℕ) → List Row → List Row
 tagged_rows digits tag rows = filter (is_tagged_row digits tag) rows
 
 -- rows whose groups are numbered after the old ones of a switch; such groups
-abbrev pub rows_following : (old : Tables) (sw : ℕ) → List Row → List Row
-rows_following old sw rows = map (row_on (length (groups_at_switch old.tables sw))) rows
+abbrev pub rows_after_step : (old : Tables) (sw : ℕ) → List Row → List Row
+rows_after_step old sw rows = map (plan_row_on (length (groups_at_switch old.tables sw))) rows
 
 abbrev pub groups_following : (old : Tables) (sw : ℕ) → List Group → List Group
 groups_following old sw groups = map (numbered_on (length (groups_at_switch old.tables sw))) groups
@@ -56,9 +56,9 @@ pub record AreFourTables (old new : Tables) (tag sw : ℕ) (s : PlanTables) : Ty
   pub switch : s.switch ≡ sw
   pub before_rows : s.before.rows ≡ rows_of old.tables sw
   pub before_groups : s.before.groups ≡ groups_at_switch old.tables sw
-  pub added_rows : s.added.rows ≡ rows_of old.tables sw ++ rows_following old sw (tagged_rows (tag_digits old tag) tag (rows_of new.tables sw))
+  pub added_rows : s.added.rows ≡ rows_of old.tables sw ++ rows_after_step old sw (tagged_rows (tag_digits old tag) tag (rows_of new.tables sw))
   pub added_groups : s.added.groups ≡ groups_at_switch old.tables sw ++ groups_following old sw (groups_at_switch new.tables sw)
-  pub replaced_rows : s.replaced.rows ≡ tagged_rows (tag_digits old tag) tag (rows_of old.tables sw) ++ rows_following old sw (rows_of new.tables sw)
+  pub replaced_rows : s.replaced.rows ≡ tagged_rows (tag_digits old tag) tag (rows_of old.tables sw) ++ rows_after_step old sw (rows_of new.tables sw)
   pub replaced_groups : s.replaced.groups ≡ groups_at_switch old.tables sw ++ groups_following old sw (groups_at_switch new.tables sw)
-  pub removed_rows : s.removed.rows ≡ rows_following old sw (rows_of new.tables sw)
+  pub removed_rows : s.removed.rows ≡ rows_after_step old sw (rows_of new.tables sw)
   pub removed_groups : s.removed.groups ≡ groups_following old sw (groups_at_switch new.tables sw)

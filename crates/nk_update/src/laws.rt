@@ -3,7 +3,7 @@ ghost use Rattle.std.specs.Prelude.{◌≡◌, ◌≤◌, ◌<◌, ℕ, List, []
 ghost use Rattle.nk_table.specs.declared.Tables.{Tables};
 ghost use Rattle.nk_table.specs.Rules.{sent_for};
 ghost use Rattle.nk_update.specs.Plans.{Pair, IsPlannable};
-ghost use Rattle.nk_update.specs.Steps.{steps_of, plan_of, tables_after, AreFourTables};
+ghost use Rattle.nk_update.specs.Steps.{plan_steps_of, plan_of, tables_after, AreFourTables};
 ghost use Rattle.nk_update.specs.Tags.{HaveTheirTags};
 ghost use Rattle.nk_update.specs.Worked.{worked_pair, grouped_pair, GroupsGoOn};
 
@@ -27,7 +27,7 @@ pub fn lookup_by_tag()
 
 /// The four tables of a switch are the old one, and those after each of its three plan steps.
 pub fn the_four_tables()
-    ensures { (old new : Tables) (tag sw : ℕ) → AreFourTables old new tag sw (steps_of old new tag sw) }
+    ensures { (old new : Tables) (tag sw : ℕ) → AreFourTables old new tag sw (plan_steps_of old new tag sw) }
 {}
 
 /// A plan that is worked by hand.

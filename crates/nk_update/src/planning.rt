@@ -1,7 +1,7 @@
 //! The plan of an update.
 ghost use Rattle.std.specs.Prelude.{◌≡◌, IfOk, Some, map};
 ghost use Rattle.nk_update.specs.Plans.{NumbersInOrder, IsPlannable, pair_of, switches_of};
-ghost use Rattle.nk_update.specs.Steps.{steps_of, plan_of};
+ghost use Rattle.nk_update.specs.Steps.{plan_steps_of, plan_of};
 
 use crate::plans::{Plan, PlanTables};
 use crate::tables::plan_table;
@@ -39,7 +39,7 @@ fn each_switch(
     tag: Fid,
 ) -> Result<List<PlanTables>, AllocError>
     requires { NumbersInOrder new.now }
-    ensures { IfOk result (λ all. all ≡ map (steps_of old.now new.now tag) (switches_of old.now)) }
+    ensures { IfOk result (λ all. all ≡ map (plan_steps_of old.now new.now tag) (switches_of old.now)) }
 {
     let mut all = List::new(alloc);
     for switch in old.topo.switches() {
@@ -57,7 +57,7 @@ fn four(
     switch: u16,
 ) -> Result<PlanTables, AllocError>
     requires { NumbersInOrder new.now }
-    ensures { IfOk result (λ s. s ≡ steps_of old.now new.now tag switch) }
+    ensures { IfOk result (λ s. s ≡ plan_steps_of old.now new.now tag switch) }
 {
     let before = plan_table(alloc, old, new, tag, 0, switch)?;
     let added = plan_table(alloc, old, new, tag, 1, switch)?;

@@ -3,7 +3,7 @@ use Rattle.std.specs.List.{flat_map}
 use Rattle.std.proofs.lemmas.Bool.Decides.{nat_tests}
 use Rattle.nk_sim.specs.declared.transit.Crossing.{Crossing}
 use Rattle.nk_sim.specs.declared.transit.Flying.{Flying}
-use Rattle.nk_sim.specs.Flights.{HaveTrails, AreCrossed, AreWaiting, sent_flying, left_by}
+use Rattle.nk_sim.specs.Flights.{HaveTrails, AreCrossed, AreWaiting, sent_flying, left_by_hops}
 use Rattle.nk_sim.proofs.Steps.{sent_trails, waits_next, leave_after, nothing_after}
 use Rattle.nk_sim.proofs.tracing.runs.Goals as goal
 
@@ -49,5 +49,5 @@ returns c =
     let are : AreWaiting t pk k cs fs = subst (λ n. AreWaiting t pk n cs fs) last c.loop-step.invariant in
     let e : c.in_ok-sent-2.sent.items ≡ flat_map (sent_flying t) fs = c.in_ok-sent-2.ensures ∙ ap (flat_map (sent_flying t)) c.as_slice-2.ensures.value in
     subst (λ l. IfOk c.leave.result (λ left. left.items ≡ l))
-    ((λ i. flat_map (left_by t (c.as_slice-3.ensures.value i) k) (c.as_slice-4.ensures.value i)) ∙ leave_after t pk k cs fs c.in_ok-sent-2.sent.items are e)
+    ((λ i. flat_map (left_by_hops t (c.as_slice-3.ensures.value i) k) (c.as_slice-4.ensures.value i)) ∙ leave_after t pk k cs fs c.in_ok-sent-2.sent.items are e)
     c.leave.ensures

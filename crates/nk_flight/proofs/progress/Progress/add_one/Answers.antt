@@ -2,7 +2,7 @@ use Rattle.std.proofs.Common.{◌≡◌, ℕ, ◌∙◌, ◌<◌, ◌≤◌, Lis
 use Rattle.std.specs.Prelude.{slice_index, slice_index_or}
 use Rattle.std.proofs.lemmas.List.{get_or_default}
 use Rattle.nk_flight.specs.Progresses.{ProgressState, progress_at}
-use Rattle.nk_flight.specs.Updates.{done_by, one_more}
+use Rattle.nk_flight.specs.Updates.{done_by, one_more_event}
 use Rattle.nk_flight.proofs.Counting.{once_few, twice_few, progress_then, one_more_then}
 use Rattle.nk_flight.proofs.progress.Progress.add_one.Goals as goal
 
@@ -58,5 +58,5 @@ returns-clause-counts c = λ n.
     let less : c.args.switch < 65536 = omega (arith, c.ranges.switch.fits) in
     let is = is_there inside.switches.items inside.done.items c.args.self.now c.from-at.result c.args.switch s c.from-at.ensures less v.room c.self.view_is c.requires.there c.requires.few c.index-steps.ensures in
     one_more_then inside.done.items inside.switches.items c.from-at.result v.room is.0 v.distinct is.1 s is.2 n
-    ∙ ap (λ sw. one_more sw (done_by inside.done.items) n) c.from-at.ensures
-    ∙ ap (λ (p : ProgressState). one_more c.args.switch (done_by p.done) n) c.self.view_is
+    ∙ ap (λ sw. one_more_event sw (done_by inside.done.items) n) c.from-at.ensures
+    ∙ ap (λ (p : ProgressState). one_more_event c.args.switch (done_by p.done) n) c.self.view_is
