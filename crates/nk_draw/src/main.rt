@@ -16,7 +16,7 @@ fn main(rt: HostRuntime) -> ExitCode {
         Err(error) if error.kind() == ErrorKind::OutOfMemory => {
             told(&mut err, b"no memory\n", Status::NoMemory)
         }
-        Err(_) => told(&mut err, b"a word is not UTF-8\n", Status::Packet),
+        Err(_) => told(&mut err, b"a word is not UTF-8\n", Status::Refused),
     };
     ExitCode::from(status.code())
 }

@@ -24,8 +24,8 @@ switch_lines t sw =
     ++ flat_map (port_line t sw) (ports_of t sw) ++ codes "  }\n"
 
 -- the line of a link
-abbrev pub link_line : Link → List ℕ
-link_line l =
+abbrev pub link_arrow : Link → List ℕ
+link_arrow l =
     codes "  " ++ port_name l.from_switch l.from_port ++ codes " -> " ++ port_name l.to_switch l.to_port ++ codes ";\n"
 
 -- where a step begins: at the place before, or outside the network
@@ -45,11 +45,11 @@ steps_from before n [] = []
 steps_from before n (p ∷ ps) = step_line before n p ++ steps_from (Some p) (n + 1) ps
 
 -- the lines of a way: a step to each of its places, in order and numbered from 1, the first from outside
-abbrev pub way_lines : List Place → List ℕ
-way_lines ps = steps_from None 1 ps
+abbrev pub step_lines : List Place → List ℕ
+step_lines ps = steps_from None 1 ps
 
 -- the text of a network with a way: the switches in order of their numbers, the links in order of where they begin, the way
 abbrev pub drawing : Topology → List Place → List ℕ
 drawing t way =
     codes "digraph network {\n  rankdir=LR;\n  node [shape=circle];\n" ++ flat_map (switch_lines t) (numbers_of t)
-    ++ flat_map link_line t.links ++ way_lines way ++ codes "}\n"
+    ++ flat_map link_arrow t.links ++ step_lines way ++ codes "}\n"

@@ -3,6 +3,7 @@ ghost use Rattle.std.specs.Prelude.{◌≡◌, ◌++◌, codes, decimal, IfOk, O
 ghost use Rattle.std.specs.List.{flat_map};
 ghost use Rattle.nk_topo.specs.Inside.{link_of};
 ghost use Rattle.nk_topo.specs.Topology.{numbers_of, ports_of};
+ghost use Rattle.nk_picture.specs.Answer.{word_line};
 ghost use Rattle.nk_picture.specs.Drawing as specs;
 
 use crate::way::Place;
@@ -87,7 +88,7 @@ fn edge_mark(topo: &Topo, sw: u16, pt: u16) -> &'static [u8]
 
 /// The links.
 fn push_links(out: &mut Vec<u8>, topo: &Topo) -> Result<(), AllocError>
-    ensures { OnOk result (out.new.items ≡ out.old.items ++ flat_map specs.link_line topo.now.links) }
+    ensures { OnOk result (out.new.items ≡ out.old.items ++ flat_map specs.link_arrow topo.now.links) }
 {
     let links = topo.links();
     for link in links {
@@ -98,7 +99,7 @@ fn push_links(out: &mut Vec<u8>, topo: &Topo) -> Result<(), AllocError>
 
 /// A link.
 fn push_link(out: &mut Vec<u8>, link: (u16, u16, u16, u16)) -> Result<(), AllocError>
-    ensures { OnOk result (out.new.items ≡ out.old.items ++ specs.link_line (link_of link)) }
+    ensures { OnOk result (out.new.items ≡ out.old.items ++ specs.link_arrow (link_of link)) }
 {
     out.extend_from_slice(b"  ")?;
     push_name(out, link.0 as u64, link.1 as u64)?;
@@ -110,7 +111,7 @@ fn push_link(out: &mut Vec<u8>, link: (u16, u16, u16, u16)) -> Result<(), AllocE
 
 /// The steps of a way.
 fn push_way(out: &mut Vec<u8>, way: &[Place]) -> Result<(), AllocError>
-    ensures { OnOk result (out.new.items ≡ out.old.items ++ specs.way_lines way.now) }
+    ensures { OnOk result (out.new.items ≡ out.old.items ++ specs.step_lines way.now) }
 {
     let mut before = None;
     for (i, place) in way.iter().enumerate() {
@@ -173,20 +174,12 @@ fn push_number(out: &mut Vec<u8>, n: u64) -> Result<(), AllocError>
     Ok(())
 }
 
-/// A number between a front and `: WORDS`, as a line.
-pub(crate) fn numbered(
-    alloc: Global,
-    front: &str,
-    number: u64,
-    words: &str,
-) -> Result<Vec<u8>, AllocError>
-    ensures { IfOk result (λ v. v.items ≡ front.now ++ decimal number ++ codes ": " ++ words.now ++ codes "\n") }
+/// The line that tells which word is no packet.
+pub(crate) fn word_message(alloc: Global, number: u64) -> Result<Vec<u8>, AllocError>
+    ensures { IfOk result (λ v. v.items ≡ word_line number) }
 {
-    let mut line = Vec::new(alloc);
-    line.extend_from_slice(front.as_bytes())?;
+    let mut line = Vec::from_slice(alloc, b"word ")?;
     push_number(&mut line, number)?;
-    line.extend_from_slice(b": ")?;
-    line.extend_from_slice(words.as_bytes())?;
-    line.extend_from_slice(b"\n")?;
+    line.extend_from_slice(b": bad packet\n")?;
     Ok(line)
 }

@@ -3,11 +3,8 @@
 #![tactic(auto)]
 
 mod drawing;
-mod network;
-mod reply;
-mod status;
 mod top;
 mod way;
 
-pub use status::Status;
+pub use nk_reply::Status;
 pub use top::draw;

@@ -1,16 +1,17 @@
 //! The top call.
 ghost use Rattle.std.specs.Prelude.{◌≡◌, false, Ok, IfOk, map, string_bytes};
-ghost use Rattle.nk_picture.specs.Answer.{answer_in, to_network};
-ghost use Rattle.nk_picture.specs.Ends.{Ends, IsMeant, LeavesAlone, asks_for_text, stream_state};
-ghost use Rattle.nk_picture.specs.Network.{network_of};
+ghost use Rattle.nk_names.specs.ProgramOf.{program_by};
+ghost use Rattle.nk_reply.specs.Reply.{answer_in, IsReplyOf, outcome_of};
+ghost use Rattle.nk_reply.specs.Sent.{LeavesAlone};
+ghost use Rattle.nk_reply.specs.Use.{use_of};
+ghost use Rattle.nk_picture.specs.Answer.{Ends, IsMeantWith, IsOutcomeOf, asks_for_text, word_line};
 ghost use Rattle.nk_picture.specs.Way as specs;
 
-use crate::Status;
-use crate::drawing::{drawing, numbered};
-use crate::network::{Network, read_network};
-use crate::reply::{Reply, deliver};
+use crate::drawing::{drawing, word_message};
 use crate::way::{Place, Way, way_of};
-use nk_io::{LONGEST, ReadError, Sink, Source, read_all};
+use nk_input::{ReadText, read_program};
+use nk_io::{LONGEST, Sink, Source, read_all};
+use nk_reply::{CommandAnswer, Reply, Status, deliver};
 use std::alloc::{AllocError, Global};
 
 /// Draws the network of the text that the source has, with the way that the words give: each word is a packet with its switch
@@ -26,9 +27,9 @@ pub fn draw<S: Source, O: Sink, E: Sink>(
 ) -> Status
     // An answer was meant for a cause, and then sent, or its sink failed at it.
     ensures ends { Ends (map (λ w. string_bytes w) words.now)
-        (stream_state S.left S.faults source.old) (stream_state S.left S.faults source.new)
-        (stream_state O.taken O.faults out.old) (stream_state O.taken O.faults out.new)
-        (stream_state E.taken E.faults err.old) (stream_state E.taken E.faults err.new) result }
+        (use_of S.left S.faults source.old source.new)
+        (use_of O.taken O.faults out.old out.new)
+        (use_of E.taken E.faults err.old err.new) result }
     // No call was made on the source where a word is neither heading nor packet.
     ensures unread { asks_for_text (specs.way_of_words (map (λ w. string_bytes w) words.now)) ≡ false
         → source.new ≡ source.old }
@@ -41,43 +42,49 @@ pub fn draw<S: Source, O: Sink, E: Sink>(
 
 /// What the run means to say. Nothing is written yet.
 fn reply_to_words<S: Source>(alloc: Global, words: &[String], source: &mut S) -> Reply
-    ensures meant { IsMeant (specs.way_of_words (map (λ w. string_bytes w) words.now))
-        (stream_state S.left S.faults source.old) (stream_state S.left S.faults source.new) (answer_in result) }
+    ensures meant { IsMeantWith (specs.way_of_words (map (λ w. string_bytes w) words.now))
+        (use_of S.left S.faults source.old source.new) (answer_in result) }
     ensures unread { asks_for_text (specs.way_of_words (map (λ w. string_bytes w) words.now)) ≡ false
         → source.new ≡ source.old }
 {
     match way_of(alloc, words) {
         Ok(Way::Places(places)) => reply_to_way(alloc, &places, source),
-        Ok(Way::Bad(number)) => match numbered(alloc, "word ", number, "bad packet") {
-            Ok(message) => Reply::Packet(message),
-            Err(_) => Reply::NoMemory,
+        Ok(Way::Bad(number)) => match word_message(alloc, number) {
+            Ok(message) => Reply::CommandAnswer(CommandAnswer::Refused(message)),
+            Err(AllocError) => Reply::NoMemory,
         },
-        Err(_) => Reply::NoMemory,
+        Err(AllocError) => Reply::NoMemory,
     }
 }
 
 /// The same of a way.
 fn reply_to_way<S: Source>(alloc: Global, way: &[Place], source: &mut S) -> Reply
-    ensures { IsMeant (Ok way.now)
-        (stream_state S.left S.faults source.old) (stream_state S.left S.faults source.new) (answer_in result) }
+    ensures { IsMeantWith (Ok way.now) (use_of S.left S.faults source.old source.new) (answer_in result) }
 {
     match read_all(alloc, source, LONGEST) {
-        Ok(bytes) => match reply_to_text(alloc, way, &bytes) {
-            Ok(reply) => reply,
-            Err(_) => Reply::NoMemory,
-        },
-        Err(ReadError::ReadFault) => Reply::ReadFault,
-        Err(ReadError::TooLong) => Reply::TooLong,
-        Err(ReadError::NoMemory) => Reply::NoMemory,
+        Ok(bytes) => reply_to_text(alloc, way, bytes),
+        Err(error) => Reply::unread(error),
+    }
+}
+
+/// The same of all of a text, where memory doesn't run out.
+fn reply_to_text(alloc: Global, way: &[Place], bytes: Vec<u8>) -> Reply
+    ensures { IsReplyOf (IsOutcomeOf way.now bytes.items) result }
+{
+    match answer_to_text(alloc, way, bytes) {
+        Ok(answer) => Reply::CommandAnswer(answer),
+        Err(AllocError) => Reply::NoMemory,
     }
 }
 
 /// The drawing of a text's network with a way, or the line of the text's first fault.
-fn reply_to_text(alloc: Global, way: &[Place], bytes: &[u8]) -> Result<Reply, AllocError>
-    ensures { IfOk result (λ r. answer_in r ≡ to_network way.now (network_of bytes.now)) }
+fn answer_to_text(alloc: Global, way: &[Place], bytes: Vec<u8>) -> Result<CommandAnswer, AllocError>
+    ensures { IfOk result (λ s. IsOutcomeOf way.now bytes.items (outcome_of s)) }
 {
-    match read_network(alloc, bytes)? {
-        Network::Program(program) => Ok(Reply::Drawing(drawing(alloc, &program.topo, way)?)),
-        Network::Fault(line) => Ok(Reply::Text(line)),
+    match read_program(alloc, bytes)? {
+        ReadText::Program(program) => {
+            Ok(CommandAnswer::Done(drawing(alloc, &program.topo, way)?))
+        }
+        ReadText::Fault(line) => Ok(CommandAnswer::Text(line)),
     }
 }
