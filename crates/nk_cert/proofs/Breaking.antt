@@ -13,9 +13,9 @@ use Rattle.nk_policy.proofs.PositionSteps.{left_gives, right_gives}
 use Rattle.nk_store.specs.declared.node.Out.{Out}
 use Rattle.nk_store.specs.StoreState.{StoreState, IsStorePacket}
 use Rattle.nk_store.proofs.InRange.{packet_in_range, packet_of_fields}
-use Rattle.nk_reach.specs.Pairs.{Node, AreLabelsBelow, IsStep}
+use Rattle.nk_determ.specs.Pairs.{Node, AreLabelsBelow, IsStep}
 use Rattle.nk_reach.specs.Sides.{EndsAt}
-use Rattle.nk_reach.specs.Breaks.{Walks, IsBreak, Breaks}
+use Rattle.nk_determ.specs.Breaks.{Walks, IsBreak, Breaks}
 use Rattle.nk_runs.specs.Labels.{IsAmong}
 use Rattle.nk_runs.proofs.Walking.{walk_in_range, walks_met, walk_places, given_walked}
 use Rattle.nk_cert.specs.Equality.{Side, on_left, on_right, IsAloneFrom, IsOfOneAlone, IsLeastDifference}

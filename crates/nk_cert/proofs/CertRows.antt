@@ -20,10 +20,10 @@ use Rattle.nk_apply.specs.Unions.{AreIds}
 use Rattle.nk_determ.specs.Exact.{Sends}
 use Rattle.nk_determ.specs.States.{StateLeads}
 use Rattle.nk_auto.proofs.Stating.{label_within}
-use Rattle.nk_reach.specs.Pairs.{AreLabelsBelow, IsStep}
-use Rattle.nk_reach.specs.Sides.{alone, alone_sided, ends_of, ends_same, MakesWithTarget, AreOneSided}
-use Rattle.nk_reach.specs.Sides.{EndsAt}
-use Rattle.nk_reach.proofs.Growing.{place_of}
+use Rattle.nk_determ.specs.Pairs.{AreLabelsBelow, IsStep}
+use Rattle.nk_reach.specs.Sides.{alone, alone_sided, ends_of, ends_same, AreOneSided, EndsAt}
+use Rattle.nk_determ.specs.Breaks.{MakesWithTarget}
+use Rattle.nk_goal.proofs.Growing.{place_of}
 use Rattle.nk_runs.proofs.Numbers.{dup_within}
 use Rattle.nk_runs.proofs.Listings.{all_listed, some_decided, sends_decided}
 use Rattle.nk_runs.proofs.Stands.{stands, state_on, are_states}

@@ -13,19 +13,18 @@ use Rattle.nk_store.specs.StoreState.{StoreState, Grows, AreTidy}
 use Rattle.nk_store.proofs.Stores.{grows_on}
 use Rattle.nk_sets.specs.PacketSets.{is_in}
 use Rattle.nk_determ.specs.Sets.{HasEachSetOnce}
-use Rattle.nk_reach.specs.Pairs.{AreStates, EachPair, IsPair}
-use Rattle.nk_reach.specs.Rounds.{HaveSets}
-use Rattle.nk_reach.specs.Levels.{AreLevels}
+use Rattle.nk_determ.specs.Pairs.{AreStates, EachPair, IsPair}
+use Rattle.nk_goal.specs.Entries.{HaveSets}
+use Rattle.nk_determ.specs.Levels.{AreLevels}
 use Rattle.nk_reach.specs.Sides.{alone, ends_of}
-use Rattle.nk_reach.specs.Breaks.{IsBreak, Breaks}
-use Rattle.nk_reach.proofs.Growing.{states_grow}
-use Rattle.nk_reach.proofs.Kept.{has_on}
+use Rattle.nk_determ.specs.Breaks.{IsBreak, Breaks}
+use Rattle.nk_goal.proofs.Growing.{states_grow}
+use Rattle.nk_outs.proofs.Kept.{has_on}
 use Rattle.nk_runs.proofs.Stands.{packet_back, are_states}
-use Rattle.nk_reach.specs.Finds.{first_set, first_packets, found_of}
-use Rattle.nk_reach.specs.Finds.{target_of as witness_target}
-use Rattle.nk_reach.specs.declared.found.Side.{Side}
-use Rattle.nk_reach.specs.declared.found.Side.TheVariants.{Left, Right}
-use Rattle.nk_reach.proofs.Settling.{levels_now}
+use Rattle.nk_witness.specs.Finds.{first_set, first_packets, found_of, target_of as witness_target}
+use Rattle.nk_witness.specs.declared.found.Side.{Side}
+use Rattle.nk_witness.specs.declared.found.Side.TheVariants.{Left, Right}
+use Rattle.nk_witness.proofs.Settling.{levels_now}
 use Rattle.nk_cert.specs.Equality.{on_left, on_right, AreSame, IsOfOneAlone, IsLeastDifference}
 use Rattle.nk_cert.specs.Equality.{Side as SideOfBoth}
 use Rattle.nk_cert.specs.Together.{either_of}

@@ -6,13 +6,13 @@ use Rattle.nk_store.specs.StoreState.{StoreState, Grows}
 use Rattle.nk_sets.specs.PacketSets.{is_in}
 use Rattle.nk_apply.specs.Unions.{AreIds}
 use Rattle.nk_determ.specs.Sets.{SetsGrow}
-use Rattle.nk_reach.specs.Pairs.{Node, Under, Within, AreStates, AreLabelsBelow, IsPair, ArePairs, IsStep}
-use Rattle.nk_reach.specs.Goals.{PairHasViolation, PairHasNoViolation, MeetsViolation, MeetsNoViolation}
+use Rattle.nk_determ.specs.Pairs.{Node, Under, Within, AreStates, AreLabelsBelow, IsPair, ArePairs, IsStep}
+use Rattle.nk_goal.specs.Goals.{PairHasViolation, PairHasNoViolation, MeetsViolation, MeetsNoViolation}
 use Rattle.nk_reach.specs.Rounds.{IsNextLevel}
 use Rattle.nk_reach.specs.Sides.{alone, ends_of, ends_same, IsPropertyOfEnds, property_grows}
-use Rattle.nk_reach.proofs.Kept.{packet_on, packet_back, has_on, has_back}
-use Rattle.nk_reach.proofs.Growing.{sets_refl, sets_same, packets_of, pairs_on, within_on, within_back, within_or_not, states_grow, step_on, step_back}
-use Rattle.nk_reach.proofs.Violations.{none_back}
+use Rattle.nk_outs.proofs.Kept.{packet_on, packet_back, has_on, has_back}
+use Rattle.nk_goal.proofs.Growing.{sets_refl, sets_same, packets_of, pairs_on, within_on, within_back, within_or_not, states_grow, step_on, step_back}
+use Rattle.nk_goal.proofs.Violations.{none_back}
 use Rattle.nk_reach.proofs.Round.{first_node}
 use Rattle.nk_cert.specs.declared.certificate.CertPart.{CertPart}
 use Rattle.nk_cert.specs.declared.certificate.CertPart.TheVariants.{Position, Start, Finals, Hop}

@@ -21,9 +21,10 @@ use Rattle.nk_store.proofs.InRange.{packet_in_range, packet_of_fields}
 use Rattle.nk_determ.specs.Exact.{Sends}
 use Rattle.nk_auto.specs.Automaton.{IsState, IsAutomaton}
 use Rattle.nk_auto.proofs.Stating.{label_within}
-use Rattle.nk_reach.specs.Pairs.{Node, AreLabelsBelow}
-use Rattle.nk_reach.specs.Levels.{At, AreLevels}
-use Rattle.nk_reach.specs.Sides.{label_side, MakesWithTarget, EndsAt}
+use Rattle.nk_determ.specs.Pairs.{Node, AreLabelsBelow}
+use Rattle.nk_determ.specs.Levels.{At, AreLevels}
+use Rattle.nk_reach.specs.Sides.{label_side, EndsAt}
+use Rattle.nk_determ.specs.Breaks.{MakesWithTarget}
 use Rattle.nk_runs.proofs.Listings.{some_decided, sends_decided}
 use Rattle.nk_runs.proofs.Stands.{stands, packet_back}
 use Rattle.nk_runs.proofs.Labelled.{met_in_range, met_labels, labels_met}

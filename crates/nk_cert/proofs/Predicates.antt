@@ -19,7 +19,7 @@ use Rattle.nk_auto.specs.Plain.{Sends}
 use Rattle.nk_auto.specs.Continued.{IsSilent}
 use Rattle.nk_auto.proofs.Predicates.{predicate_assigns}
 use Rattle.nk_auto.proofs.Silences.{not_silent, twice_silent}
-use Rattle.nk_reach.proofs.Kept.{packet_back}
+use Rattle.nk_outs.proofs.Kept.{packet_back}
 use Rattle.nk_cert.specs.Levelled.{HasEach}
 use Rattle.nk_cert.specs.Judged.{IsPacketsOf}
 

@@ -17,10 +17,10 @@ use Rattle.nk_policy.specs.declared.policy.Pol.{Pol}
 use Rattle.nk_store.specs.StoreState.{StoreState, Grows}
 use Rattle.nk_sets.proofs.SetLemmas.{set_grows}
 use Rattle.nk_determ.specs.Sets.{SetsGrow, IsSetOf}
-use Rattle.nk_reach.specs.Pairs.{AreLabelsBelow, IsPair, EachPair}
-use Rattle.nk_reach.specs.Rounds.{IsMerged}
-use Rattle.nk_reach.proofs.Kept.{packet_back, has_on, has_back}
-use Rattle.nk_reach.proofs.Growing.{sets_same, pair_on, packets_of, pairs_of, named_known, under_on, under_back}
+use Rattle.nk_determ.specs.Pairs.{AreLabelsBelow, IsPair, EachPair}
+use Rattle.nk_goal.specs.Entries.{IsMerged}
+use Rattle.nk_outs.proofs.Kept.{packet_back, has_on, has_back}
+use Rattle.nk_goal.proofs.Growing.{sets_same, pair_on, packets_of, pairs_of, named_known, under_on, under_back}
 use Rattle.nk_cert.specs.Certificates.{at_dups, RowValue}
 use Rattle.nk_cert.specs.Checked.{IsSetAt}
 use Rattle.nk_cert.specs.Values.{held_row_value, row_values}

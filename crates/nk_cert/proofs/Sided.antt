@@ -7,10 +7,10 @@ use Rattle.nk_store.specs.declared.node.Out.{Out}
 use Rattle.nk_store.specs.StoreState.{StoreState, IsId, IsStorePacket, Grows, AreTidy}
 use Rattle.nk_apply.specs.Unions.{AreIds}
 use Rattle.nk_auto.proofs.Sending.{sends_on, sends_back}
-use Rattle.nk_reach.specs.Pairs.{AreLabelsBelow}
-use Rattle.nk_reach.specs.Levels.{AreLevels}
+use Rattle.nk_determ.specs.Pairs.{AreLabelsBelow}
+use Rattle.nk_determ.specs.Levels.{AreLevels}
 use Rattle.nk_reach.specs.Sides.{alone, alone_sided, ends_of, ends_same, EndsAt, AreOneSided}
-use Rattle.nk_reach.proofs.Growing.{place_of}
+use Rattle.nk_goal.proofs.Growing.{place_of}
 use Rattle.nk_runs.proofs.Stands.{packet_back, are_states}
 use Rattle.nk_store.proofs.Stores.{grows_on}
 use Rattle.nk_cert.specs.Together.{either_of}

@@ -8,8 +8,8 @@ use Rattle.nk_policy.specs.Tree.{tree_of}
 use Rattle.nk_policy.specs.declared.policy.Pol.{Pol}
 use Rattle.nk_store.specs.StoreState.{StoreState, Grows}
 use Rattle.nk_determ.specs.Sets.{SetsGrow, IsSetOf}
-use Rattle.nk_reach.specs.Pairs.{AreLabelsBelow}
-use Rattle.nk_reach.proofs.Growing.{pair_on, sets_same}
+use Rattle.nk_determ.specs.Pairs.{AreLabelsBelow}
+use Rattle.nk_goal.proofs.Growing.{pair_on, sets_same}
 use Rattle.nk_cert.specs.Certificates.{at_start, RowValue, CertificateValue, CertRow, certificate_rows, later_row}
 use Rattle.nk_cert.specs.Verdicts.{HasPredicates}
 use Rattle.nk_cert.specs.Values.{held_row_value, row_values}

@@ -6,9 +6,9 @@ use Rattle.nk_store.specs.StoreState.{StoreState, IsStorePacket, Grows, AreTidy}
 use Rattle.nk_store.proofs.Stores.{grows_on}
 use Rattle.nk_apply.specs.Unions.{AreIds}
 use Rattle.nk_determ.specs.Sets.{HasAscendingSets}
-use Rattle.nk_reach.specs.Pairs.{AreLabelsBelow, ArePairs}
+use Rattle.nk_determ.specs.Pairs.{AreLabelsBelow, ArePairs}
 use Rattle.nk_reach.specs.Sides.{alone, ends_of, AreSideFinals, AreOneSided, IsPropertyOfEnds, property_grows}
-use Rattle.nk_reach.proofs.Growing.{states_grow}
+use Rattle.nk_goal.proofs.Growing.{states_grow}
 use Rattle.nk_runs.proofs.Stands.{are_states}
 use Rattle.nk_cert.specs.declared.certificate.Verdict.{Verdict}
 use Rattle.nk_cert.specs.Together.{either_of}

@@ -2,9 +2,9 @@
 use Rattle.std.specs.Prelude.{◌+◌}
 use Rattle.nk_field.specs.Packet.{FieldTable}
 use Rattle.nk_policy.specs.Policy.{Policy, marked_from, dups_of}
-use Rattle.nk_reach.specs.Finds.{found_of}
-use Rattle.nk_reach.specs.declared.found.Side.{Side}
-use Rattle.nk_reach.specs.declared.found.Side.TheVariants.{Left, Right}
+use Rattle.nk_witness.specs.Finds.{found_of}
+use Rattle.nk_witness.specs.declared.found.Side.{Side}
+use Rattle.nk_witness.specs.declared.found.Side.TheVariants.{Left, Right}
 use Rattle.nk_cert.specs.Equality.{on_left, on_right, AreSame, IsLeastDifference}
 use Rattle.nk_cert.specs.Equality.{Side as SideOfBoth}
 use Rattle.nk_cert.specs.Certificates.{CertificateValue, IsCertificate}

@@ -5,8 +5,8 @@ use Rattle.nk_policy.specs.After.{id_policy}
 use Rattle.nk_store.specs.declared.node.Out.{Out}
 use Rattle.nk_store.specs.StoreState.{StoreState, IsStorePacket}
 use Rattle.nk_sets.specs.PacketSets.{is_in, IsSet}
-use Rattle.nk_reach.specs.Pairs.{Node, Under, Within, AreStates, IsPair, ArePairs, IsStep}
-use Rattle.nk_reach.specs.Goals.{PairHasViolation, PairHasNoViolation}
+use Rattle.nk_determ.specs.Pairs.{Node, Under, Within, AreStates, IsPair, ArePairs, IsStep}
+use Rattle.nk_goal.specs.Goals.{PairHasViolation, PairHasNoViolation}
 use Rattle.nk_reach.specs.Sides.{IsPropertyOfEnds}
 use Rattle.nk_cert.specs.declared.certificate.CertPart.{CertPart}
 use Rattle.nk_cert.specs.declared.certificate.CertPart.TheVariants.{Position, Start, Finals, Hop}

@@ -4,8 +4,8 @@ use Rattle.std.specs.Map.{lookup}
 use Rattle.nk_store.specs.StoreState.{StoreState, IsStorePacket}
 use Rattle.nk_sets.specs.PacketSets.{IsSet}
 use Rattle.nk_sets.specs.PolicyOf.{IsPolicyOf}
-use Rattle.nk_reach.specs.Pairs.{Under, Once}
-use Rattle.nk_reach.specs.Rounds.{HaveSets}
+use Rattle.nk_determ.specs.Pairs.{Under, Once}
+use Rattle.nk_goal.specs.Entries.{HaveSets}
 use Rattle.nk_tag.specs.Numbers.{later_level}
 use Rattle.nk_cert.specs.Certificates.{RowValue}
 

@@ -7,8 +7,8 @@ use Rattle.nk_store.specs.StoreState.{StoreState, IsId, Grows, IsOver, IsStorePa
 use Rattle.nk_apply.specs.Unions.{AreIds}
 use Rattle.nk_sets.specs.PacketSets.{is_in}
 use Rattle.nk_auto.specs.Automaton.{IsState, IsAutomaton}
-use Rattle.nk_reach.specs.Pairs.{AreLabelsBelow}
-use Rattle.nk_reach.specs.Levels.{AreLevels}
+use Rattle.nk_determ.specs.Pairs.{AreLabelsBelow}
+use Rattle.nk_determ.specs.Levels.{AreLevels}
 use Rattle.nk_reach.specs.Sides.{alone, ends_of, AreOneSided}
 use Rattle.nk_cert.specs.Equality.{Side, on_left, on_right}
 use Rattle.nk_cert.specs.Together.{AreNumbered, either_of}

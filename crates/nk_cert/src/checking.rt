@@ -21,8 +21,9 @@ use crate::pairing::{Both, automaton_of_both, number_after};
 use indexmap::IndexMap;
 use nk_determ::Sets;
 use nk_field::Fields;
+use nk_goal::add_level;
 use nk_policy::Pol;
-use nk_reach::{OneSide, add_level};
+use nk_reach::OneSide;
 use nk_store::Store;
 use std::alloc::{AllocError, Global};
 

@@ -1,6 +1,6 @@
 //! How two policies compare.
 use crate::certificate::Certificate;
-use nk_reach::Found;
+use nk_witness::Found;
 
 /// How two policies compare.
 #[derive(Drop)]

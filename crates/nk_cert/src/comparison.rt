@@ -17,8 +17,8 @@ use crate::printed::certificate_of;
 use nk_determ::Sets;
 use nk_field::Fields;
 use nk_policy::{Pol, marked};
-use nk_reach::least_history;
 use nk_store::Store;
+use nk_witness::least_history;
 use std::alloc::{AllocError, Global};
 
 /// Whether two policies give the same histories on every packet in range, located or not, the tag being a field like any

@@ -2,7 +2,7 @@
 ghost use Rattle.std.specs.Prelude.{◌≡◌, ◌<◌, ◌∷◌, [], ℕ, true, false, IfOk, OnOk, length, List as Items};
 ghost use Rattle.nk_store.specs.StoreState.{StoreState, Grows};
 ghost use Rattle.nk_determ.specs.Sets.{SetsGrow};
-ghost use Rattle.nk_reach.specs.Pairs.{IsPair};
+ghost use Rattle.nk_determ.specs.Pairs.{IsPair};
 ghost use Rattle.nk_reach.specs.Sides.{alone, ends_of};
 ghost use Rattle.nk_cert.specs.Values.{row_values};
 ghost use Rattle.nk_cert.specs.Judged.{CanJudge, AreLabels, AreEntriesOf, IsSetJudged, IsRowJudged, IsStartJudged, IsJudged, row_at, entry_at};
@@ -13,8 +13,9 @@ use crate::packets::has_each;
 use indexmap::IndexMap;
 use nk_determ::{SetId, Sets};
 use nk_field::List;
+use nk_goal::any_violation;
 use nk_policy::Pol;
-use nk_reach::{OneSide, any_violation, next_level};
+use nk_reach::{OneSide, next_level};
 use nk_store::{Id, Store};
 use std::alloc::{AllocError, Global};
 

@@ -2,15 +2,15 @@
 ghost use Rattle.std.specs.Prelude.{◌≡◌, ◌<◌, ◌∷◌, [], IfOk, length};
 ghost use Rattle.nk_store.specs.StoreState.{IsId, Grows};
 ghost use Rattle.nk_determ.specs.Sets.{SetsGrow};
-ghost use Rattle.nk_reach.specs.Pairs.{AreStates};
+ghost use Rattle.nk_determ.specs.Pairs.{AreStates};
 ghost use Rattle.nk_reach.specs.Sides.{IsPropertyOfEnds};
 ghost use Rattle.nk_cert.specs.Levelled.{AreSideLevels};
 
 use crate::pairing::Both;
 use nk_apply::identity;
-use nk_determ::Sets;
+use nk_determ::{Levels, Sets};
 use nk_field::List;
-use nk_reach::{Levels, OneSide, levels};
+use nk_reach::{OneSide, levels};
 use nk_store::{Id, Store};
 use std::alloc::{AllocError, Global};
 

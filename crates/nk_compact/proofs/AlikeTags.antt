@@ -18,8 +18,8 @@ use Rattle.nk_policy.specs.Distinct.{HasDistinct}
 use Rattle.nk_store.specs.StoreState.{StoreState, AreTidy, IsOver}
 use Rattle.nk_store.proofs.InRange.{packet_in_range, packet_of_fields}
 use Rattle.nk_determ.specs.Automaton.{IsAutomaton}
-use Rattle.nk_reach.specs.declared.found.Side.{Side}
-use Rattle.nk_reach.specs.declared.found.Side.TheVariants.{Left, Right}
+use Rattle.nk_witness.specs.declared.found.Side.{Side}
+use Rattle.nk_witness.specs.declared.found.Side.TheVariants.{Left, Right}
 use Rattle.nk_switches.specs.Matched.{Matched}
 use Rattle.nk_switches.specs.Tagged.{set_of_tag}
 use Rattle.nk_switches.proofs.Matching.{of_second, matched_maps}

@@ -6,8 +6,8 @@ use Rattle.nk_store.specs.StoreState.{StoreState, Grows}
 use Rattle.nk_store.proofs.Stores.{grows_same, grows_on}
 use Rattle.nk_determ.specs.Sets.{SetsGrow}
 use Rattle.nk_determ.specs.Pairs.{AreLabelsBelow}
-use Rattle.nk_reach.specs.declared.found.Found as declared
-use Rattle.nk_reach.proofs.Growing.{states_grow}
+use Rattle.nk_witness.specs.declared.found.Found as declared
+use Rattle.nk_goal.proofs.Growing.{states_grow}
 use Rattle.nk_switches.proofs.Growing.{set_kept, sets_grow_on, known_kept}
 use Rattle.nk_switches.proofs.Matching.{matched_push}
 use Rattle.nk_merge.specs.Alike.{AreAlike, labels_after}

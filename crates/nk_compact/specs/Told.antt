@@ -3,8 +3,8 @@ use Rattle.std.specs.Prelude.{◌≡◌, ℕ, zero, suc, ◌<◌, ltb, cond, Lis
 use Rattle.nk_store.specs.StoreState.{StoreState, Grows}
 use Rattle.nk_determ.specs.Sets.{SetsGrow}
 use Rattle.nk_determ.specs.Pairs.{AreLabelsBelow, AreStates}
-use Rattle.nk_reach.specs.declared.found.Side.{Side}
-use Rattle.nk_reach.specs.declared.found.Side.TheVariants.{Left, Right}
+use Rattle.nk_witness.specs.declared.found.Side.{Side}
+use Rattle.nk_witness.specs.declared.found.Side.TheVariants.{Left, Right}
 use Rattle.nk_switches.specs.Matched.{Matched}
 use Rattle.nk_merge.specs.Alike.{labels_after, tag_set}
 use Rattle.nk_merge.specs.Distinguish.{IsLeastOfOne}

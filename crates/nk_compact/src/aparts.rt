@@ -10,8 +10,8 @@ use crate::compact::Apart;
 use nk_determ::{SetId, Sets};
 use nk_field::List;
 use nk_merge::{DisjointCopy, distinguish};
-use nk_reach::{Found, Side};
 use nk_store::{Id, Store};
+use nk_witness::{Found, Side};
 use std::alloc::AllocError;
 
 /// What tells any two of the classes apart, in the order of the first and then of the second. `firsts` are the places of their

@@ -24,9 +24,9 @@ use Rattle.nk_determ.specs.Sets.{HasEachSetOnce, HasAscendingSets}
 use Rattle.nk_auto.specs.Automaton.{IsAutomaton}
 use Rattle.nk_tag.specs.Numbers.{IsAtOdd, AreEntries, AreNumbers}
 use Rattle.nk_runs.specs.Labels.{IsAmong}
-use Rattle.nk_reach.specs.Levels.{AreLevels}
-use Rattle.nk_reach.specs.Pairs.{EachPair, IsPair, Named}
-use Rattle.nk_reach.specs.Breaks.{Breaks}
+use Rattle.nk_determ.specs.Levels.{AreLevels}
+use Rattle.nk_determ.specs.Pairs.{EachPair, IsPair, Named}
+use Rattle.nk_determ.specs.Breaks.{Breaks}
 use Rattle.nk_runs.proofs.Stands.{stands}
 use Rattle.nk_runs.proofs.Ends.{none_ends}
 use Rattle.nk_runs.proofs.Breaking.{is_alert, breaks_given}

@@ -17,14 +17,13 @@ use Rattle.nk_determ.specs.Targets.{option_out, out_by_table, retargeted}
 use Rattle.nk_auto.proofs.Sending.{sent_in_range}
 use Rattle.nk_runs.specs.Wrong.{AreWrongEnds}
 use Rattle.nk_sets.specs.PacketSets.{has_some_out}
-use Rattle.nk_reach.specs.Pairs.{AreStates}
-use Rattle.nk_reach.specs.Levels.{AreLevels}
-use Rattle.nk_reach.specs.Sides.{MakesWithTarget}
-use Rattle.nk_reach.specs.Breaks.{Breaks}
-use Rattle.nk_reach.specs.Finds.{first_set, first_packets}
-use Rattle.nk_reach.proofs.Settling.{settled}
+use Rattle.nk_determ.specs.Pairs.{AreStates}
+use Rattle.nk_determ.specs.Levels.{AreLevels}
+use Rattle.nk_determ.specs.Breaks.{MakesWithTarget, Breaks}
+use Rattle.nk_witness.specs.Finds.{first_set, first_packets}
+use Rattle.nk_witness.proofs.Settling.{settled}
 use Rattle.nk_store.proofs.Stores.{grows_same}
-use Rattle.nk_reach.proofs.Growing.{sets_refl}
+use Rattle.nk_goal.proofs.Growing.{sets_refl}
 use Rattle.nk_switches.proofs.Growing.{set_kept}
 use Rattle.nk_edges.specs.Edges.{is_start, is_no_edge}
 use Rattle.nk_compile.specs.Levelled.{IsLevelled, IsLeastOff}

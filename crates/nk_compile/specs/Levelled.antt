@@ -4,7 +4,7 @@ use Rattle.nk_topo.specs.Topology.{Topology}
 use Rattle.nk_store.specs.declared.node.Out.{Out}
 use Rattle.nk_store.specs.StoreState.{StoreState, Grows, AreTidy}
 use Rattle.nk_policy.specs.Labels.{AtLeast}
-use Rattle.nk_reach.specs.Levels.{AreLevels}
+use Rattle.nk_determ.specs.Levels.{AreLevels}
 use Rattle.nk_tag.specs.Numbers.{IsAtOdd}
 use Rattle.nk_tag.specs.declared.error.NumberError.{NumberError}
 use Rattle.nk_tag.specs.declared.error.NumberError.TheVariants as number
@@ -12,7 +12,7 @@ use Rattle.nk_compile.specs.declared.refusal.CompileError.{CompileError}
 use Rattle.nk_compile.specs.declared.refusal.CompileError.TheVariants as compile
 use Rattle.nk_compile.specs.declared.refusal.Refusal.TheVariants as refusal
 use Rattle.nk_field.specs.Order.{Found, IsLeast}
-use Rattle.nk_reach.specs.Breaks.{Breaks}
+use Rattle.nk_determ.specs.Breaks.{Breaks}
 use Rattle.nk_runs.specs.Wrong.{AreWrongEnds}
 use Rattle.nk_edges.specs.Edges.{is_start, is_no_edge}
 use Rattle.nk_edges.specs.PacketSets.{IsSetInRange}

@@ -1,7 +1,6 @@
 //! A policy whose tags can be numbered.
-use nk_determ::Sets;
+use nk_determ::{Levels, Sets};
 use nk_field::List;
-use nk_reach::Levels;
 use nk_store::{Id, Store};
 
 /// A policy's automaton in a store of its own, and the levels of its states from the located untagged packets.

@@ -7,7 +7,7 @@ ghost use Rattle.nk_policy.specs.Tree.{tree_of};
 ghost use Rattle.nk_names.specs.WellFormed.{IsWellFormed};
 ghost use Rattle.nk_store.specs.StoreState.{Grows};
 ghost use Rattle.nk_determ.specs.Sets.{SetsGrow};
-ghost use Rattle.nk_reach.specs.Pairs.{AreStates};
+ghost use Rattle.nk_determ.specs.Pairs.{AreStates};
 ghost use Rattle.nk_tag.specs.Numbers.{AreNumbers};
 ghost use Rattle.nk_compile.specs.Levelled.{IsLevelled, IsOffFault, IsTagFault, compile_fault};
 ghost use Rattle.nk_compile.specs.declared.refusal.CompileError.TheVariants as compile;
@@ -19,15 +19,16 @@ use crate::prepared::Prepared;
 use crate::refusal::{CompileError, Refusal};
 use crate::wrong_ends::wrong_ends;
 use nk_auto::policy_automaton;
-use nk_determ::{SetId, Sets};
+use nk_determ::{Levels, SetId, Sets};
 use nk_edges::{off_edges, starts};
 use nk_field::{Fid, Fields, List};
 use nk_policy::Pol;
-use nk_reach::{Found, Levels, least_history, levels};
+use nk_reach::levels;
 use nk_static::{StaticFault, static_fault};
 use nk_store::{Id, Store};
 use nk_tag::{NumberError, number_from};
 use nk_topo::Topo;
+use nk_witness::{Found, least_history};
 use std::alloc::{AllocError, Global};
 
 /// The levels of an automaton's states from the located untagged packets. Where an end at no edge port is met, the least history

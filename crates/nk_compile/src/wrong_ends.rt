@@ -9,7 +9,7 @@ ghost use Rattle.nk_compile.specs.WrongEnds.{IsEndOf, AreEndsOf, HaveEndsOf, wro
 use nk_algebra::{known, seq, union_all};
 use nk_determ::{SetId, Sets, retarget};
 use nk_field::List;
-use nk_reach::Goal;
+use nk_goal::Goal;
 use nk_store::{Id, Store};
 use std::alloc::{AllocError, Global};
 use std::collections::HashMap;

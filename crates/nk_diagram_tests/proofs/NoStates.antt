@@ -1,7 +1,7 @@
 -- No states.
 use Rattle.std.proofs.Common.{◌≡◌, ℕ, List, [], sym, subst, arith}
 use Rattle.nk_store.specs.StoreState.{StoreState}
-use Rattle.nk_reach.specs.Pairs.{AreStates}
+use Rattle.nk_determ.specs.Pairs.{AreStates}
 
 -- no states
 pub no_states : (st : StoreState) (states : List ℕ) → states ≡ [] → AreStates st states

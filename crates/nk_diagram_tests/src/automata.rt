@@ -5,7 +5,7 @@ ghost use Rattle.nk_policy.specs.Tree.{tree_of, trees_of};
 ghost use Rattle.nk_store.specs.StoreState.{Grows};
 ghost use Rattle.nk_auto.specs.Continued.{IsFit, AreFit};
 ghost use Rattle.nk_deriv.specs.Part.{NegatesPredicates, AllNegatePredicates};
-ghost use Rattle.nk_reach.specs.Pairs.{AreStates};
+ghost use Rattle.nk_determ.specs.Pairs.{AreStates};
 
 use crate::policies::numbered;
 use nk_auto::policy_automaton;

@@ -9,7 +9,7 @@ use Rattle.nk_determ.specs.Exact.{Sends}
 use Rattle.nk_determ.specs.Pairs.{Node, AreLabelsBelow, AreStates, IsStep}
 use Rattle.nk_determ.specs.Breaks.{Walks}
 use Rattle.nk_reach.specs.Sides.{EndsAt}
-use Rattle.nk_reach.proofs.Growing.{place_of}
+use Rattle.nk_goal.proofs.Growing.{place_of}
 use Rattle.nk_merge.specs.Alike.{SetGives}
 use Rattle.nk_merge.specs.DisjointCopies.{again, label_count, AreDisjointCopies}
 use Rattle.nk_merge.specs.Joined.{both_sets}

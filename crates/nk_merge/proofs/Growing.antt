@@ -8,10 +8,10 @@ use Rattle.nk_apply.specs.Unions.{AreIds}
 use Rattle.nk_determ.specs.Pairs.{Node, AreLabelsBelow, AreStates, IsStep}
 use Rattle.nk_determ.specs.Breaks.{Walks}
 use Rattle.nk_reach.specs.Sides.{alone, ends_of, ends_same, property_grows, EndsAt, AreOneSided, IsPropertyOfEnds}
-use Rattle.nk_reach.specs.declared.found.Side.{Side}
-use Rattle.nk_reach.specs.declared.found.Side.TheVariants.{Left, Right}
-use Rattle.nk_reach.proofs.Kept.{packet_on, packet_back}
-use Rattle.nk_reach.proofs.Growing.{place_of, sends_on, sends_back, leads_on, leads_back, states_grow, step_on, step_back, step_places}
+use Rattle.nk_witness.specs.declared.found.Side.{Side}
+use Rattle.nk_witness.specs.declared.found.Side.TheVariants.{Left, Right}
+use Rattle.nk_outs.proofs.Kept.{packet_on, packet_back}
+use Rattle.nk_goal.proofs.Growing.{place_of, sends_on, sends_back, leads_on, leads_back, states_grow, step_on, step_back, step_places}
 use Rattle.nk_merge.specs.Alike.{SetGives, AreAlike}
 use Rattle.nk_merge.specs.Distinguish.{IsOfFirst, IsOfOne, IsLeastOfOne}
 use Rattle.nk_merge.specs.DisjointCopies.{again, label_count, AreDisjointCopies, IsDisjointCopy}

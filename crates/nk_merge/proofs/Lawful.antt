@@ -5,7 +5,7 @@ use Rattle.nk_field.proofs.Lists.{In, in_from_contains, contains_from_in, in_map
 use Rattle.nk_field.proofs.Ascending.{all_from_members}
 use Rattle.nk_store.specs.StoreState.{StoreState, IsStorePacket, AreTidy}
 use Rattle.nk_determ.specs.Pairs.{AreLabelsBelow, AreStates}
-use Rattle.nk_reach.proofs.Growing.{place_of}
+use Rattle.nk_goal.proofs.Growing.{place_of}
 use Rattle.nk_merge.specs.Alike.{SetGives, AreAlike, AreTagsAlike}
 use Rattle.nk_merge.specs.Classes.{IsEquivalence}
 use Rattle.nk_merge.specs.DisjointCopies.{again, label_count, AreDisjointCopies}

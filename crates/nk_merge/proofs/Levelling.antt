@@ -6,12 +6,12 @@ use Rattle.nk_store.specs.StoreState.{StoreState, IsId, IsStorePacket, Grows, Ar
 use Rattle.nk_sets.specs.PacketSets.{is_in}
 use Rattle.nk_determ.specs.Pairs.{AreLabelsBelow, AreStates}
 use Rattle.nk_determ.specs.Breaks.{IsBreak, Breaks}
-use Rattle.nk_reach.specs.Levels.{AreLevels}
+use Rattle.nk_determ.specs.Levels.{AreLevels}
 use Rattle.nk_reach.specs.Sides.{alone, ends_of, ends_same}
-use Rattle.nk_reach.specs.Finds.{first_set, first_packets, target_of}
-use Rattle.nk_reach.specs.declared.found.Side.{Side}
-use Rattle.nk_reach.proofs.Kept.{packet_back, has_on}
-use Rattle.nk_reach.proofs.Settling.{levels_now}
+use Rattle.nk_witness.specs.Finds.{first_set, first_packets, target_of}
+use Rattle.nk_witness.specs.declared.found.Side.{Side}
+use Rattle.nk_outs.proofs.Kept.{packet_back, has_on}
+use Rattle.nk_witness.proofs.Settling.{levels_now}
 use Rattle.nk_merge.specs.Alike.{labels_after, AreAlike}
 use Rattle.nk_merge.specs.Distinguish.{IsLeastOfOne}
 use Rattle.nk_merge.specs.Joined.{both_sets, AreLevelsOfTwo}

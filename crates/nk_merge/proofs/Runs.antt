@@ -9,7 +9,7 @@ use Rattle.nk_determ.specs.States.{StateLeads}
 use Rattle.nk_determ.specs.Pairs.{Node, AreLabelsBelow, AreStates, IsStep}
 use Rattle.nk_determ.specs.Breaks.{Walks}
 use Rattle.nk_determ.proofs.Sending.{sent_in_range}
-use Rattle.nk_reach.proofs.Growing.{place_of, step_places}
+use Rattle.nk_goal.proofs.Growing.{place_of, step_places}
 use Rattle.nk_runs.proofs.Listings.{all_listed}
 use Rattle.nk_merge.specs.Alike.{SetGives}
 use Rattle.nk_merge.proofs.Marks.{both_decided, above_zero, leads_decided, none_in}

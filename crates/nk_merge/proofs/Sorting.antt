@@ -8,7 +8,7 @@ use Rattle.nk_determ.specs.Sets.{SetsGrow}
 use Rattle.nk_determ.specs.Pairs.{AreLabelsBelow, AreStates}
 use Rattle.nk_store.proofs.Stores.{grows_on}
 use Rattle.nk_determ.proofs.Interned.{sets_on}
-use Rattle.nk_reach.proofs.Growing.{sets_same, sets_known, states_grow}
+use Rattle.nk_goal.proofs.Growing.{sets_same, sets_known, states_grow}
 use Rattle.nk_merge.specs.Alike.{labels_after, tag_set, AreAlike, AreTagsAlike}
 use Rattle.nk_merge.specs.Classes.{AreClasses, AreFirsts, with_first_member}
 use Rattle.nk_merge.proofs.Growing.{alike_on, alike_back}

@@ -10,10 +10,10 @@ use Rattle.nk_determ.specs.Pairs.{Node, AreLabelsBelow, IsStart, IsStep}
 use Rattle.nk_determ.specs.Breaks.{Walks, MakesWithTarget, IsBreak, Breaks}
 use Rattle.nk_determ.specs.Levels.{At, InLevel, IsViolation}
 use Rattle.nk_reach.specs.Sides.{alone, alone_sided, ends_of, EndsAt, AreOneSided}
-use Rattle.nk_reach.specs.Finds.{first_packets, target_of}
-use Rattle.nk_reach.specs.declared.found.Side.{Side}
-use Rattle.nk_reach.specs.declared.found.Side.TheVariants.{Left, Right}
-use Rattle.nk_reach.proofs.Walking.{reach_walk}
+use Rattle.nk_witness.specs.Finds.{first_packets, target_of}
+use Rattle.nk_witness.specs.declared.found.Side.{Side}
+use Rattle.nk_witness.specs.declared.found.Side.TheVariants.{Left, Right}
+use Rattle.nk_witness.proofs.Walking.{reach_walk}
 use Rattle.nk_merge.specs.Alike.{SetGives, AreAlike}
 use Rattle.nk_merge.specs.Distinguish.{IsOfFirst, IsOfOne, IsLeastOfOne}
 use Rattle.nk_merge.specs.Joined.{both_sets, AreLevelsOfTwo}

@@ -2,10 +2,10 @@
 use Rattle.std.specs.Prelude.{Option, Some, None, ℕ, List}
 use Rattle.nk_field.specs.Order.{Found, IsLeast}
 use Rattle.nk_store.specs.StoreState.{StoreState, IsStorePacket}
-use Rattle.nk_reach.specs.Finds.{found_of}
-use Rattle.nk_reach.specs.declared.found.Found as declared
-use Rattle.nk_reach.specs.declared.found.Side.{Side}
-use Rattle.nk_reach.specs.declared.found.Side.TheVariants.{Left, Right}
+use Rattle.nk_witness.specs.Finds.{found_of}
+use Rattle.nk_witness.specs.declared.found.Found as declared
+use Rattle.nk_witness.specs.declared.found.Side.{Side}
+use Rattle.nk_witness.specs.declared.found.Side.TheVariants.{Left, Right}
 use Rattle.nk_merge.specs.Alike.{SetGives, AreAlike}
 
 -- a history that the first set gives, from a packet in range, and the second one doesn't

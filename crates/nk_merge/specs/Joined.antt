@@ -2,9 +2,9 @@
 use Rattle.std.specs.Prelude.{◌≡◌, ℕ, Bool, true, List, [], ◌++◌, map, slice_index_or}
 use Rattle.nk_store.specs.StoreState.{StoreState, IsStorePacket, AreTidy}
 use Rattle.nk_sets.specs.PacketSets.{is_in}
-use Rattle.nk_reach.specs.Levels.{AreLevels}
+use Rattle.nk_determ.specs.Levels.{AreLevels}
 use Rattle.nk_reach.specs.Sides.{alone, ends_of}
-use Rattle.nk_reach.specs.Finds.{first_set, first_packets}
+use Rattle.nk_witness.specs.Finds.{first_set, first_packets}
 use Rattle.nk_merge.specs.DisjointCopies.{again, label_count}
 use Rattle.nk_merge.specs.declared.disjoint_copy.DisjointCopy.{DisjointCopy}
 

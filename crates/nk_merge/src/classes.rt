@@ -3,14 +3,14 @@ ghost use Rattle.std.specs.Prelude.{◌≡◌, ◌+◌, ◌^◌, ◌<◌, ◌≤
 ghost use Rattle.std.specs.Map.{lookup};
 ghost use Rattle.nk_store.specs.StoreState.{Grows};
 ghost use Rattle.nk_determ.specs.Sets.{SetsGrow};
-ghost use Rattle.nk_reach.specs.Pairs.{AreLabelsBelow};
+ghost use Rattle.nk_determ.specs.Pairs.{AreLabelsBelow};
 ghost use Rattle.nk_merge.specs.Alike.{labels_after, tag_set, AreAlike, AreTagsAlike};
 ghost use Rattle.nk_merge.specs.Classes.{AreClasses, AreFirsts, with_first_member};
 ghost use Rattle.nk_merge.specs.Seen.{DoesTogether, AreSeenDiagrams};
 ghost use Rattle.nk_merge.specs.DisjointCopies.{IsDisjointCopy};
 
 use crate::disjoint_copy::DisjointCopy;
-use crate::distinguish::are_alike;
+use crate::distinguishing::are_alike;
 use crate::together::diagram_after;
 use nk_determ::{SetId, Sets};
 use nk_field::List;
@@ -51,16 +51,41 @@ pub fn classes_of(
         numbers: List::new(st.alloc()),
         firsts: List::new(st.alloc()),
     };
+    put_classes(st, ss, states, disjoint, tags, &mut all)?;
+    Ok(all)
+}
+
+/// Puts each tag into its class, of which there is none before.
+fn put_classes(
+    st: &mut Store,
+    ss: &mut Sets,
+    states: &[Id],
+    disjoint: &mut DisjointCopy,
+    tags: &[SetId],
+    all: &mut Classes,
+) -> Result<(), AllocError>
+    requires disjoint { IsDisjointCopy st.old states.now disjoint.old }
+    requires known { All (λ s. s < length ss.old) tags.now }
+    requires places { All (λ s. AreLabelsBelow (length states.now) (labels_after (slice_index_or ss.old s []))) tags.now }
+    requires no_number { all.old.numbers ≡ [] }
+    requires no_first { all.old.firsts ≡ [] }
+    ensures grows { Grows st.old st.new }
+    ensures sets { SetsGrow ss.old ss.new }
+    ensures disjoint { OnOk result (IsDisjointCopy st.new states.now disjoint.new) }
+    ensures rows { disjoint.new.rows ≡ disjoint.old.rows }
+    ensures classes { OnOk result (AreClasses (AreTagsAlike st.old states.now ss.old tags.now) (length tags.now) all.new.numbers) }
+    ensures firsts { OnOk result (AreFirsts all.new.numbers all.new.firsts) }
+{
     let mut seen = HashMap::new(st.alloc());
     for i in 0..tags.len() {
         let s = tags[i];
         let d = diagram_after(st, ss, states, s)?;
         let firsts = all.firsts.as_slice();
         let c = class_by(st, ss, states, disjoint, tags, firsts, &seen, d, s)?;
-        add(&mut all, i, c)?;
+        add(all, i, c)?;
         seen.insert(d, c)?;
     }
-    Ok(all)
+    Ok(())
 }
 
 /// The place of a tag's class: where its diagram was seen before, that one's, else by comparisons with the first tags.

@@ -2,7 +2,7 @@
 ghost use Rattle.std.specs.Prelude.{◌≡◌, ◌+◌, ◌-◌, ◌<◌, ◌^◌, ◌++◌, [], All, IfOk, OnOk, map, length, slice_index_or};
 ghost use Rattle.std.specs.List.Sorted.{IsStrictlyIncreasing};
 ghost use Rattle.nk_determ.specs.Sets.{SetsGrow, IsSetOf};
-ghost use Rattle.nk_reach.specs.Pairs.{AreLabelsBelow};
+ghost use Rattle.nk_determ.specs.Pairs.{AreLabelsBelow};
 ghost use Rattle.nk_merge.specs.Alike.{labels_after};
 ghost use Rattle.nk_merge.specs.Joined.{both_sets};
 

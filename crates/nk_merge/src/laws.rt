@@ -10,7 +10,7 @@ ghost use Rattle.nk_policy.specs.Distinct.{HasDistinct};
 ghost use Rattle.nk_policy.specs.After.{has_dup};
 ghost use Rattle.nk_store.specs.StoreState.{StoreState, IsStorePacket, Grows, AreTidy};
 ghost use Rattle.nk_determ.specs.Automaton.{IsAutomaton};
-ghost use Rattle.nk_reach.specs.Pairs.{AreStates, AreLabelsBelow};
+ghost use Rattle.nk_determ.specs.Pairs.{AreStates, AreLabelsBelow};
 ghost use Rattle.nk_merge.specs.Alike.{SetGives, AreAlike, AreTagsAlike};
 ghost use Rattle.nk_merge.specs.Classes.{AreClasses};
 ghost use Rattle.nk_merge.specs.SumsAfter.{sum_after};

@@ -3,11 +3,11 @@
 
 mod classes;
 mod disjoint_copy;
-mod distinguish;
+mod distinguishing;
 mod joined;
 pub mod laws;
 mod together;
 
 pub use classes::{Classes, classes_of};
 pub use disjoint_copy::DisjointCopy;
-pub use distinguish::distinguish;
+pub use distinguishing::distinguish;

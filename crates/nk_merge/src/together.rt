@@ -2,7 +2,7 @@
 ghost use Rattle.std.specs.Prelude.{◌≡◌, ◌+◌, ◌<◌, [], IfOk, length, map, slice_index, slice_index_or};
 ghost use Rattle.nk_store.specs.StoreState.{Grows};
 ghost use Rattle.nk_apply.specs.Unions.{AreIds};
-ghost use Rattle.nk_reach.specs.Pairs.{AreLabelsBelow};
+ghost use Rattle.nk_determ.specs.Pairs.{AreLabelsBelow};
 ghost use Rattle.nk_merge.specs.Alike.{labels_after};
 ghost use Rattle.nk_merge.specs.Seen.{DoesTogether};
 

@@ -8,7 +8,7 @@ use Rattle.nk_policy.specs.Tree.{tree_of}
 use Rattle.nk_policy.specs.declared.policy.Pol.{Pol}
 use Rattle.nk_names.specs.Complements.{NegatesPredicates}
 use Rattle.nk_names.specs.declared.Program.{Program}
-use Rattle.nk_reach.specs.Finds.{found_of}
+use Rattle.nk_witness.specs.Finds.{found_of}
 use Rattle.nk_cert.specs.Certificates.{CertificateValue}
 use Rattle.nk_cert.specs.Equality.{on_left}
 use Rattle.nk_cert.specs.Verdicts.{Finding, valid, IsFinding}

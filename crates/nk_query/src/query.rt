@@ -1,6 +1,6 @@
 //! Queries, and what is answered to one.
 use nk_cert::Certificate;
-use nk_reach::Found;
+use nk_witness::Found;
 
 /// A query of a program's policies: which histories a policy may not have (reachability and waypoints: Anderson et al., POPL
 /// 2014). Policies are told by their names, in the order of the command; all but the first are to be predicates.

@@ -3,15 +3,16 @@ use Rattle.std.proofs.Common.{◌≡◌, ℕ, ◌<◌, ◌≤◌, ◌+◌, ◌-�
 use Rattle.nk_store.specs.declared.node.Out.{Out}
 use Rattle.nk_store.specs.StoreState.{StoreState, Grows}
 use Rattle.nk_determ.specs.Sets.{SetsGrow}
-use Rattle.nk_reach.specs.Reach.{Exact}
-use Rattle.nk_reach.specs.Pairs.{Node, Within, AreStates, AreLabelsBelow, IsPair, ArePairs, IsStart, IsStep, IsGood}
-use Rattle.nk_reach.specs.Levels.{At, InLevel, IsViolation, AreLevels}
-use Rattle.nk_reach.specs.Goals.{MeetsViolation, MeetsNoViolation}
-use Rattle.nk_reach.specs.Rounds.{IsNextLevel, IsMerged}
-use Rattle.nk_reach.proofs.Graphs.{complete}
-use Rattle.nk_reach.proofs.Kept.{packet_on, packet_back, get_or_same}
-use Rattle.nk_reach.proofs.Growing.{sets_refl, sets_same, within_places, step_on, within_or_not, each_weaker}
-use Rattle.nk_reach.proofs.Going.{Going, level_on, level_back, going_on}
+use Rattle.nk_determ.specs.Reach.{Exact}
+use Rattle.nk_determ.specs.Pairs.{Node, Within, AreStates, AreLabelsBelow, IsStart, IsStep, IsGood}
+use Rattle.nk_determ.specs.Levels.{At, InLevel, IsViolation, AreLevels}
+use Rattle.nk_goal.specs.Goals.{MeetsViolation, MeetsNoViolation}
+use Rattle.nk_reach.specs.Rounds.{IsNextLevel}
+use Rattle.nk_goal.specs.Entries.{IsMerged}
+use Rattle.nk_goal.proofs.Graphs.{complete}
+use Rattle.nk_outs.proofs.Kept.{packet_on, packet_back, get_or_same}
+use Rattle.nk_goal.proofs.Growing.{sets_refl, sets_same, within_places, step_on, within_or_not}
+use Rattle.nk_goal.proofs.Going.{Going, level_on, level_back, going_on}
 use Rattle.nk_reach.proofs.Round.{going_next}
 
 -- the parts of AreLevels that both ends share, once the two parts on the last level and the completeness are given
@@ -74,13 +75,6 @@ last_is ls h x a count is at =
     let k : x - 1 ≡ h = omega (arith, count, is) in
     get_or_same ls h [] a (omega (arith, count)) ∙ ap (λ j. get_or ls j a) (sym k) ∙ sym at
 
--- entries over fewer states are entries over more
-pub pairs_more : (st : StoreState) (ss : List (List ℕ)) (r k : ℕ) (ps : List (ℕ × ℕ)) → r ≤ k → ArePairs st ss r ps → ArePairs st ss k ps
-pairs_more st ss r k ps l q = record {
-  each = each_weaker (IsPair st ss r) (IsPair st ss k) ps (λ p e. record { known = e.known; packets = e.packets; places = λ j d m. omega (arith, l, e.places j d m) }) q.each;
-  once = q.once;
-}
-
 -- what holds after the last level was found to have no violation
 pub after_violation : (old : StoreState) (oss : List (List ℕ)) (st new : StoreState) (ss : List (List ℕ)) (states : List ℕ) (set start : ℕ) (bad now : List ℕ → List ℕ → List Out) (met last : List (ℕ × ℕ)) (ls : List (List (ℕ × ℕ))) (h : ℕ) → Going old oss st ss states set start bad met ls h → Grows st new → ((n : Node) → AreLabelsBelow (length states) n.0 → now n.0 n.1 ≡ bad n.0 n.1) → get_or ls h [] ≡ last → MeetsNoViolation st ss last now → Going old oss new ss states set start bad met ls h × ((n : Node) → IsGood old n → InLevel new ss ls h n → IsViolation bad n → ⊥)
 after_violation old oss st new ss states set start bad now met last ls h go g same is none = (
@@ -106,11 +100,3 @@ round_last old oss st st1 st2 ss nss states set start bad now met last again ls 
 -- the rounds end
 pub falls : (n h a b : ℕ) → a ≡ h + 1 → b ≡ a + 1 → h + 1 ≤ n → n + 1 - b < n + 1 - a
 falls n h a b e f l = omega arith
-
--- levels that are those made, and broken as was said
-pub levels_said :
-    (old new : StoreState) (ss : List (List ℕ)) (states : List ℕ) (set start : ℕ) (bad : List ℕ → List ℕ → List Out)
-    (ls all : List (List (ℕ × ℕ))) (b said : Bool) → ls ≡ all → b ≡ said
-    → AreLevels old new ss states set start bad all said → AreLevels old new ss states set start bad ls b
-levels_said old new ss states set start bad ls all b said e f k =
-    subst (λ l. AreLevels old new ss states set start bad l b) (sym e) (subst (λ x. AreLevels old new ss states set start bad all x) (sym f) k)

@@ -2,11 +2,11 @@
 use Rattle.std.proofs.Common.{◌≡◌, ℕ, ◌<◌, inl, inr, refl, sym, ◌∙◌, ap, subst, List, [], ◌∷◌, ◌++◌, length, get_or}
 use Rattle.nk_store.specs.StoreState.{StoreState, Grows}
 use Rattle.nk_determ.specs.Sets.{SetsGrow, HasEachSetOnce}
-use Rattle.nk_reach.specs.Pairs.{Node, AreStates, AreLabelsBelow, IsPair, IsStep}
+use Rattle.nk_determ.specs.Pairs.{Node, AreStates, AreLabelsBelow, IsPair, IsStep}
 use Rattle.nk_reach.specs.Rounds.{IsRaw, IsFollowed, IsSoFar}
-use Rattle.nk_reach.proofs.Kept.{packet_on, packet_back, has_on, has_back}
-use Rattle.nk_reach.proofs.Growing.{sets_known, sets_same, under_named, pairs_of, step_on, step_back}
-use Rattle.nk_reach.proofs.Adding.{under_append, under_left, under_right}
+use Rattle.nk_outs.proofs.Kept.{packet_on, packet_back, has_on, has_back}
+use Rattle.nk_goal.proofs.Growing.{sets_known, sets_same, under_named, pairs_of, step_on, step_back}
+use Rattle.nk_goal.proofs.Adding.{under_append, under_left, under_right}
 
 -- one entry more
 pub so_far_push : (a st new : StoreState) (ass ss nss : List (List ℕ)) (states : List ℕ) (done raw more : List (ℕ × ℕ)) (p : ℕ × ℕ) → AreStates a states → IsSoFar a ass states done st ss raw → Grows a st → SetsGrow ass ss → SetsGrow ss nss → IsPair a ass (length states) p → IsFollowed st states (get_or ss p.0 []) p.1 raw new nss more → IsSoFar a ass states (done ++ p ∷ []) new nss more

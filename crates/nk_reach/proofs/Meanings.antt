@@ -15,9 +15,9 @@ use Rattle.nk_determ.specs.Exact.{exact, exact_out, split_leaf, IsExact, Sends}
 use Rattle.nk_determ.specs.Targets.{out_by_table, retargeted}
 use Rattle.nk_determ.proofs.Exacts.{exact_acts}
 use Rattle.nk_determ.proofs.Laws.{exact_applied, exact_changes, exact_one}
-use Rattle.nk_reach.specs.Pairs.{AreLabelsBelow}
+use Rattle.nk_determ.specs.Pairs.{AreLabelsBelow}
 use Rattle.nk_reach.specs.Sides.{twin, alone_out, alone, ends_of, finals_of_side, label_side, AreSideFinals, EndsAt, AreOneSided}
-use Rattle.nk_reach.proofs.Growing.{place_of}
+use Rattle.nk_goal.proofs.Growing.{place_of}
 
 -- the out with this act and target
 abbrev pub to : List (ℕ × ℕ) → ℕ → Out

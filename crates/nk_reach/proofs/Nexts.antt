@@ -2,10 +2,10 @@
 use Rattle.std.proofs.Common.{◌≡◌, ℕ, ◌<◌, sym, ◌∙◌, subst, List, length}
 use Rattle.nk_store.specs.StoreState.{StoreState, Grows}
 use Rattle.nk_determ.specs.Sets.{SetsGrow}
-use Rattle.nk_reach.specs.Pairs.{Under, Named, ArePairs}
+use Rattle.nk_determ.specs.Pairs.{Under, Named, ArePairs}
 use Rattle.nk_reach.specs.Rounds.{IsNextLevel, IsRaw, IsFresh}
-use Rattle.nk_reach.proofs.Kept.{packet_on}
-use Rattle.nk_reach.proofs.Growing.{sets_known, sets_same, named_known, under_named, under_on, under_back, pairs_of, packets_of}
+use Rattle.nk_outs.proofs.Kept.{packet_on}
+use Rattle.nk_goal.proofs.Growing.{sets_known, sets_same, named_known, under_named, under_on, under_back, pairs_of, packets_of}
 
 -- what a level leads to, without what was met, is the next level
 pub next_of_raw : (st mid new : StoreState) (ss nss : List (List ℕ)) (states : List ℕ) (met last raw level : List (ℕ × ℕ)) → IsRaw st ss states last mid nss raw → IsFresh mid met raw new level → Grows st mid → SetsGrow ss nss → ArePairs st ss (length states) met → IsNextLevel st ss states met last new nss level

@@ -13,7 +13,7 @@ use Rattle.nk_apply.specs.Leaves.{merged}
 use Rattle.nk_apply.specs.Unions.{AreIds, unions}
 use Rattle.nk_apply.proofs.Members.{gathered_every}
 use Rattle.nk_apply.proofs.Gathers.{flat_ordered}
-use Rattle.nk_reach.specs.Pairs.{AreLabelsBelow}
+use Rattle.nk_determ.specs.Pairs.{AreLabelsBelow}
 use Rattle.nk_reach.specs.Sides.{alone_out, alone, ends_of, IsAloneOf, AreAloneOf, IsPropertyOfEnds, alone_on, finals_of_side, IsFinalsOfSide, AreFinalsOfSide, label_side, AreSideFinals}
 
 -- as many diagrams as labels

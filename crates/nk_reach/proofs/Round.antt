@@ -7,14 +7,15 @@ use Rattle.nk_store.proofs.Stores.{grows_on, grows_same}
 use Rattle.nk_apply.proofs.Members.{Has as Among}
 use Rattle.nk_sets.specs.PacketSets.{IsSet}
 use Rattle.nk_determ.specs.Sets.{SetsGrow}
-use Rattle.nk_reach.specs.Pairs.{Node, EachPair, Within, AreStates, AreLabelsBelow, ArePairs, IsStart, IsStep, IsGood}
-use Rattle.nk_reach.specs.Levels.{InLevel, IsLaterLevel, IsFilled, IsViolation}
-use Rattle.nk_reach.specs.Rounds.{HaveSets, IsNextLevel, IsMerged}
-use Rattle.nk_reach.proofs.Graphs.{IsNext, exact_push, exact_start}
-use Rattle.nk_reach.proofs.Kept.{packet_on, packet_back}
-use Rattle.nk_reach.proofs.Growing.{sets_refl, named_known, pairs_of, packets_of, pairs_on, within_on, within_back, within_places, step_on, step_back, step_places, filled_on}
-use Rattle.nk_reach.proofs.Everything.{all_nodes, among_nodes}
-use Rattle.nk_reach.proofs.Going.{Going, level_old, level_new, level_on, level_back, going_on}
+use Rattle.nk_determ.specs.Pairs.{Node, EachPair, Within, AreStates, AreLabelsBelow, ArePairs, IsStart, IsStep, IsGood}
+use Rattle.nk_determ.specs.Levels.{InLevel, IsLaterLevel, IsFilled, IsViolation}
+use Rattle.nk_goal.specs.Entries.{HaveSets, IsMerged}
+use Rattle.nk_reach.specs.Rounds.{IsNextLevel}
+use Rattle.nk_goal.proofs.Graphs.{IsNext, exact_push, exact_start}
+use Rattle.nk_outs.proofs.Kept.{packet_on, packet_back}
+use Rattle.nk_goal.proofs.Growing.{sets_refl, named_known, pairs_of, packets_of, pairs_on, within_on, within_back, within_places, step_on, step_back, step_places, filled_on}
+use Rattle.nk_goal.proofs.Everything.{all_nodes, among_nodes}
+use Rattle.nk_goal.proofs.Going.{Going, level_old, level_new, level_on, level_back, going_on}
 
 -- a level that is not empty has a packet
 pub first_node : (st : StoreState) (ss : List (List ℕ)) (ps : List (ℕ × ℕ)) → 0 < length ps → HaveSets st ps → EachPair (λ p. IsFilled st p.1) ps → (n : Node) × IsStorePacket st n.1 × Within st ss ps n

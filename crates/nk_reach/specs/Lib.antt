@@ -1,16 +1,2 @@
-pub mod Reach
-pub mod Pairs
-pub mod Levels
-pub mod Goals
-pub mod Outs
 pub mod Rounds
 pub mod Sides
-pub mod Local
-pub mod Single
-pub mod Breaks
-pub mod Histories
-pub mod Pulls
-pub mod Backs
-pub mod Choices
-pub mod Finds
-pub mod Laws

@@ -3,20 +3,13 @@ use Rattle.std.specs.Prelude.{◌≡◌, ℕ, ◌+◌, ◌<◌, ◌⊎◌, true,
 use Rattle.nk_field.specs.Act.{applied}
 use Rattle.nk_store.specs.declared.node.Out.{Out}
 use Rattle.nk_store.specs.StoreState.{StoreState, IsStorePacket}
-use Rattle.nk_sets.specs.PacketSets.{is_in, IsSet}
+use Rattle.nk_sets.specs.PacketSets.{is_in}
 use Rattle.nk_determ.specs.Sets.{HasEachSetOnce}
-use Rattle.nk_reach.specs.Pairs.{Node, Under, Named, Once, EachPair, Within, ArePairs, AreLabelsBelow, IsStep}
-use Rattle.nk_reach.specs.Levels.{IsFilled}
-use Rattle.nk_reach.specs.Outs.{GivesOut}
-use Rattle.nk_reach.specs.declared.outs.Given.{Given}
-
--- each entry has a set of packets
-abbrev pub HaveSets : StoreState → List (ℕ × ℕ) → Type 0
-HaveSets st ps = EachPair (λ p. IsSet st p.1) ps
-
--- the out with this act and target
-abbrev pub sent_to : List (ℕ × ℕ) → ℕ → Out
-sent_to g t = record { act = g; target = t }
+use Rattle.nk_determ.specs.Pairs.{Node, Under, Named, Once, EachPair, Within, ArePairs, AreLabelsBelow, IsStep}
+use Rattle.nk_determ.specs.Levels.{IsFilled}
+use Rattle.nk_goal.specs.Entries.{HaveSets}
+use Rattle.nk_outs.specs.Outs.{GivesOut, sent_to}
+use Rattle.nk_outs.specs.declared.outs.Given.{Given}
 
 -- the level has exactly what the last level leads to and was not met
 pub record IsNextLevel (st : StoreState) (ss : List (List ℕ)) (states : List ℕ) (met last : List (ℕ × ℕ)) (new : StoreState) (nss : List (List ℕ)) (level : List (ℕ × ℕ)) : Type 0 where
@@ -25,38 +18,6 @@ pub record IsNextLevel (st : StoreState) (ss : List (List ℕ)) (states : List �
   pub every : (m n : Node) → IsStorePacket st m.1 → Within st ss last m → IsStep st states m n → (Within st ss met n → ⊥) → Within new nss level n
   pub pairs : ArePairs new nss (length states) level
   pub filled : EachPair (λ p. IsFilled new p.1) level
-
--- the entries of both, a set once
-pub record IsMerged (st : StoreState) (met level : List (ℕ × ℕ)) (new : StoreState) (all : List (ℕ × ℕ)) : Type 0 where
-  pub either : (i : ℕ) (x : List ℕ) → IsStorePacket st x → Under new all i x → Under st met i x ⊎ Under st level i x
-  pub old : (i : ℕ) (x : List ℕ) → IsStorePacket st x → Under st met i x → Under new all i x
-  pub more : (i : ℕ) (x : List ℕ) → IsStorePacket st x → Under st level i x → Under new all i x
-  pub named : (i : ℕ) → Named all i → Named met i ⊎ Named level i
-  pub packets : HaveSets new all
-  pub once : Once all
-
--- y's packets are under t as well
-pub record IsAdded (st : StoreState) (ps : List (ℕ × ℕ)) (t y : ℕ) (new : StoreState) (qs : List (ℕ × ℕ)) : Type 0 where
-  pub either : (i : ℕ) (x : List ℕ) → IsStorePacket st x → Under new qs i x → Under st ps i x ⊎ ((i ≡ t) × (is_in st y x ≡ true))
-  pub old : (i : ℕ) (x : List ℕ) → IsStorePacket st x → Under st ps i x → Under new qs i x
-  pub more : (x : List ℕ) → IsStorePacket st x → is_in st y x ≡ true → Under new qs t x
-  pub named : (i : ℕ) → Named qs i → Named ps i ⊎ (i ≡ t)
-  pub packets : HaveSets new qs
-  pub once : Once qs
-
--- r has the packets under t and those of y
-pub record IsJoined (st : StoreState) (ps : List (ℕ × ℕ)) (t y : ℕ) (new : StoreState) (r : ℕ) : Type 0 where
-  pub packets : IsSet new r
-  pub either : (x : List ℕ) → IsStorePacket st x → is_in new r x ≡ true → Under st ps t x ⊎ (is_in st y x ≡ true)
-  pub old : (x : List ℕ) → IsStorePacket st x → Under st ps t x → is_in new r x ≡ true
-  pub more : (x : List ℕ) → IsStorePacket st x → is_in st y x ≡ true → is_in new r x ≡ true
-
--- r has the packets of y that do not stand under t
-pub record IsRest (st : StoreState) (ps : List (ℕ × ℕ)) (t y : ℕ) (new : StoreState) (r : ℕ) : Type 0 where
-  pub packets : IsSet new r
-  pub first : (x : List ℕ) → IsStorePacket st x → is_in new r x ≡ true → is_in st y x ≡ true
-  pub second : (x : List ℕ) → IsStorePacket st x → is_in new r x ≡ true → Under st ps t x → ⊥
-  pub both : (x : List ℕ) → IsStorePacket st x → is_in st y x ≡ true → (Under st ps t x → ⊥) → is_in new r x ≡ true
 
 -- the level has exactly what the last level leads to
 pub record IsRaw (st : StoreState) (ss : List (List ℕ)) (states : List ℕ) (last : List (ℕ × ℕ)) (new : StoreState) (nss : List (List ℕ)) (raw : List (ℕ × ℕ)) : Type 0 where

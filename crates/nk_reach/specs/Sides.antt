@@ -15,7 +15,7 @@ use Rattle.nk_apply.specs.Unions.{AreIds}
 use Rattle.nk_apply.proofs.Members.{Has, contains_has, has_gathered}
 use Rattle.nk_determ.specs.Exact.{split_leaf, Sends}
 use Rattle.nk_determ.specs.Targets.{retargeted}
-use Rattle.nk_reach.specs.Pairs.{AreLabelsBelow}
+use Rattle.nk_determ.specs.Pairs.{AreLabelsBelow}
 
 -- the same end of the other side
 abbrev pub twin : Out → Out

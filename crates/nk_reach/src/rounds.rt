@@ -1,18 +1,19 @@
 //! One round of the levels.
-ghost use Rattle.std.specs.Prelude.{IfOk, length};
+ghost use Rattle.std.specs.Prelude.{◌≡◌, IfOk, length};
 ghost use Rattle.nk_store.specs.StoreState.{Grows};
 ghost use Rattle.nk_determ.specs.Sets.{SetsGrow};
-ghost use Rattle.nk_reach.specs.Pairs.{AreStates, ArePairs, Once};
-ghost use Rattle.nk_reach.specs.Rounds.{HaveSets, IsNextLevel, IsFresh};
+ghost use Rattle.nk_determ.specs.Pairs.{AreStates, ArePairs, Once};
+ghost use Rattle.nk_goal.specs.Entries.{HaveSets};
+ghost use Rattle.nk_reach.specs.Rounds.{IsNextLevel, IsFresh};
 
-use crate::entries::{listed, unmet};
 use crate::follow::follow_level;
 use indexmap::IndexMap;
 use nk_determ::{SetId, Sets};
 use nk_field::List;
+use nk_goal::unmet;
 use nk_sets::is_empty;
 use nk_store::{Id, Store};
-use std::alloc::AllocError;
+use std::alloc::{AllocError, Global};
 
 /// The next level: what the last one leads to and no level has met. The only error is that memory
 /// ran out.
@@ -58,4 +59,15 @@ fn fresh(
         }
     }
     Ok(level)
+}
+
+/// The entries in the order in which their sets came.
+fn listed(alloc: Global, pairs: IndexMap<SetId, Id>) -> Result<List<(SetId, Id)>, AllocError>
+    ensures { IfOk result (λ ps. ps ≡ pairs.entries) }
+{
+    let mut all = List::new(alloc);
+    for pair in pairs {
+        all.push(pair)?;
+    }
+    Ok(all)
 }

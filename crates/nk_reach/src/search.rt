@@ -3,15 +3,14 @@ ghost use Rattle.std.specs.Prelude.{◌≡◌, ℕ, ◌<◌, ◌≤◌, [], ◌�
 ghost use Rattle.nk_store.specs.StoreState.{StoreState, Grows};
 ghost use Rattle.nk_sets.specs.PacketSets.{IsSet};
 ghost use Rattle.nk_determ.specs.Sets.{SetsGrow};
-ghost use Rattle.nk_reach.specs.Pairs.{AreStates, AreLabelsBelow};
-ghost use Rattle.nk_reach.specs.Levels.{AreLevels};
+ghost use Rattle.nk_determ.specs.Pairs.{AreStates, AreLabelsBelow};
+ghost use Rattle.nk_determ.specs.Levels.{AreLevels};
 
-use crate::entries::add_level;
-use crate::goal::{Goal, any_violation};
 use crate::rounds::next_level;
 use indexmap::IndexMap;
 use nk_determ::{Levels, SetId, Sets};
 use nk_field::List;
+use nk_goal::{Goal, add_level, any_violation};
 use nk_store::{Id, Store};
 use std::alloc::{AllocError, Global};
 
@@ -39,20 +38,51 @@ pub fn levels<G: Goal>(
     ensures labels { OnOk result (G.labels g.new ≡ G.labels g.old) }
     ensures same { OnOk result ((st : StoreState) (set pk : Items ℕ) → G.violations_of g.new st set pk ≡ G.violations_of g.old st set pk) }
 {
-    let alloc = st.alloc();
-    let mut met = first_met(alloc, s, start)?;
-    let mut all = List::new(alloc);
-    all.push(first_level(alloc, s, start)?)?;
+    let mut met = IndexMap::new(st.alloc());
+    let mut all = List::new(st.alloc());
+    let broken = put_levels(st, ss, states, s, start, &mut met, &mut all, g)?;
+    Ok(Levels::new(all, broken))
+}
+
+/// Puts the levels into `all`, and what they meet into `met`, both without an entry before. Whether the last level has a
+/// violation.
+fn put_levels<G: Goal>(
+    st: &mut Store,
+    ss: &mut Sets,
+    states: &[Id],
+    s: SetId,
+    start: Id,
+    met: &mut IndexMap<SetId, Id>,
+    all: &mut List<List<(SetId, Id)>>,
+    g: &mut G,
+) -> Result<bool, AllocError>
+    requires fits { G.fits g.old st.old }
+    requires labels { length states.now ≤ G.labels g.old }
+    requires states { AreStates st.old states.now }
+    requires set { s < length ss.old }
+    requires places { AreLabelsBelow (length states.now) (slice_index_or ss.old s []) }
+    requires packets { IsSet st.old start }
+    requires none_met { met.old.entries ≡ [] }
+    requires no_level { all.old ≡ [] }
+    ensures grows { Grows st.old st.new }
+    ensures sets { SetsGrow ss.old ss.new }
+    ensures ok { IfOk result (λ b. AreLevels st.old st.new ss.new states.now s start (G.violations_of g.old st.old) all.new b) }
+    ensures fits { OnOk result (G.fits g.new st.new) }
+    ensures labels { OnOk result (G.labels g.new ≡ G.labels g.old) }
+    ensures same { OnOk result ((st : StoreState) (set pk : Items ℕ) → G.violations_of g.new st set pk ≡ G.violations_of g.old st set pk) }
+{
+    met.insert(s, start)?;
+    all.push(first_level(st.alloc(), s, start)?)?;
     loop {
         let last = all.len() - 1;
         if any_violation(st, ss, all.at(last), g)? {
-            return Ok(Levels::new(all, true));
+            return Ok(true);
         }
-        let level = next_level(st, ss, states, &met, all.at(last))?;
+        let level = next_level(st, ss, states, met, all.at(last))?;
         if level.len() == 0 {
-            return Ok(Levels::new(all, false));
+            return Ok(false);
         }
-        add_level(st, &mut met, &level)?;
+        add_level(st, met, &level)?;
         all.push(level)?;
     }
 }
@@ -64,13 +94,4 @@ fn first_level(alloc: Global, s: SetId, start: Id) -> Result<List<(SetId, Id)>, 
     let mut level = List::new(alloc);
     level.push((s, start))?;
     Ok(level)
-}
-
-/// What is met before the first round.
-fn first_met(alloc: Global, s: SetId, start: Id) -> Result<IndexMap<SetId, Id>, AllocError>
-    ensures { IfOk result (λ m. m.entries ≡ (s, start) ∷ []) }
-{
-    let mut met = IndexMap::new(alloc);
-    met.insert(s, start)?;
-    Ok(met)
 }

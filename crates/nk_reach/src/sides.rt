@@ -1,18 +1,18 @@
 //! The goal of one side alone.
-ghost use Rattle.std.specs.Prelude.{◌≡◌, ◌↔◌, ℕ, ◌<◌, ◌++◌, [], cond, eqb, IfOk, OnOk, flat_map, map, length, slice_index, Contains, List as Items};
-ghost use Rattle.std.specs.List.Sorted.{IsStrictlyIncreasing};
+ghost use Rattle.std.specs.Prelude.{◌≡◌, ℕ, ◌<◌, ◌++◌, [], cond, eqb, IfOk, OnOk, flat_map, map, length, slice_index, List as Items};
 ghost use Rattle.std.specs.Map.{lookup};
 ghost use Rattle.std.proofs.Common.{ap};
 ghost use Rattle.nk_store.specs.StoreState.{IsId, IsStorePacket, look, Grows, HasLeaves};
 ghost use Rattle.nk_apply.specs.Unions.{AreIds};
 ghost use Rattle.nk_apply.specs.Leaves.{merged};
-ghost use Rattle.nk_reach.specs.Pairs.{AreLabelsBelow};
+ghost use Rattle.nk_determ.specs.Pairs.{AreLabelsBelow};
 ghost use Rattle.nk_reach.specs.Sides.{alone_out, alone, ends_of, ends_same, alone_sided, twin, finals_of_side, label_side, AreSideFinals, AreFinalsOfSide, AreAloneOf, IsPropertyOfEnds, property_grows, AreOneSided};
 
-use crate::goal::Goal;
 use nk_apply::{LeafMap, map_leaves, union, union_all};
 use nk_determ::{SetId, Sets, retarget, split};
 use nk_field::List;
+use nk_goal::Goal;
+use nk_steps::each_once;
 use nk_store::{Id, Out, Store};
 use std::alloc::{AllocError, Global};
 use std::collections::HashMap;
@@ -215,17 +215,6 @@ fn ends_at(alloc: Global, ends: &[Id], labels: &[u64]) -> Result<List<Id>, Alloc
         ds.push(ends[*l as usize])?;
     }
     Ok(ds)
-}
-
-/// The diagrams in order, each once.
-pub(crate) fn each_once(ds: List<Id>) -> List<Id>
-    ensures members { (d : ℕ) → Contains result d ↔ Contains ds d }
-    ensures once { IsStrictlyIncreasing result }
-{
-    let mut all = ds.into_vec();
-    all.sort_unstable();
-    all.dedup();
-    List::from_vec(all)
 }
 
 /// What one side alone has of ends, which is looked up where it was made before.

@@ -3,7 +3,7 @@ use Rattle.nk_field.specs.Order.{Found}
 use Rattle.nk_field.specs.Packet.{FieldTable}
 use Rattle.nk_policy.specs.After.{drop_policy}
 use Rattle.nk_names.specs.declared.Program.{Program}
-use Rattle.nk_reach.specs.Finds.{found_of}
+use Rattle.nk_witness.specs.Finds.{found_of}
 use Rattle.nk_cert.specs.Certificates.{CertificateValue}
 use Rattle.nk_cert.specs.Values.{certificate_value}
 use Rattle.nk_cert.specs.Verdicts.{Finding, IsFinding}

@@ -5,7 +5,7 @@ use Rattle.nk_field.specs.Packet.{FieldTable}
 use Rattle.nk_policy.specs.Policy.{Policy, marked_from, dups_of}
 use Rattle.nk_names.specs.declared.Program.{Program}
 use Rattle.nk_names.specs.Named.{policy_named}
-use Rattle.nk_reach.specs.Finds.{found_of}
+use Rattle.nk_witness.specs.Finds.{found_of}
 use Rattle.nk_cert.specs.Equality.{Side, IsLeastDifference}
 use Rattle.nk_cert.specs.Certificates.{CertificateValue}
 use Rattle.nk_cert.specs.Values.{certificate_value}

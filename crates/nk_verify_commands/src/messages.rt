@@ -2,7 +2,7 @@
 ghost use Rattle.std.specs.Prelude.{◌≡◌, IfOk};
 ghost use Rattle.nk_bisim.specs.Answers.{whose};
 ghost use Rattle.nk_cert.specs.Values.{row_part};
-ghost use Rattle.nk_reach.specs.Finds.{found_of};
+ghost use Rattle.nk_witness.specs.Finds.{found_of};
 ghost use Rattle.nk_verify_commands.specs.Asking.{broken_lines};
 ghost use Rattle.nk_verify_commands.specs.Checking.{invalid_line, part_word};
 ghost use Rattle.nk_verify_commands.specs.Comparing.{difference_lines, side_line};
@@ -12,8 +12,8 @@ use itoa::Buffer;
 use nk_cert::CertPart;
 use nk_field::Fields;
 use nk_query::QueryError;
-use nk_reach::{Found, Side};
 use nk_reply::messages::{found_message, no_policy_message, push_found, too_large_message};
+use nk_witness::{Found, Side};
 use std::alloc::{AllocError, Global};
 
 /// What is said of a history that one of two policies alone has.

@@ -7,7 +7,7 @@ use Rattle.nk_policy.specs.Policy.{Policy}
 use Rattle.nk_policy.specs.Meaning.{Gives}
 use Rattle.nk_policy.specs.After.{drop_policy}
 use Rattle.nk_policy.specs.Ranges.{IsInRange}
-use Rattle.nk_reach.specs.Histories.{IsUpTo}
+use Rattle.nk_witness.specs.Histories.{IsUpTo}
 use Rattle.nk_cert.specs.Equality.{Side, on_left, on_right, AreSame, IsOfFirstAlone, IsOfOneAlone, IsLeastDifference}
 use Rattle.nk_names.specs.ProgramValue.{VirtualLink}
 use Rattle.nk_virtual.specs.Fabrics.{moved_along, IsCarried}

@@ -3,7 +3,7 @@ use Rattle.std.proofs.Common.{◌≡◌, ℕ, ◌<◌, ◌⊎◌, ⊎_elim, List
 use Rattle.nk_field.specs.declared.packet.Packet.{Packet}
 use Rattle.nk_field.specs.Packet.{FieldTable}
 use Rattle.nk_field.specs.Order.{Found, Precedes, AllPrecede, IsLess}
-use Rattle.nk_reach.proofs.Choosing.{precedes_on, precedes_not}
+use Rattle.nk_witness.proofs.Choosing.{precedes_on, precedes_not}
 use Rattle.nk_names.specs.ProgramValue.{VirtualLink}
 use Rattle.nk_virtual.specs.Fabrics.{IsCarried}
 use Rattle.nk_virtual.specs.Carriage.{IsOnTarget, IsOffTarget, IsNotCarried, IsBefore, IsFirstOffTarget, IsFirstNotCarried}

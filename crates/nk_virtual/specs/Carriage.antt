@@ -9,7 +9,7 @@ use Rattle.nk_policy.specs.Meaning.{Gives}
 use Rattle.nk_policy.specs.Ranges.{IsOverFields}
 use Rattle.nk_policy.specs.Complements.{NegatesPredicates}
 use Rattle.nk_names.specs.ProgramValue.{IsLet}
-use Rattle.nk_reach.specs.Histories.{IsUpTo}
+use Rattle.nk_witness.specs.Histories.{IsUpTo}
 use Rattle.nk_names.specs.ProgramValue.{VirtualLink}
 use Rattle.nk_virtual.specs.Fabrics.{IsAtStartOf, moved_along, IsCarried}
 use Rattle.nk_virtual.specs.declared.judging.Carriage.{Carriage}

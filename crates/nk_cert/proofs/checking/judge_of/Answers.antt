@@ -1,8 +1,8 @@
 use Rattle.std.proofs.Common.{length, subst}
 use Rattle.nk_store.proofs.Stores.{grows_on}
 use Rattle.nk_policy.specs.Tree.{tree_of}
-use Rattle.nk_reach.specs.Rounds.{IsMerged}
-use Rattle.nk_reach.proofs.Growing.{sets_refl, packets_of}
+use Rattle.nk_goal.specs.Entries.{IsMerged}
+use Rattle.nk_goal.proofs.Growing.{sets_refl, packets_of}
 use Rattle.nk_cert.specs.Values.{row_values}
 use Rattle.nk_cert.specs.Judged.{IsStartEntryOf, AreEntriesOf}
 use Rattle.nk_cert.proofs.RowSets.{entries_on, entry_pairs, told_by_all}

@@ -2,7 +2,7 @@ use Rattle.std.proofs.Common.{ℕ, List, length, sym, subst, arith}
 use Rattle.std.proofs.lemmas.Result.{IfOk-weaker}
 use Rattle.nk_policy.specs.Tree.{tree_of}
 use Rattle.nk_apply.specs.Unions.{AreIds}
-use Rattle.nk_reach.specs.Pairs.{AreLabelsBelow}
+use Rattle.nk_determ.specs.Pairs.{AreLabelsBelow}
 use Rattle.nk_store.specs.StoreState.{IsStorePacket}
 use Rattle.nk_reach.specs.Sides.{alone, ends_of, AreSideFinals, AreOneSided}
 use Rattle.nk_runs.proofs.Stands.{are_states}

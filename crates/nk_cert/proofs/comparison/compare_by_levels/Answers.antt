@@ -1,8 +1,8 @@
 use Rattle.std.proofs.Common.{◌≡◌, false, length, sym, subst, arith}
-use Rattle.nk_reach.specs.Pairs.{AreStates}
-use Rattle.nk_reach.proofs.Growing.{states_grow}
+use Rattle.nk_determ.specs.Pairs.{AreStates}
+use Rattle.nk_goal.proofs.Growing.{states_grow}
 use Rattle.nk_runs.proofs.Stands.{are_states}
-use Rattle.nk_reach.specs.Finds.{found_of, target_of}
+use Rattle.nk_witness.specs.Finds.{found_of, target_of}
 use Rattle.nk_cert.specs.Together.{either_of}
 use Rattle.nk_determ.proofs.Naming.{pairs_are_entries}
 use Rattle.nk_cert.proofs.Comparing.{levels_here, packets_are_sets, related_is, difference_is, levels_at, break_at, least_at}

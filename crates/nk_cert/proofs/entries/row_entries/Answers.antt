@@ -4,7 +4,7 @@ use Rattle.nk_policy.specs.Policy.{is_predicate}
 use Rattle.nk_policy.specs.declared.policy.Pol.{Pol}
 use Rattle.nk_store.proofs.Stores.{grows_on, grows_same}
 use Rattle.nk_determ.proofs.Interned.{sets_on}
-use Rattle.nk_reach.proofs.Growing.{sets_refl}
+use Rattle.nk_goal.proofs.Growing.{sets_refl}
 use Rattle.nk_cert.specs.Values.{row_values}
 use Rattle.nk_cert.specs.Judged.{IsEntryOf}
 use Rattle.nk_cert.proofs.RowSets.{AreEntriesUpTo, no_entries, one_entry_more, all_entries, rows_count, row_from}

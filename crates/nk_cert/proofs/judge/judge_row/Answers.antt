@@ -1,6 +1,6 @@
 use Rattle.std.proofs.Common.{List, ℕ, length, sym, subst, arith}
 use Rattle.std.proofs.lemmas.Result.{IfOk-weaker}
-use Rattle.nk_reach.specs.Pairs.{IsPair}
+use Rattle.nk_determ.specs.Pairs.{IsPair}
 use Rattle.nk_reach.specs.Sides.{alone, ends_of}
 use Rattle.nk_cert.specs.Values.{row_values}
 use Rattle.nk_cert.specs.Judged.{AreLabels, IsSetJudged, row_at, entry_at}

@@ -1,9 +1,9 @@
 use Rattle.std.proofs.Common.{ℕ, List, length, sym, subst, arith, ◌<◌, ◌≡◌}
 use Rattle.nk_store.proofs.Stores.{grows_on}
-use Rattle.nk_reach.specs.Pairs.{AreStates, ArePairs}
+use Rattle.nk_determ.specs.Pairs.{AreStates, ArePairs}
 use Rattle.nk_reach.specs.Rounds.{IsNextLevel}
 use Rattle.nk_reach.specs.Sides.{alone, ends_of, property_grows}
-use Rattle.nk_reach.proofs.Growing.{sets_refl, states_grow, pairs_on}
+use Rattle.nk_goal.proofs.Growing.{sets_refl, states_grow, pairs_on}
 use Rattle.nk_cert.proofs.Judging.{one_level, can_judge_after, one_violation, no_violation_at, one_leaves, all_stay}
 use Rattle.nk_cert.proofs.judge.judge_set.Goals as goal
 

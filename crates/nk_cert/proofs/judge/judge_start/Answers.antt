@@ -1,7 +1,7 @@
 use Rattle.std.proofs.Common.{ℕ, List, length}
 use Rattle.std.proofs.lemmas.Result.{IfOk-weaker}
 use Rattle.nk_reach.specs.Sides.{alone, ends_of}
-use Rattle.nk_reach.proofs.Growing.{sets_refl, pair_on}
+use Rattle.nk_goal.proofs.Growing.{sets_refl, pair_on}
 use Rattle.nk_cert.proofs.Judging.{can_judge_on, ends_stay, set_judged_before, start_by_set}
 use Rattle.nk_cert.proofs.judge.judge_start.Goals as goal
 

@@ -3,7 +3,7 @@ use Rattle.nk_store.proofs.Stores.{grows_on}
 use Rattle.nk_sets.specs.PacketSets.{has_some_out}
 use Rattle.nk_determ.specs.Sets.{IsSetOf}
 use Rattle.nk_reach.specs.Sides.{property_grows}
-use Rattle.nk_reach.proofs.Growing.{states_grow, sets_same}
+use Rattle.nk_goal.proofs.Growing.{states_grow, sets_same}
 use Rattle.nk_cert.proofs.Sided.{side_levels}
 use Rattle.nk_cert.proofs.leveling.levels_of_states.Goals as goal
 

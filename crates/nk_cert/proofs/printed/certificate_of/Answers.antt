@@ -2,7 +2,7 @@ use Rattle.std.proofs.Common.{List, ℕ, [], ◌<◌, get_or, length, sym, subst
 use Rattle.std.specs.Prelude.{All}
 use Rattle.nk_sets.specs.PacketSets.{IsSet}
 use Rattle.nk_sets.proofs.SetLemmas.{set_grows}
-use Rattle.nk_reach.proofs.Growing.{each_weaker}
+use Rattle.nk_goal.proofs.Growing.{each_weaker}
 use Rattle.nk_cert.specs.FromLevels.{HaveRows}
 use Rattle.nk_cert.specs.Values.{row_values, certificate_value}
 use Rattle.nk_cert.specs.Later.{IsRowBy}

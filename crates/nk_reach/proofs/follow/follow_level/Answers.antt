@@ -2,11 +2,11 @@ use Rattle.std.proofs.Common.{◌≡◌, ◌<◌, length, take, sym, subst, arit
 use Rattle.nk_store.proofs.Stores.{grows_on}
 use Rattle.nk_sets.proofs.SetLemmas.{set_grows}
 use Rattle.nk_determ.proofs.Interned.{sets_on}
-use Rattle.nk_reach.specs.Pairs.{AreLabelsBelow, IsPair}
+use Rattle.nk_determ.specs.Pairs.{AreLabelsBelow, IsPair}
 use Rattle.nk_reach.specs.Rounds.{IsSoFar}
-use Rattle.nk_reach.proofs.Kept.{each_at}
-use Rattle.nk_reach.proofs.Growing.{sets_same, states_grow}
-use Rattle.nk_reach.proofs.Adding.{take_more, take_whole}
+use Rattle.nk_goal.proofs.Places.{each_at}
+use Rattle.nk_goal.proofs.Growing.{sets_same, states_grow}
+use Rattle.nk_goal.proofs.Adding.{take_more, take_whole}
 use Rattle.nk_reach.proofs.Following.{so_far_push, raw_of}
 use Rattle.nk_reach.proofs.follow.follow_level.Goals as goal
 

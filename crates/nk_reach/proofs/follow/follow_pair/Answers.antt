@@ -2,7 +2,7 @@ use Rattle.std.proofs.Common.{[], get_or}
 use Rattle.nk_store.proofs.Stores.{grows_on}
 use Rattle.nk_sets.specs.PacketSets.{IsSet}
 use Rattle.nk_sets.proofs.SetLemmas.{set_grows}
-use Rattle.nk_reach.proofs.Growing.{each_weaker}
+use Rattle.nk_goal.proofs.Growing.{each_weaker}
 use Rattle.nk_reach.proofs.Sending.{followed_of}
 use Rattle.nk_reach.proofs.follow.follow_pair.Goals as goal
 

@@ -1,7 +1,7 @@
 use Rattle.std.proofs.Common.{arith}
 use Rattle.nk_sets.specs.PacketSets.{IsSet}
 use Rattle.nk_sets.proofs.SetLemmas.{set_grows}
-use Rattle.nk_reach.proofs.Growing.{each_weaker}
+use Rattle.nk_goal.proofs.Growing.{each_weaker}
 use Rattle.nk_reach.proofs.Sending.{sent_empty, sent_add}
 use Rattle.nk_reach.proofs.follow.send.Goals as goal
 

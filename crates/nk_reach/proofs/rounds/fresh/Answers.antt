@@ -2,10 +2,11 @@ use Rattle.std.proofs.Common.{◌≡◌, ℕ, ◌<◌, ◌∷◌, [], ◌++◌, 
 use Rattle.nk_store.proofs.Stores.{grows_on}
 use Rattle.nk_sets.specs.PacketSets.{IsSet}
 use Rattle.nk_reach.specs.Rounds.{IsFresh}
-use Rattle.nk_reach.proofs.Kept.{each_at}
+use Rattle.nk_goal.proofs.Places.{each_at}
 use Rattle.nk_sets.proofs.SetLemmas.{set_grows}
-use Rattle.nk_reach.proofs.Growing.{each_weaker}
-use Rattle.nk_reach.proofs.Adding.{take_more, fresh_push, fresh_skip, once_before}
+use Rattle.nk_goal.proofs.Growing.{each_weaker}
+use Rattle.nk_goal.proofs.Adding.{take_more, once_before}
+use Rattle.nk_reach.proofs.Fresh.{fresh_push, fresh_skip}
 use Rattle.nk_reach.proofs.rounds.fresh.Goals.{then-not-is_empty+in_ok-push, else-not-is_empty}
 use Rattle.nk_reach.proofs.rounds.fresh.Goals as goal
 

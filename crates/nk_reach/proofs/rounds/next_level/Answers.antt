@@ -1,9 +1,10 @@
 use Rattle.std.proofs.Common.{length, sym, subst}
 use Rattle.nk_sets.specs.PacketSets.{IsSet}
 use Rattle.nk_sets.proofs.SetLemmas.{set_grows}
-use Rattle.nk_reach.specs.Pairs.{Once}
-use Rattle.nk_reach.specs.Rounds.{HaveSets, IsRaw}
-use Rattle.nk_reach.proofs.Growing.{packets_of, each_weaker}
+use Rattle.nk_determ.specs.Pairs.{Once}
+use Rattle.nk_goal.specs.Entries.{HaveSets}
+use Rattle.nk_reach.specs.Rounds.{IsRaw}
+use Rattle.nk_goal.proofs.Growing.{packets_of, each_weaker}
 use Rattle.nk_reach.proofs.Nexts.{next_of_raw}
 use Rattle.nk_reach.proofs.rounds.next_level.Goals as goal
 

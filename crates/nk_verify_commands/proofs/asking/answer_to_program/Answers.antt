@@ -1,6 +1,6 @@
 use Rattle.std.proofs.Common.{◌≡◌, refl, subst}
 use Rattle.nk_names.specs.declared.Program.{Program}
-use Rattle.nk_reach.specs.Finds.{found_of}
+use Rattle.nk_witness.specs.Finds.{found_of}
 use Rattle.nk_cert.specs.Values.{certificate_value}
 use Rattle.nk_query.specs.Answers.{IsQueryResult, asked_in}
 use Rattle.nk_verify_commands.specs.Asking.{broken_lines}

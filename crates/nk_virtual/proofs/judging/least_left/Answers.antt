@@ -1,6 +1,6 @@
 use Rattle.std.proofs.Common.{subst}
 use Rattle.nk_policy.specs.Tree.{tree_of}
-use Rattle.nk_reach.specs.Finds.{found_of}
+use Rattle.nk_witness.specs.Finds.{found_of}
 use Rattle.nk_cert.specs.Values.{certificate_value}
 use Rattle.nk_cert.specs.Comparison.{whose, IsComparison}
 use Rattle.nk_virtual.specs.Held.{virtual_link_of}

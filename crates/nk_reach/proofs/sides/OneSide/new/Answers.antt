@@ -26,3 +26,6 @@ pub returns-clause-fits : goal.returns-clause-fits
 returns-clause-fits c =
     goal_new c.loop-l.st c.loop-l.ends c.new-seen.result.entries
     (marks_ids c.args.st.now c.loop-l.st c.args.states.now c.args.left c.args.right c.args.bound c.loop-l.l c.loop-l.ends c.loop-l.invariant.marked) c.new-seen.ensures.empty
+
+pub returns-clause-ids : goal.returns-clause-ids
+returns-clause-ids c = marks_ids c.args.st.now c.loop-l.st c.args.states.now c.args.left c.args.right c.args.bound c.loop-l.l c.loop-l.ends c.loop-l.invariant.marked

@@ -1,6 +1,6 @@
 use Rattle.std.proofs.Common.{ℕ, ◌↔◌, ◌∙◌, [], ap, sym, subst, map, get_or, Contains}
 use Rattle.nk_apply.specs.Unions.{AreIds}
-use Rattle.nk_reach.proofs.Alike.{ids_alike, unions_alike}
+use Rattle.nk_steps.proofs.Alike.{ids_alike, unions_alike}
 use Rattle.nk_reach.proofs.OneSided.{labels_ids, alone_leaves, alones_on}
 use Rattle.nk_reach.proofs.sides.OneSideGoal.bad.Goals as goal
 

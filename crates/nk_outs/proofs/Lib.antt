@@ -1,0 +1,7 @@
+pub mod Kept
+pub mod Rising
+pub mod Givens
+pub mod Stretches
+pub mod ByOut
+pub mod Running
+pub mod Grouping

@@ -1,6 +1,0 @@
-use Rattle.std.proofs.Common.{◌≡◌, map, take}
-use Rattle.nk_reach.specs.Outs.{given}
-use Rattle.nk_reach.proofs.outs.each_for.Given as goal
-
-abbrev pub invariant-loop-o : goal.invariant-loop-o
-invariant-loop-o l = l.all ≡ map (given l.packets) (take l.o-index l.outs)

@@ -1,0 +1,8 @@
+//! The steps of a set of labels: the diagram of a set state, at some packets alone.
+#![tactic(auto)]
+
+mod local;
+mod single;
+mod together;
+
+pub use local::{each_once, local_state};

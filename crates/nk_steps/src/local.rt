@@ -1,0 +1,175 @@
+//! The diagram of a set state at some packets alone.
+ghost use Rattle.std.specs.Prelude.{◌≡◌, ◌↔◌, ℕ, ◌<◌, [], Contains, IfOk, OnOk, length, slice_index, slice_index_or};
+ghost use Rattle.std.specs.List.Sorted.{IsStrictlyIncreasing};
+ghost use Rattle.nk_store.specs.StoreState.{IsId, look, Grows};
+ghost use Rattle.nk_apply.specs.Leaves.{guarded};
+ghost use Rattle.nk_apply.specs.Unions.{AreIds};
+ghost use Rattle.nk_sets.specs.PacketSets.{IsSet};
+ghost use Rattle.nk_determ.specs.Sets.{SetsGrow, HasEachSetOnce};
+ghost use Rattle.nk_determ.specs.States.{HaveEach};
+ghost use Rattle.nk_determ.specs.Pairs.{AreStates, AreLabelsBelow};
+ghost use Rattle.nk_steps.specs.Local.{IsStateAt};
+
+use crate::together::steps_together;
+use nk_determ::{SetId, Sets, states_at};
+use nk_field::{Fid, List};
+use nk_sets::at_packets;
+use nk_store::{Id, Node, Out, Store};
+use std::alloc::AllocError;
+
+/// The diagram of a set of labels at some packets alone: each of its outs but the finals is a step of the set, and each
+/// step of the set at these packets is an out. The only error is that memory ran out.
+pub fn local_state(
+    st: &mut Store,
+    ss: &mut Sets,
+    states: &[Id],
+    s: SetId,
+    x: Id,
+) -> Result<Id, AllocError>
+    requires states { AreStates st.old states.now }
+    requires set { s < length ss.old }
+    requires places { AreLabelsBelow (length states.now) (slice_index_or ss.old s []) }
+    requires packets { IsSet st.old x }
+    ensures grows { Grows st.old st.new }
+    ensures sets { SetsGrow ss.old ss.new }
+    ensures differ { OnOk result (HasEachSetOnce ss.new) }
+    ensures ok { IfOk result (λ d. IsStateAt st.old states.now (slice_index_or ss.old s []) x st.new ss.new d) }
+{
+    if go_together(st, states, ss.members(s)) {
+        cut_last(st, ss, states, s, x)
+    } else {
+        cut_first(st, ss, states, s, x)
+    }
+}
+
+/// Whether the states at these labels go together at all packets at once without being split: none tests a field, and the acts
+/// of their outs that are no ends assign the same fields.
+fn go_together(st: &Store, states: &[Id], labels: &[u64]) -> bool
+    requires states { AreIds st.now states.now }
+    requires places { AreLabelsBelow (length states.now) labels.now }
+{
+    let mut fields = 0;
+    for l in labels {
+        match fields_in_all(st, state_in(states, *l), fields) {
+            Some(same) => fields = same,
+            None => return false,
+        }
+    }
+    true
+}
+
+/// The fields that the acts of a leaf's outs assign, ends left out, as bits; those given where there are no such outs. None of
+/// another diagram, or where two acts, or one and those given unless these are 0, assign different fields.
+fn fields_in_all(st: &Store, d: Id, given: u32) -> Option<u32>
+    requires { IsId st.now d }
+{
+    match st.view(d) {
+        Node::Leaf(outs) => fields_in_outs(outs.as_slice(), given),
+        Node::Case(_, _) => None,
+    }
+}
+
+/// The same of a leaf's outs.
+fn fields_in_outs(outs: &[Out], given: u32) -> Option<u32> {
+    let mut fields = given;
+    for o in outs {
+        if o.target != 0 {
+            let own = fields_in_act(o.act.as_slice());
+            if fields != 0 && fields != own {
+                return None;
+            }
+            fields = own;
+        }
+    }
+    Some(fields)
+}
+
+/// The fields that an act assigns, as bits by their places, and one bit more, so that it is never 0.
+fn fields_in_act(act: &[(Fid, u64)]) -> u32 {
+    let mut fields: u32 = 1 << 31;
+    for (f, _) in act {
+        fields |= 1 << f.place();
+    }
+    fields
+}
+
+/// The same, put together at all packets, each state once, and cut to these packets at the end.
+fn cut_last(st: &mut Store, ss: &mut Sets, states: &[Id], s: SetId, x: Id) -> Result<Id, AllocError>
+    requires states { AreStates st.old states.now }
+    requires set { s < length ss.old }
+    requires places { AreLabelsBelow (length states.now) (slice_index_or ss.old s []) }
+    requires packets { IsSet st.old x }
+    ensures grows { Grows st.old st.new }
+    ensures sets { SetsGrow ss.old ss.new }
+    ensures differ { OnOk result (HasEachSetOnce ss.new) }
+    ensures ok { IfOk result (λ d. IsStateAt st.old states.now (slice_index_or ss.old s []) x st.new ss.new d) }
+{
+    let all = states_at(st.alloc(), states, ss.members(s))?;
+    let once = each_once(all);
+    let steps = steps_together(st, ss, once.as_slice())?;
+    let d = at_packets(st, x, steps)?;
+    ss.differ();
+    st.laws();
+    Ok(d)
+}
+
+/// The same, each state cut to these packets before they are put together.
+fn cut_first(
+    st: &mut Store,
+    ss: &mut Sets,
+    states: &[Id],
+    s: SetId,
+    x: Id,
+) -> Result<Id, AllocError>
+    requires states { AreStates st.old states.now }
+    requires set { s < length ss.old }
+    requires places { AreLabelsBelow (length states.now) (slice_index_or ss.old s []) }
+    requires packets { IsSet st.old x }
+    ensures grows { Grows st.old st.new }
+    ensures sets { SetsGrow ss.old ss.new }
+    ensures differ { OnOk result (HasEachSetOnce ss.new) }
+    ensures ok { IfOk result (λ d. IsStateAt st.old states.now (slice_index_or ss.old s []) x st.new ss.new d) }
+{
+    let cut = cut_states(st, states, ss.members(s), x)?;
+    let d = steps_together(st, ss, cut.as_slice())?;
+    ss.differ();
+    st.laws();
+    Ok(d)
+}
+
+/// The states at some labels, each at some packets alone.
+fn cut_states(st: &mut Store, states: &[Id], labels: &[u64], x: Id) -> Result<List<Id>, AllocError>
+    requires states { AreIds st.old states.now }
+    requires places { AreLabelsBelow (length states.now) labels.now }
+    requires packets { IsSet st.old x }
+    ensures grows { Grows st.old st.new }
+    ensures len { IfOk result (λ ds. length ds ≡ length labels.now) }
+    ensures ok { IfOk result (λ ds. HaveEach st.new ds
+        (λ k pk. guarded (look st.old x pk) (look st.old (slice_index states.now (slice_index labels.now k)) pk)) (length ds)) }
+{
+    let mut ds = List::with_capacity(st.alloc(), labels.len())?;
+    for l in labels {
+        let d = at_packets(st, x, state_in(states, *l))?;
+        ds.push(d)?;
+    }
+    Ok(ds)
+}
+
+/// The state at a label.
+fn state_in(states: &[Id], label: u64) -> Id
+    requires { label < length states.now }
+    ensures { result ≡ slice_index states.now label }
+{
+    states[label as usize]
+}
+
+/// The diagrams in order, each once.
+pub fn each_once(ds: List<Id>) -> List<Id>
+    ensures members { (d : ℕ) → Contains result d ↔ Contains ds d }
+    ensures once { IsStrictlyIncreasing result }
+{
+    let mut all = ds.into_vec();
+    all.sort_unstable();
+    all.dedup();
+    List::from_vec(all)
+}
