@@ -1,5 +1,5 @@
 # Bash completion for nk. It completes the commands, and the names of policies and predicates where it can see the text: where the command
-# has `< FILE` behind the word nk, before or behind the cursor. It can't see a text that comes from a pipe or a here-document, nor a file that
+# has `< FILE` after the word nk, before or after the cursor. It can't see a text that comes from a pipe or a here-document, nor a file that
 # is named by a variable, a pattern or a substitution; then it offers no names. It reads the first 4 MiB of the file and runs nothing of it.
 
 # The names of a program's text on standard input: of all policies, or of those that are predicates where the first word is `predicates`.
@@ -39,7 +39,7 @@ _nk_names() {
         END { if (in_let) take(";"); close_let() }'
 }
 
-# The file behind the last `<` of the command, without its quotes and backslashes and with its tilde; nothing where there is none, or where bash
+# The file after the last `<` of the command, without its quotes and backslashes and with its tilde; nothing where there is none, or where bash
 # would expand more of it.
 _nk_text_file() {
     local word='("[^"$`\\]*"|'"'[^']*'"'|([^][:space:]<>|;&()"$`*?[\\'"'"']|\\.)+)' file

@@ -191,8 +191,8 @@ class Draw:
         for _ in range(count if pieces else 0):
             place = self.random.randrange(len(pieces))
             other = self.one(*pieces) if self.chance(0.4) else self.text(form)
-            behind = [] if self.chance(0.05) else pieces[place + 1 :]
-            pieces = pieces[:place] + self.one([], [other], [other], [other, pieces[place]]) + behind
+            following = [] if self.chance(0.05) else pieces[place + 1 :]
+            pieces = pieces[:place] + self.one([], [other], [other], [other, pieces[place]]) + following
         return pieces
 
     def shaped(self, lines):

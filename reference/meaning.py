@@ -131,8 +131,8 @@ def rests(policy):
         return {policy[1]: ID}
     found = {}
     for place, part in enumerate(policy.parts):
-        behind = {"seq": policy.parts[place + 1 :], "star": (policy,)}.get(policy[0], ())
-        found |= {number: seq(rest, *behind) for number, rest in rests(part).items()}
+        following = {"seq": policy.parts[place + 1 :], "star": (policy,)}.get(policy[0], ())
+        found |= {number: seq(rest, *following) for number, rest in rests(part).items()}
     return found
 
 
@@ -142,8 +142,8 @@ START = frozenset({0})
 class Runs:
     """The runs of one policy, or of two that are compared, from packet to recorded packet.
 
-    GLOSSARY, position: "0 at the start, l behind the `dup` with the number l"; either_of: "the right one's dups
-    numbered on from the left one's".
+    GLOSSARY, position: "0 at the start, l after the `dup` with the number l"; either_of: "the right policy's
+    dups numbered on from the left policy's".
     """
 
     def __init__(self, *policies):
@@ -212,7 +212,7 @@ class Runs:
         return self.least(starts, alone, first)
 
     def position_sets(self, starts, every=1):
-        """The sets of positions behind the start, of each or every second level: by level, then as ascending lists."""
+        """The sets of positions after the start, of each or every second level: by level, then as ascending lists."""
         found = []
         for level in list(self.levels(starts))[1::every]:
             found += sorted({tuple(sorted(at)) for at, _ in level} - set(found))

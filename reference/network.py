@@ -47,9 +47,9 @@ def draws(seed):
 
 
 def fly(tables, seed, steps, packet):
-    """REFERENCE, Commands: "the copy whose number is the next draw modulo the number of copies, counted from 0".
-    PROMISES, nk_flight: "each packet that is sent for it puts a copy, a history or, where it vanishes, nothing
-    behind the others"."""
+    """REFERENCE, Commands: "The copies are numbered from 0; the number of the chosen copy is the next draw modulo the
+    number of copies". PROMISES, nk_flight: "Each packet that the switch sends for this copy puts one thing after the
+    others: a copy, a history or, where the packet vanishes, nothing"."""
     flying, left = [((), packet)], []
     for _, drawn in zip(range(steps), draws(seed)):
         if not flying:
@@ -92,8 +92,7 @@ class Update:
         return self.done[switch] < 2 or all(not 0 < copy[self.old.tag] <= self.old_tags for _, _, copy in self.flying)
 
     def turn(self, drawn, packet):
-        """REFERENCE, Commands: "the action whose number is the next draw modulo n, counted from 0 .. First, PACKET
-        comes in. Then, for each copy in flight .. Last, for each switch that may do its next plan step, switches
+        """REFERENCE, Commands: "the number of the chosen action is the next draw modulo n .. First, PACKET comes in. Then, for each copy in flight .. Last, for each switch that may do its next plan step, switches
         ascending"."""
         steps = [switch for switch in self.done if self.may(switch)]
         action = drawn % (1 + len(self.flying) + len(steps))

@@ -61,8 +61,8 @@ def predicate_text(fields, policy, outer=()):
 
 
 def certificate(space, runs):
-    """REFERENCE, Certificates: "a row for each set of numbers that runs come to, with exactly the packets at which they
-    do"."""
+    """REFERENCE, Certificates: "a row for each set of numbers that runs come to. The predicate of the row keeps exactly
+    the packets at which runs come to the set"."""
     met = {}
     for level in list(runs.levels(space.packets()))[1:]:
         for at, x in level:
@@ -83,14 +83,14 @@ def tag_sets(space, runs):
 
 
 def classes(space, policy, sets):
-    """README, The commands: "one tag for all tag sets behind which the same histories are left"; what tells two tags
-    apart."""
+    """README, The commands: "one tag for all tag sets after which the policy still gives the same histories"; what
+    tells two tags apart."""
     runs = Runs(policy, policy)
     firsts, numbers, aparts = [], [], {}
     for at in sets:
         told = {}
         for number, first in enumerate(firsts, 1):
-            both = behind(first) | {runs.split + position for position in behind(at)}
+            both = after_link(first) | {runs.split + position for position in after_link(at)}
             told[number] = runs.first_difference(space.packets(), both)
         same = [number for number, it in told.items() if it is None]
         if not same:
@@ -100,8 +100,8 @@ def classes(space, policy, sets):
     return numbers, aparts
 
 
-def behind(at):
-    """The positions behind a link, of those in front of its second dup."""
+def after_link(at):
+    """The positions after a link, of those before its second dup."""
     return at if at == START else frozenset(number + 1 for number in at)
 
 
@@ -112,7 +112,7 @@ class Compiled:
         self.space, self.runs, self.tags = space, runs, tags
         self.program, self.fields, self.tag = space.program, space.program.fields, space.program.tag
         self.matched = [f for f in range(1, len(self.fields)) if f != self.tag]
-        self.met = {at: set() for at in tags}  # the packets behind the link of each tag set
+        self.met = {at: set() for at in tags}  # the packets after the link of each tag set
         for at, x in [it for level in runs.levels(space.located()) for it in level if it[0] in tags]:
             self.met[at] |= set(runs.nexts(at, x))
         self.sections = {switch: self.section(switch) for switch in sorted(self.program.switches)}
@@ -127,12 +127,12 @@ class Compiled:
         return rows
 
     def tag_rows(self, switch, tag, members):
-        """PROMISES, Statuses 0 and 1, by command: "the first one under which the packet is met there, else the class's
-        first one"."""
+        """PROMISES, Statuses 0 and 1, by command: "the first tag set of the class under which the packet is met there;
+        where the packet is met under none, the first tag set of the class"."""
 
         def leaf(x):
             member = next((at for at in members if x in self.met.get(at, ())), members[0])
-            return self.buckets(behind(member), x)
+            return self.buckets(after_link(member), x)
 
         tree = tree_of(self.space, self.matched, leaf, {0: (switch, switch), self.tag: (0, 0)})
         return [(tag, *row) for row in self.rows(tree, (), False)]

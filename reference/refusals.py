@@ -41,8 +41,8 @@ def tagged(program):
         raise Refused("C2: no tag")
 
 
-def check_by_sight(program, policy, links):
-    """REFERENCE, Which refusal comes first: "C2 to C6 are decided by the policy's text alone, also for parts of it that
+def check_static(program, policy, links):
+    """REFERENCE, Which refusal comes first: "C2 to C6 are decided by the text alone, also for parts of a policy that
     no packet can reach"."""
     found = leaves(small(policy))
     if any(it[0] in ("test", "range", "set") and it[1] == program.tag for it in found):
@@ -69,7 +69,7 @@ def check_edges(space, runs):
 
 def few(program, count):
     """REFERENCE, Refusals and faults, C8: "The policy needs more tags than the tag has values above 0 .. N is one more
-    than the number of those values"."""
+    than the number of the tag's values above 0"."""
     most = program.fields[program.tag][1]
     if count > most:
         raise Refused(f"C8: too many tags, found {most + 1}")
@@ -92,9 +92,9 @@ def packet_of(program, text):
 
 
 def check_carried(program, source):
-    """REFERENCE, Refusals and faults, C11: "A packet without tag at port M of switch A, where a virtual link begins,
-    has a history of the link's fabric that ends elsewhere than at the packet moved to the port where the link ends";
-    C12: such a packet "has no history of the link's fabric"."""
+    """REFERENCE, Refusals and faults, C11: "A virtual link begins at port M of switch A. From a packet without
+    tag there, the link's fabric has a history that doesn't end at the packet moved to the port where the link ends, with
+    all else as it was"; C12: "the link's fabric has no history"."""
     (a, m), (b, n, name) = source, program.virtuals[source]
     fabric, where = program.fabrics[name], f"{a}:{m}"
     space, runs = Space(program, fabric, with_ports=True), Runs(fabric)

@@ -31,7 +31,7 @@ def digits_of(largest):
 
 def parse_tables(text):
     """REFERENCE, Refusals and faults: "A table text breaks a rule of tables"; "of the first number or name at fault ..
-    of the last token where no tag is declared"."""
+    Where no tag is declared: of the last token"."""
     tokens = tokens_of(text)
     _, version, *declarations = Reader(tokens).whole("table-text")
     tables = Tables(version)
@@ -86,7 +86,7 @@ class Tables(Program):
         return TableRow(int(priority), matched, [] if target == "drop" else groups[int(target)])
 
     def match(self, matched, name, _, value, *prefix):
-        """A value out of range, a `/` in a text of version 1, a length that is none of its field, ones behind it."""
+        """A value out of range, a `/` in a text of version 1, a length that is none of its field, ones after it."""
         f = self.field(name, matched, {0})
         digits = digits_of(self.fields[f][1])
         in_range(value, self.fields[f][1])
@@ -126,7 +126,7 @@ def emitted(tables, rows, packet):
 
 
 def agrees(tables, match, packet):
-    """GUIDE 4: "A match `f=v/len`, a *prefix*, is for all values whose first len binary digits are those of v"."""
+    """GUIDE 4: A match "`f=v/len`, a *prefix*, is for all values that have the same first len binary digits as v"."""
     f, value, length = match
     rest = digits_of(tables.fields[f][1]) - length
     return packet[f] >> rest == value >> rest

@@ -143,8 +143,8 @@ class Reader:
         return found if self.place == len(self.tokens) else self.unexpected()
 
     def unexpected(self):
-        """REFERENCE, Refusals and faults: "No valid text can continue with this token"; "at the end of the text, of the
-        last token, or 1"."""
+        """REFERENCE, Refusals and faults: "No valid text can continue with this token"; "Where the text ends too early:
+        of the last token, or 1"."""
         raise Fault(([1] + [it.line for it in self.tokens[: self.place + 1]])[-1], "unexpected")
 
     def can_be(self, items):
@@ -204,7 +204,7 @@ def atom(found):
     return Policy("name" if len(found) == 1 else "link", *found)
 
 
-# A run of `*` right behind one atom is one star.
+# A run of `*` right after one atom is one star.
 MADE = {"policy": joined("sum"), "term": joined("seq"), "atom": atom}
 MADE["factor"] = lambda found: Policy("star", found[0]) if found[1:] else found[0]
 
@@ -304,7 +304,7 @@ def declared(program, declarations):
 
 
 def parse_certified(text):
-    """The program of a text, and the rows of the certificate behind it: predicates by positions, none of the start."""
+    """The program of a text, and the rows of the certificate after it: predicates by positions, none of the start."""
     declarations, _, (start, _, first), *further = Reader(tokens_of(text)).whole("certified")
     program, rows = declared(Program(), declarations), {}
     for word, *numbers, tree in [(start, first), *further]:

@@ -89,14 +89,14 @@ def tables_of(program, policy):
 
 def answer_compile(text, name):
     program, policy = chosen(text, name)
-    refusals.check_by_sight(program, policy, program.links)
+    refusals.check_static(program, policy, program.links)
     return 0, tables_of(program, policy).lines()
 
 
 def answer_compact(text, name):
-    """One tag for all tag sets behind which the same histories are left, and a comment line for each two tags."""
+    """One tag for all tag sets after which the policy still gives the same histories, and a comment line for each two tags."""
     program, policy = chosen(text, name)
-    refusals.check_by_sight(program, policy, program.links)
+    refusals.check_static(program, policy, program.links)
     space, runs, sets = sets_of(program, policy)
     numbers, aparts = classes(space, policy, sets)
     refusals.few(program, max(numbers, default=0))
@@ -111,18 +111,18 @@ def answer_virtual(text, name):
     """For each virtual link C3 to C6 of its fabric, C11 and C12; then those of the policy, C13, C7 and C8."""
     program, policy = chosen(text, name)
     for source, (_, _, fabric) in sorted(program.virtuals.items()):
-        refusals.check_by_sight(program, program.fabrics[fabric], program.links)
+        refusals.check_static(program, program.fabrics[fabric], program.links)
         refusals.check_carried(program, source)
-    refusals.check_by_sight(program, policy, program.virtuals)
+    refusals.check_static(program, policy, program.virtuals)
     return 0, tables_of(program, refusals.physical(program, policy)).lines()
 
 
 def answer_update(text, old, new, seed, steps, packet):
-    """C1, C2, C3 to C7 of OLD, then of NEW, C8 of both together, C9 and C10. New tags stand behind the old ones."""
+    """C1, C2, C3 to C7 of OLD, then of NEW, C8 of both together, C9 and C10. New tags stand after the old ones."""
     program, *both = chosen(text, old, new)
     sides, tags = [], [0]
     for policy in both:
-        refusals.check_by_sight(program, policy, program.links)
+        refusals.check_static(program, policy, program.links)
         sides.append(sets_of(program, policy))
         tags.append(tags[-1] + len(sides[-1][2]))
     refusals.few(program, tags[-1])
@@ -151,11 +151,11 @@ def sides_of(program, *names):
         return policy, others[0]
     if not all(it.predicate for it in others):
         raise Refused("C14: not a predicate")
-    before, *avoided, behind = others
+    before, *avoided, after = others
     avoid = [Policy("not", it) for it in avoided]
     if avoid:
         policy = mapped(parted(policy), lambda leaf: seq(*avoid, leaf) if leaf == DUP else leaf)
-    return refusals.few_elements(seq(before, *avoid, policy, *avoid, behind)), DROP
+    return refusals.few_elements(seq(before, *avoid, policy, *avoid, after)), DROP
 
 
 def answer_equal(text, *names):
