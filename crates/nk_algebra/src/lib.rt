@@ -19,5 +19,4 @@ pub use nk_apply::{
     merge, negate, part_at, part_near, range, restrict, shift, span, test, tested, union,
     union_all,
 };
-pub use partition::is_wide;
 pub use seqs::{after, out_count, put_after, seq};

@@ -1,5 +1,6 @@
-//! One diagram, then another one, where both have many parts by some field. At the first field that they test, outs that assign
-//! it go on with the second diagram at one value. The others go on with what it is at the packet's own value, and with no more of it.
+//! One diagram, then another one, where the first or both have many parts by some field. At the first field that they test, outs that
+//! assign it go on with the second diagram at one value. The others go on with what it is at the packet's own value, and with no more
+//! of it.
 ghost use Rattle.std.specs.Prelude.{◌≡◌, ℕ, ◌<◌, ◌≤◌, ◌++◌, min, true, false, List as Items, IfOk, IfSome, OnOk, MatchOption};
 ghost use Rattle.std.specs.List.{flat_map};
 ghost use Rattle.nk_store.specs.Nodes.{child_at, Each};
@@ -17,7 +18,7 @@ use nk_field::{Act, Fid, List, PLACES};
 use nk_store::{Id, Node, Out, Store};
 use std::alloc::{AllocError, Global};
 
-/// Nodes with more parts than this, in both diagrams, have outs taken apart: few parts are no trouble, and taking apart takes a walk.
+/// Nodes with more parts than this have outs taken apart: few parts are no trouble, and taking apart takes a walk.
 const MANY: usize = 64;
 
 /// How far below the first node a node with many parts is looked for: after a few switches, say, and their ports.
@@ -131,7 +132,7 @@ fn sets(act: &Act, f: Fid) -> bool
 
 /// Whether a node of a diagram has many parts by its field: the first one, or one a few steps below it. It tells which way of putting
 /// two such diagrams in sequence is quick, and no more.
-pub fn is_wide(st: &Store, d: Id) -> bool
+fn is_wide(st: &Store, d: Id) -> bool
     requires { IsId st.now d }
 {
     has_many(st, d, STEPS)
@@ -206,20 +207,67 @@ fn one_keeps(outs: &[Out], f: Fid) -> bool {
     false
 }
 
-/// The first field that one of the diagrams tests, where both have many parts by some field and an out of the first may keep its
-/// first field.
+/// The first field that one of the diagrams tests, where outs are to be taken apart by it. The first diagram has many parts by some
+/// field, and an out may keep its first field. And the second one has many parts too, or the first out that is found keeps the field
+/// that is asked for: n ranges of destinations at each of m switches, in front of a diagram that tests the switch, then meet m
+/// parts of that one, and not m times m.
 fn wide_field(st: &Store, a: Id, b: Id) -> Option<Fid>
     requires left { IsId st.now a }
     requires right { IsId st.now b }
     ensures { IfSome result (λ f. (f < 18) × (f ≡ min (root_field st.now a) (root_field st.now b)) × (f ≤ root_field st.now a) × (f ≤ root_field st.now b)) }
 {
-    if !is_wide(st, a) || !is_wide(st, b) || !may_keep(st, a) {
+    if !is_wide(st, a) || !may_keep(st, a) {
         return None;
     }
-    match (tested(st, a), tested(st, b)) {
-        (Some(f), Some(g)) => if f < g { Some(f) } else { Some(g) },
-        _ => None,
+    let f = match (tested(st, a), tested(st, b)) {
+        (Some(f), Some(g)) => if f < g { f } else { g },
+        _ => return None,
+    };
+    if is_wide(st, b) || begins_kept(st, a, f) {
+        Some(f)
+    } else {
+        None
     }
+}
+
+/// Whether the first out that is found a few steps below the first node leaves a field as it is.
+fn begins_kept(st: &Store, a: Id, f: Fid) -> bool
+    requires { IsId st.now a }
+{
+    match first_keeps(st, a, f, PLACES as u64) {
+        Some(keeps) => keeps,
+        None => false,
+    }
+}
+
+/// Whether the first out of a diagram leaves a field as it is, if one is found so many steps below the first node at most.
+#[cycle(first_keeps)]
+fn first_keeps(st: &Store, d: Id, f: Fid, steps: u64) -> Option<bool>
+    requires { IsId st.now d }
+{
+    match st.view(d) {
+        Node::Leaf(outs) => match outs.as_slice().first() {
+            Some(o) => Some(!sets(&o.act, f)),
+            None => None,
+        },
+        Node::Case(_, parts) => keeps_below(st, parts.as_slice(), f, steps),
+    }
+}
+
+/// The same of some parts, if there is a step left.
+#[cycle(first_keeps)]
+fn keeps_below(st: &Store, parts: &[(u64, Id)], f: Fid, steps: u64) -> Option<bool>
+    requires { Each (IsId st.now) parts.now }
+{
+    if steps == 0 {
+        return None;
+    }
+    for i in 0..parts.len() {
+        if let Some(keeps) = first_keeps(st, parts[i].1, f, steps - 1) {
+            return Some(keeps);
+        }
+    }
+    None
 }
 
 /// The sequence, where no answer is kept of these two.

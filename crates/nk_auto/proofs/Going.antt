@@ -132,6 +132,21 @@ pub dupless_through : (st new : StoreState) (d k r : ℕ) (p : Policy) → dups_
 dupless_through st new d k r p none tidy g a ik h =
     through st new d k r p tidy g a ik (dupless_records_none p none) h
 
+-- a policy without a dup, and then nothing
+pub dupless_to_nothing : (st : StoreState) (k : ℕ) (p : Policy) → dups_of p ≡ 0 → IsId st k → ((pk : List ℕ) → look st k pk ≡ []) →
+    IsContinued st k p k
+dupless_to_nothing st k p none ik nothing = record {
+  id = ik;
+  next = ik;
+  sends = λ fit pk y t pk_in. (
+    λ s. absurd (sends_none pk y t s),
+    λ s. ⊎_elim (λ e. absurd (sends_none e.0 y t e.2)) (λ e. absurd (dupless_records_none p none pk y t e)) s,
+  );
+}
+  where
+    sends_none : (x y : List ℕ) (t : ℕ) → Sends st k x y t → ⊥
+    sends_none x y t s = subst (λ os. Has os (out_of s.0 t)) (nothing x) (contains_has _ _ s.1)
+
 -- a star in which no round records, continued
 pub star_through : (st new : StoreState) (d k r : ℕ) (p : Policy) → dups_of p ≡ 0 → AreTidy new → Grows st new →
     IsSilent st d (star_of p) → IsId st k → HasLeaves new r (λ pk. seq_leaf (look st d pk) (look st k) pk) →

@@ -14,3 +14,4 @@ pub mod Stating
 pub mod Parts
 pub mod OfParts
 pub mod Tested
+pub mod ByValue

@@ -1,5 +1,5 @@
 -- Diagrams of the runs without a record: leaves, complements, sequences and stars.
-use Rattle.std.proofs.Common.{◌≡◌, ℕ, zero, suc, ◌+◌, ◌≤◌, ◌↔◌, inl, ⊎_elim, Bool, true, false, cond, eqb, leb, ◌&&◌, min, List, [], ◌∷◌, refl, sym, ap, subst, ◌∙◌, arith, drop}
+use Rattle.std.proofs.Common.{◌≡◌, ℕ, zero, suc, ◌+◌, ◌<◌, ◌≤◌, ◌↔◌, inl, ⊎_elim, Bool, true, false, cond, eqb, leb, ◌&&◌, min, List, [], ◌∷◌, refl, sym, ap, subst, ◌∙◌, arith, drop, get_or, length}
 use Rattle.std.specs.Prelude.{slice_index}
 use Rattle.std.proofs.lemmas.Bool.Decides.{nat_tests}
 use Rattle.nk_field.specs.Act.{applied}
@@ -7,6 +7,7 @@ use Rattle.nk_policy.specs.Policy.{Policy, Policies, test, range, assign, seq_of
 use Rattle.nk_policy.specs.Meaning.{Gives, way_of, rounds}
 use Rattle.nk_policy.specs.Tree.{tree_of, trees_of}
 use Rattle.nk_policy.specs.declared.policy.Pol.{Pol}
+use Rattle.nk_policy.proofs.Steps.{left_is}
 use Rattle.nk_policy.proofs.Tests.{both_true, both_pass, at_most_test, at_most_from}
 use Rattle.nk_store.specs.declared.node.Out.{Out}
 use Rattle.nk_store.specs.Leaves.{Every}
@@ -211,6 +212,35 @@ pub none_at_end : (st : StoreState) (d : ℕ) (ps : List Pol) (i : ℕ) → HasL
 none_at_end st d ps zero h b = b
 none_at_end st d [] (suc i) h b = b
 none_at_end st d (p ∷ ps) (suc i) h b = none_following st d (tree_of p) (trees_of ps) h (none_at_end st d ps i h b)
+
+-- the same of the parts from a place on
+pub none_between : (st : StoreState) (d : ℕ) (ps : List Pol) (from i : ℕ) → from ≤ i → HasLeaves st d (λ pk. []) →
+    IsSilent st d (seq_of (trees_of (drop i ps))) → IsSilent st d (seq_of (trees_of (drop from ps)))
+none_between st d ps zero i le h b = none_at_end st d ps i h b
+none_between st d ps (suc from) zero le h b = absurd (omega (arith, le))
+none_between st d [] (suc from) (suc i) le h b = b
+none_between st d (p ∷ ps) (suc from) (suc i) le h b = none_between st d ps from i (omega (arith, le)) h b
+
+-- a part that always records
+none_first : (st : StoreState) (d : ℕ) (p : Policy) (ps : Policies) → HasLeaves st d (λ pk. []) → IsSilent st d p →
+    IsSilent st d (seq_of (part p ps))
+none_first st d p ps h a = record {
+  id = a.id;
+  ends = a.ends;
+  sends = λ fit pk y t pk_in. (
+    λ s. absurd (read_out st d _ pk y t h pk_in.0 s),
+    λ s.
+        let k = gives_cons p ps pk y s.1 in
+        absurd (read_out st d _ pk k.0 0 h pk_in.0 ((a.sends (fit.0.0, fit.1.0) pk k.0 0 pk_in).1 (refl, k.1))),
+  );
+}
+
+-- and one at some place
+pub none_at_place : (st : StoreState) (d : ℕ) (ps : List Pol) (i : ℕ) (q : Pol) → i < length ps → q ≡ get_or ps i q →
+    HasLeaves st d (λ pk. []) → IsSilent st d (tree_of q) → IsSilent st d (seq_of (trees_of ps))
+none_at_place st d ps i q lt is h a =
+    none_at_end st d ps i h
+    (subst (λ qs. IsSilent st d (seq_of qs)) (sym (ap trees_of (left_is ps i q lt is))) (none_first st d (tree_of q) (trees_of (drop (i + 1) ps)) h a))
 
 -- the complement of a predicate
 pub not_silent : (st new : StoreState) (d r : ℕ) (p : Policy) → Grows st new → IsSilent st d p →

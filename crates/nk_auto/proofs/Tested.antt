@@ -40,11 +40,11 @@ ends_hold v x h =
     (at_most_from x.0 v b.0, at_most_from v x.1 b.1)
 
 -- one below the first isn't in
-before : (v : ℕ) (x : ℕ × ℕ) → v < x.0 → is_between v x ≡ false
+pub before : (v : ℕ) (x : ℕ × ℕ) → v < x.0 → is_between v x ≡ false
 before v x l = false_where (is_between v x) (λ h. let b = (ends_hold v x h).0 in omega (arith, b, l))
 
 -- nor is one above the second
-following : (v : ℕ) (x : ℕ × ℕ) → x.1 < v → is_between v x ≡ false
+pub following : (v : ℕ) (x : ℕ × ℕ) → x.1 < v → is_between v x ≡ false
 following v x l = false_where (is_between v x) (λ h. let b = (ends_hold v x h).1 in omega (arith, b, l))
 
 -- one interval more is found
@@ -128,7 +128,7 @@ pub constant_grow : (old new : StoreState) (d : ℕ) (outs : List Out) → Grows
 constant_grow old new d outs g k = record { leaves = leaves_grow old new d _ g k.leaves; root_field_is = g.root_fields d k.leaves.id ∙ k.root_field_is }
 
 -- it is a child of each field's nodes
-constant_child : (st : StoreState) (f d : ℕ) (outs : List Out) → f < 18 → IsConstant st d outs → IsChild st f d
+pub constant_child : (st : StoreState) (f d : ℕ) (outs : List Out) → f < 18 → IsConstant st d outs → IsChild st f d
 constant_child st f d outs h k = record { id = k.leaves.id; later = omega (arith, k.root_field_is, h) }
 
 -- the first intervals with the one at the next place
@@ -137,13 +137,13 @@ take_next : (values : List (ℕ × ℕ)) (i : ℕ) (x : ℕ × ℕ) → i < leng
 take_next values i x l is = take_more values i (0, 0) l ∙ ap (λ e. take i values ++ e ∷ []) (sym is)
 
 -- parts that give what R does give what S does
-built_same : (R S : ℕ → List ℕ → List Out) (st : StoreState) (f to : ℕ) (ps : List (ℕ × ℕ)) →
+pub built_same : (R S : ℕ → List ℕ → List Out) (st : StoreState) (f to : ℕ) (ps : List (ℕ × ℕ)) →
     ((v : ℕ) (pk : List ℕ) → v < to → R v pk ≡ S v pk) → Built R st f to ps → Built S st f to ps
 built_same R S st f to ps same b =
     record { ends = b.ends; children = b.children; leaf = λ v pk w l. b.leaf v pk w l ∙ same v pk l }
 
 -- a part for the values below x
-built_gap : (R : ℕ → List ℕ → List Out) (st : StoreState) (f from x d : ℕ) (ps : List (ℕ × ℕ)) → Built R st f from ps → from ≤ x →
+pub built_gap : (R : ℕ → List ℕ → List Out) (st : StoreState) (f from x d : ℕ) (ps : List (ℕ × ℕ)) → Built R st f from ps → from ≤ x →
     IsChild st f d → ((v : ℕ) (pk : List ℕ) → IsWhole pk → from ≤ v → v < x → look st d pk ≡ R v pk) →
     Built R st f x (ps ++ gap from x d)
 built_gap R st f from x d ps b le child serves = elim (leb_tells x from) [

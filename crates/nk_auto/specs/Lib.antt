@@ -6,3 +6,4 @@ pub mod TwoWays
 pub mod Automaton
 pub mod OfParts
 pub mod Values
+pub mod ByValue

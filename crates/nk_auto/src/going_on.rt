@@ -13,15 +13,18 @@ use crate::silence::{
     ended_then, silent, silent_not, silent_predicate, silent_range, silent_set, silent_star,
     silent_test,
 };
-use nk_algebra::{aim, empty, identity, is_wide, seq, union, union_all};
+use nk_algebra::{aim, empty, identity, seq, union, union_all};
 use nk_field::{Fid, List};
 use nk_policy::{Pol, is_predicate, may_record};
 use nk_sets::at_packets;
 use nk_store::{Id, Store};
 use std::alloc::AllocError;
 
-/// A sum without a dup that has more parts than this is drawn alone, where the diagram that it is continued by has many parts too.
+/// A sum without a dup that has more parts than this, or holds such a sum, is drawn alone.
 const MANY: usize = 64;
+
+/// How far below a sum a sum of many parts is looked for: after a test of the switch, say, and one of the port.
+const STEPS: u64 = 4;
 
 /// The diagram of a policy up to its first record, continued by a diagram: where the policy ends without a record the
 /// diagram says what comes next, and where it records at its dup l the packet is sent to target l. The only error is
@@ -36,7 +39,7 @@ pub fn continued(st: &mut Store, p: &Pol, next: Id) -> Result<Id, AllocError>
     if is_predicate_sum(p) {
         return after_predicate(st, p, next);
     }
-    if is_wide_sum(st, p, next) {
+    if is_wide_sum(p) {
         return after_dupless(st, p, next);
     }
     match p {
@@ -119,26 +122,52 @@ pub fn after_predicate(st: &mut Store, p: &Pol, next: Id) -> Result<Id, AllocErr
     Ok(r)
 }
 
-/// Whether a policy is a sum of many parts, without a dup, in front of a diagram with many parts by a field. Part by part each
-/// assignment would be put before all of that diagram; where a test stands before it, all but a few of the diagram's parts
-/// would then be thrown away. What isn't drawn alone is drawn part by part, so only a yes promises something: no dup.
-pub fn is_wide_sum(st: &Store, p: &Pol, next: Id) -> bool
-    requires { IsId st.now next }
+/// Whether a policy is a sum without a dup that has many parts or holds a sum of many parts. Part by part each assignment would be
+/// put before all of the diagram that comes next; where a test stands before the sum, all but a few of that diagram's parts would
+/// then be thrown away. What isn't drawn alone is drawn part by part, so only a yes promises something: no dup.
+pub fn is_wide_sum(p: &Pol) -> bool
     ensures { result ≡ true → dups_of (tree_of p.now) ≡ 0 }
 {
     match p {
-        Pol::Sum(ps) => ps.as_slice().len() > MANY && is_wide(st, next) && !may_record(p),
+        Pol::Sum(_) => holds_wide_sum(p, STEPS) && !may_record(p),
         _ => false,
     }
 }
 
-/// A policy without a dup, drawn alone and put in sequence with a diagram.
+/// Whether a policy is a sum of many parts, or a sum or a sequence that holds one so many steps below it at most.
+#[cycle(holds_wide_sum)]
+fn holds_wide_sum(p: &Pol, steps: u64) -> bool {
+    match p {
+        Pol::Sum(ps) => { ps.as_slice().len() > MANY || some_hold_wide_sum(ps.as_slice(), steps) }
+        Pol::Seq(ps) => some_hold_wide_sum(ps.as_slice(), steps),
+        _ => false,
+    }
+}
+
+/// The same of some parts, if there is a step left.
+#[cycle(holds_wide_sum)]
+fn some_hold_wide_sum(ps: &[Pol], steps: u64) -> bool {
+    if steps == 0 {
+        return false;
+    }
+    for p in ps {
+        if holds_wide_sum(p, steps - 1) {
+            return true;
+        }
+    }
+    false
+}
+
+/// A policy without a dup, drawn alone and put in sequence with a diagram. It isn't drawn in front of nothing.
 pub fn after_dupless(st: &mut Store, p: &Pol, next: Id) -> Result<Id, AllocError>
     requires next { IsId st.old next }
     requires dupless { dups_of (tree_of p.now) ≡ 0 }
     ensures grows { Grows st.old st.new }
     ensures ok { IfOk result (λ d. IsContinued st.new d (tree_of p.now) next) }
 {
+    if st.drops(next) {
+        return Ok(next);
+    }
     let alone = silent(st, p)?;
     let d = ended_then(st, alone, next)?;
     st.laws();

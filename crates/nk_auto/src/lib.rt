@@ -3,6 +3,7 @@
 #![tactic(auto)]
 
 mod by_parts;
+mod by_value;
 mod going_on;
 mod guards;
 mod nested;

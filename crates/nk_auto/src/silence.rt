@@ -1,14 +1,16 @@
 //! What a policy does without a record.
-ghost use Rattle.std.specs.Prelude.{◌≡◌, ℕ, true, IfOk};
+ghost use Rattle.std.specs.Prelude.{◌≡◌, ℕ, ◌<◌, ◌≤◌, [], true, IfOk, IfSome, OnOk, length, drop};
 ghost use Rattle.nk_policy.specs.Policy.{test, range, assign, sum_of, seq_of, not_of, star_of, dup, link, is_predicate};
 ghost use Rattle.nk_policy.specs.Tree.{tree_of, trees_of};
 ghost use Rattle.nk_store.specs.StoreState.{IsId, look, Grows, HasLeaves};
 ghost use Rattle.nk_apply.specs.Predicates.{HasOnlyFinals, IsPredicate};
 ghost use Rattle.nk_apply.specs.Seqs.{seq_leaf};
 ghost use Rattle.nk_auto.specs.Continued.{IsSilent};
+ghost use Rattle.nk_auto.specs.ByValue.{IsArm, AreArms};
 
+use crate::by_value::{choice_between, common_field, is_behind};
 use crate::one_field::{range_where, set_where, test_where};
-use crate::values::{tests_of_sum, tests_together};
+use crate::values::{tested_value, tests_of_sum, tests_together};
 use nk_algebra::{empty, identity, negate, seq, union_all};
 use nk_field::{Fid, List};
 use nk_policy::Pol;
@@ -119,6 +121,9 @@ fn silent_any(st: &mut Store, ps: &[Pol]) -> Result<Id, AllocError>
     if let Some(together) = tests_together(st, ps)? {
         return Ok(together);
     }
+    if let Some(choice) = choice_of(st, ps)? {
+        return Ok(choice);
+    }
     let mut ids = List::new(st.alloc());
     let mut i = ps.len();
     while i > 0 {
@@ -129,16 +134,103 @@ fn silent_any(st: &mut Store, ps: &[Pol]) -> Result<Id, AllocError>
     union_all(st, ids.as_slice())
 }
 
-/// Those of a sequence's parts, built from the last part to the first; what stands before parts that always record isn't drawn.
+/// The diagram of a sum of many sequences that each begin with a test or a range of one field, no two of which hold of one value: one
+/// node over what is behind these. None for another sum. To unite n such diagrams by halves takes n log n steps.
+#[cycle(silent)]
+fn choice_of(st: &mut Store, ps: &[Pol]) -> Result<Option<Id>, AllocError>
+    ensures grows { Grows st.old st.new }
+    ensures ok { IfOk result (λ o. IfSome o (λ d. IsSilent st.new d (sum_of (trees_of ps.now)))) }
+{
+    let Some(f) = common_field(st.alloc(), ps)? else {
+        return Ok(None);
+    };
+    let found = arms_of(st, f, ps)?;
+    match found {
+        Some(arms) => choice_between(st, f, &arms),
+        None => Ok(None),
+    }
+}
+
+/// The arms of a sum: the intervals that its parts begin with, each with what is behind it, in ascending order.
+#[cycle(silent)]
+fn arms_of(st: &mut Store, f: Fid, ps: &[Pol]) -> Result<Option<List<((u64, u64), Id)>>, AllocError>
+    ensures grows { Grows st.old st.new }
+    ensures ok { IfOk result (λ o. IfSome o (λ arms. AreArms st.new f arms (sum_of (trees_of ps.now)))) }
+{
+    let mut found = List::with_capacity(st.alloc(), ps.len())?;
+    let mut i = ps.len();
+    while i > 0 {
+        i -= 1;
+        let Some(one) = arm_of(st, f, &ps[i])? else {
+            return Ok(None);
+        };
+        found.push(one)?;
+    }
+    let mut arms = found.into_vec();
+    arms.sort_unstable();
+    Ok(Some(List::from_vec(arms)))
+}
+
+/// The interval that a sequence begins with, and the diagram of what is behind it. None where it begins otherwise, or where an
+/// earlier field is tested behind it.
+#[cycle(silent)]
+#[tactic(auto, using(nk_policy::proofs::Trees::tree_of_seq))]
+fn arm_of(st: &mut Store, f: Fid, p: &Pol) -> Result<Option<((u64, u64), Id)>, AllocError>
+    ensures grows { Grows st.old st.new }
+    ensures ok { IfOk result (λ o. IfSome o (λ x. IsArm st.new f x (tree_of p.now))) }
+{
+    match p {
+        Pol::Seq(qs) => arm_of_all(st, f, qs.as_slice()),
+        _ => Ok(None),
+    }
+}
+
+/// The same by the sequence's parts.
+#[cycle(silent)]
+fn arm_of_all(st: &mut Store, f: Fid, ps: &[Pol]) -> Result<Option<((u64, u64), Id)>, AllocError>
+    ensures grows { Grows st.old st.new }
+    ensures ok { IfOk result (λ o. IfSome o (λ x. IsArm st.new f x (seq_of (trees_of ps.now)))) }
+{
+    if ps.len() == 0 {
+        return Ok(None);
+    }
+    let Some(ends) = tested_value(&ps[0], f) else {
+        return Ok(None);
+    };
+    let d = silent_from(st, ps, 1)?;
+    if is_behind(st, f, d) {
+        Ok(Some((ends, d)))
+    } else {
+        Ok(None)
+    }
+}
+
+/// Those of a sequence's parts, built from the last part to the first; what stands before parts that always record isn't drawn, and
+/// none is where links alone stand at some place.
 #[cycle(silent)]
 fn silent_all(st: &mut Store, ps: &[Pol]) -> Result<Id, AllocError>
     ensures grows { Grows st.old st.new }
     ensures ok { IfOk result (λ d. IsSilent st.new d (seq_of (trees_of ps.now))) }
 {
     let nothing = empty(st)?;
+    let never = always_records(st, ps, nothing)?;
+    if never {
+        return Ok(nothing);
+    }
+    silent_from(st, ps, 0)
+}
+
+/// The same of the parts from a place on.
+#[cycle(silent)]
+fn silent_from(st: &mut Store, ps: &[Pol], from: usize) -> Result<Id, AllocError>
+    requires { from ≤ length ps.now }
+    ensures grows { Grows st.old st.new }
+    ensures ok { IfOk result (λ d. IsSilent st.new d (seq_of (trees_of (drop from ps.now)))) }
+{
+    let nothing = empty(st)?;
     let mut rest = identity(st)?;
     let mut i = ps.len();
-    while i > 0 {
+    while i > from {
         if rest == nothing {
             return Ok(rest);
         }
@@ -148,6 +240,55 @@ fn silent_all(st: &mut Store, ps: &[Pol]) -> Result<Id, AllocError>
         st.laws();
     }
     Ok(rest)
+}
+
+/// Whether the sequence always records, because a part is made of dups and link literals. Such a part is drawn alone: it is quick,
+/// where what stands after it may be long.
+#[cycle(silent)]
+fn always_records(st: &mut Store, ps: &[Pol], nothing: Id) -> Result<bool, AllocError>
+    requires { HasLeaves st.old nothing (λ pk. []) }
+    ensures grows { Grows st.old st.new }
+    ensures nothing { OnOk result (HasLeaves st.new nothing (λ pk. [])) }
+    ensures ok { IfOk result (λ b. b ≡ true → IsSilent st.new nothing (seq_of (trees_of ps.now))) }
+{
+    let Some(k) = recording_place(ps) else {
+        return Ok(false);
+    };
+    let d = silent(st, &ps[k])?;
+    Ok(d == nothing)
+}
+
+/// The place of a part that is made of dups and link literals.
+fn recording_place(ps: &[Pol]) -> Option<usize>
+    ensures { IfSome result (λ k. k < length ps.now) }
+{
+    for i in 0..ps.len() {
+        if is_recording(&ps[i]) {
+            return Some(i);
+        }
+    }
+    None
+}
+
+/// Whether a policy is a dup, a link literal, or a sum of these alone.
+#[cycle(is_recording)]
+fn is_recording(p: &Pol) -> bool {
+    match p {
+        Pol::Dup(_) | Pol::Link(_, _, _, _, _) => true,
+        Pol::Sum(ps) => all_recording(ps.as_slice()),
+        _ => false,
+    }
+}
+
+/// The same of all parts of a sum.
+#[cycle(is_recording)]
+fn all_recording(ps: &[Pol]) -> bool {
+    for p in ps {
+        if !is_recording(p) {
+            return false;
+        }
+    }
+    true
 }
 
 /// What a diagram that ends does, and then another one: itself, where the other one passes each packet.

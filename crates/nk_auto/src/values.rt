@@ -76,7 +76,7 @@ fn tested_values(alloc: Global, f: Fid, ps: &[Pol]) -> Result<Option<List<(u64, 
 }
 
 /// The ends of the values of a test or a range of the field.
-fn tested_value(p: &Pol, f: Fid) -> Option<(u64, u64)>
+pub(crate) fn tested_value(p: &Pol, f: Fid) -> Option<(u64, u64)>
     ensures { IfSome result (λ ends. KeepsWhere f (ends ∷ []) (tree_of p.now)) }
 {
     match p {
@@ -159,7 +159,12 @@ fn value_parts(
 }
 
 /// Puts the part for the values from low on that are below high, if there are any.
-fn push_gap(parts: &mut List<(u64, Id)>, low: u64, high: u64, d: Id) -> Result<(), AllocError>
+pub(crate) fn push_gap(
+    parts: &mut List<(u64, Id)>,
+    low: u64,
+    high: u64,
+    d: Id,
+) -> Result<(), AllocError>
     ensures { OnOk result (parts.new ≡ parts.old ++ gap low high d) }
 {
     if low < high {

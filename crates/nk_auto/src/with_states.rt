@@ -38,7 +38,7 @@ pub fn continued_with_states(
     if is_predicate_sum(p) {
         return after_predicate(st, p, next);
     }
-    if is_wide_sum(st, p, next) {
+    if is_wide_sum(p) {
         return after_dupless(st, p, next);
     }
     match p {

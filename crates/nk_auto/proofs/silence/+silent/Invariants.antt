@@ -1,8 +1,9 @@
 use Rattle.std.proofs.Common.{◌≤◌, [], length, drop}
-use Rattle.nk_policy.specs.Policy.{seq_of}
+use Rattle.nk_policy.specs.Policy.{sum_of, seq_of}
 use Rattle.nk_policy.specs.Tree.{trees_of}
 use Rattle.nk_store.specs.StoreState.{Grows, HasLeaves}
 use Rattle.nk_auto.specs.Continued.{IsSilent}
+use Rattle.nk_auto.specs.ByValue.{AreArms}
 use Rattle.nk_auto.proofs.Sums.{AreOf}
 use Rattle.nk_auto.proofs.silence.+silent.Given as goal
 
@@ -18,13 +19,25 @@ abbrev pub decreases-silent_any-loop-i : goal.decreases-silent_any-loop-i
 decreases-silent_any-loop-i l = l.i
 
 -- the parts from the place on are one diagram
-abbrev pub invariant-silent_all-loop-i : goal.invariant-silent_all-loop-i
-invariant-silent_all-loop-i l = record {
+abbrev pub invariant-silent_from-loop-i : goal.invariant-silent_from-loop-i
+invariant-silent_from-loop-i l = record {
   grows : Grows l.fn.st l.st;
   within : l.i ≤ length l.ps;
+  least : l.fn.from ≤ l.i;
   nothing : HasLeaves l.st l.nothing (λ pk. []);
   rest : IsSilent l.st l.rest (seq_of (trees_of (drop l.i l.ps)));
 }
 
-abbrev pub decreases-silent_all-loop-i : goal.decreases-silent_all-loop-i
-decreases-silent_all-loop-i l = l.i
+abbrev pub decreases-silent_from-loop-i : goal.decreases-silent_from-loop-i
+decreases-silent_from-loop-i l = l.i
+
+-- the parts from the place on have the arms that were found
+abbrev pub invariant-arms_of-loop-i : goal.invariant-arms_of-loop-i
+invariant-arms_of-loop-i l = record {
+  grows : Grows l.fn.st l.st;
+  within : l.i ≤ length l.ps;
+  arms : AreArms l.st l.fn.f l.found (sum_of (trees_of (drop l.i l.ps)));
+}
+
+abbrev pub decreases-arms_of-loop-i : goal.decreases-arms_of-loop-i
+decreases-arms_of-loop-i l = l.i
