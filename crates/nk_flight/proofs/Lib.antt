@@ -5,6 +5,7 @@ pub mod Drawing
 pub mod Draws
 pub mod Entering
 pub mod Holding
+pub mod HopLists
 pub mod Leaving
 pub mod Mixture
 pub mod Noting

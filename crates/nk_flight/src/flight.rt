@@ -1,5 +1,5 @@
 //! Packets in flight.
-ghost use Rattle.std.specs.Prelude.{◌≡◌, ◌<◌, ◌≤◌, ◌+◌, ℕ, Some, List as Items, length, slice_get, IfOk, OnOk, OnErr};
+ghost use Rattle.std.specs.Prelude.{◌≡◌, ◌<◌, ◌≤◌, ◌+◌, ◌++◌, ℕ, Some, List as Items, length, slice_get, IfOk, OnOk, OnErr};
 ghost use Rattle.std.specs.List.{range_with_len};
 ghost use Rattle.std.specs.List.Sorted.{IsPermutation};
 ghost use Rattle.nk_table.specs.Hops.{left_after};
@@ -7,6 +7,7 @@ ghost use Rattle.nk_flight.specs.Owed.{left_or_owed};
 ghost use Rattle.nk_flight.specs.Flights.{IsReached, nothing_in_flight, injected, stepped};
 
 use crate::copies::{Flying, Left};
+use crate::hop_list::HopList;
 use crate::hops::{Hop, copies_in, first_hop, handle};
 use crate::waiting::Waiting;
 use nk_field::Packet;
@@ -21,7 +22,7 @@ pub struct Flight {
     tables: Tables,
     finder: Finder,
     packets: Vec<Packet>,
-    hops: Vec<Hop>,
+    hops: HopList,
     flying: Waiting,
     left: Vec<Left>,
 }
@@ -46,9 +47,9 @@ impl Model for Flight {
 
     ghost Value = { FlightState };
 
-    ghost view = { λ f. state_of_trails f.tables f.packets.items f.hops.items f.flying f.left.items };
+    ghost view = { λ f. state_of_trails f.tables f.packets.items f.hops f.flying f.left.items };
 
-    ghost invariant = { λ f. IsSound f.tables f.packets.items f.hops.items f.flying f.left.items
+    ghost invariant = { λ f. IsSound f.tables f.packets.items f.hops f.flying f.left.items
         × Finds f.finder f.tables.tables };
 }
 
@@ -59,11 +60,12 @@ impl Flight {
     {
         let tables = t.copy()?;
         let finder = Finder::new(alloc, &tables)?;
+        let hops = HopList::new(alloc)?;
         Ok(Flight {
             tables,
             finder,
             packets: Vec::new(alloc),
-            hops: Vec::new(alloc),
+            hops,
             flying: Waiting::new(alloc),
             left: Vec::new(alloc),
         })
@@ -86,10 +88,8 @@ impl Flight {
         let alloc = *self.packets.allocator();
         let number = self.packets.len() as u64 + 1;
         self.packets.reserve(1)?;
-        self.hops.reserve(1)?;
-        let places = places_from(alloc, self.hops.len(), 1)?;
-        self.flying.append(places)?;
-        self.hops.push(first_hop(number, p)).unwrap();
+        let first = first_hop(number, p);
+        put_after(alloc, &mut self.hops, &mut self.flying, &[first])?;
         self.packets.push(*p).unwrap();
         Ok(number)
     }
@@ -103,19 +103,10 @@ impl Flight {
     {
         let alloc = *self.packets.allocator();
         let place = self.flying.at(i);
-        let mut all = handle(
-            alloc,
-            &self.finder,
-            &self.tables,
-            self.hops.as_slice(),
-            place,
-        )?;
-        self.hops.reserve(all.next.len())?;
+        let mut all = handle(alloc, &self.finder, &self.tables, &self.hops, place)?;
         self.left.reserve(all.left.len())?;
-        let places = places_from(alloc, self.hops.len(), all.next.len())?;
-        self.flying.append(places)?;
+        put_after(alloc, &mut self.hops, &mut self.flying, all.next.as_slice())?;
         self.flying.take(i);
-        self.hops.append(&mut all.next).unwrap();
         self.left.append(&mut all.left).unwrap();
         Ok(())
     }
@@ -141,12 +132,7 @@ impl Flight {
     {
         let alloc = *self.packets.allocator();
         let places = self.flying.listed(alloc)?;
-        copies_in(
-            alloc,
-            &self.tables.fields,
-            self.hops.as_slice(),
-            places.as_slice(),
-        )
+        copies_in(alloc, &self.tables.fields, &self.hops, places.as_slice())
     }
 
     /// Some injections and steps lead here from the start, so the laws of flights hold; and for each injection and any
@@ -159,6 +145,29 @@ impl Flight {
     {
         let _tables = &self.tables;
     }
+}
+
+/// Puts hops after those that are held, and their places after those of the copies that wait. Where memory runs out all
+/// stays as it was.
+pub(crate) fn put_after(
+    alloc: Global,
+    hops: &mut HopList,
+    flying: &mut Waiting,
+    more: &[Hop],
+) -> Result<(), AllocError>
+    requires { length flying.old ≤ length hops.old }
+    ensures hops { OnOk result (hops.new ≡ hops.old ++ more.now) }
+    ensures flying { OnOk result (flying.new ≡ flying.old ++ range_with_len (length hops.old) (length more.now)) }
+    ensures err { OnErr result ((hops.new ≡ hops.old) × (flying.new ≡ flying.old)) }
+{
+    let count = hops.len();
+    let places = places_from(alloc, count, more.len())?;
+    hops.append(more)?;
+    if let Err(error) = flying.append(places) {
+        hops.truncate(count);
+        return Err(error);
+    }
+    Ok(())
 }
 
 /// So many places from one on.

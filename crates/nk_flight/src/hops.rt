@@ -11,12 +11,13 @@ ghost use Rattle.nk_flight.specs.Trails.{AreHops, hop_at, hop_of, records_at, co
 ghost use Rattle.nk_flight.specs.Trails as trails;
 
 use crate::copies::{Flying, Left};
+use crate::hop_list::HopList;
 use nk_field::{Fid, Fields, History, List, Packet};
 use nk_sim::{Finder, emit_by, leaves_at, link_at};
 use nk_table::Tables;
 use std::alloc::{AllocError, Global};
 
-/// Where a copy came by crossing a link, or where its packet was injected.
+/// Where a copy came by crossing a link, or where its packet was injected. It is held in a `HopList`.
 #[derive(Clone, Copy)]
 pub(crate) struct Hop {
     /// The number of the packet's injection.
@@ -58,7 +59,7 @@ pub(crate) fn handle(
     alloc: Global,
     finder: &Finder,
     t: &Tables,
-    hops: &[Hop],
+    hops: &HopList,
     place: usize,
 ) -> Result<Outcome, AllocError>
     requires finder { Finds finder.now t.now.tables }
@@ -68,20 +69,12 @@ pub(crate) fn handle(
         ≡ flat_map (hop_of t.now place (hop_at hops.now place)) (sent_for t.now (hop_at hops.now place).packet)) }
     ensures left { IfOk result (λ all. all.left.items ≡ left_next t.now (copy_at t.now.fields hops.now (hop_at hops.now place))) }
 {
-    let hop = hop_in(hops, place);
-    are_few(hops);
+    let hop = hops.at(place);
+    let _held = hops.len();
     let sent = emit_by(alloc, finder, t, &hop.packet)?;
     let next = cross(alloc, t, place, &hop, sent.as_slice())?;
     let left = leave(alloc, t, hops, place, sent.as_slice())?;
     Ok(Outcome { next, left })
-}
-
-/// The hop at a place.
-fn hop_in(hops: &[Hop], at: usize) -> Hop
-    requires { at < length hops.now }
-    ensures { result ≡ hop_at hops.now at }
-{
-    hops[at]
 }
 
 /// Hops are no more than a place can tell.
@@ -149,7 +142,7 @@ fn moved(p: &Packet, to: (u16, u16)) -> Packet
 fn leave(
     alloc: Global,
     t: &Tables,
-    hops: &[Hop],
+    hops: &HopList,
     place: usize,
     sent: &[Packet],
 ) -> Result<Vec<Left>, AllocError>
@@ -168,7 +161,7 @@ fn leave(
 fn leave_one(
     alloc: Global,
     t: &Tables,
-    hops: &[Hop],
+    hops: &HopList,
     place: usize,
     sent: &Packet,
     left: &mut Vec<Left>,
@@ -199,7 +192,7 @@ fn leave_one(
 pub(crate) fn copies_in(
     alloc: Global,
     fields: &Fields,
-    hops: &[Hop],
+    hops: &HopList,
     places: &[usize],
 ) -> Result<Vec<Flying>, AllocError>
     requires hops { AreHops hops.now }
@@ -214,13 +207,18 @@ pub(crate) fn copies_in(
 }
 
 /// The copy whose hop is at a place, with all that it has recorded.
-fn copy_in(alloc: Global, fields: &Fields, hops: &[Hop], place: usize) -> Result<Flying, AllocError>
+fn copy_in(
+    alloc: Global,
+    fields: &Fields,
+    hops: &HopList,
+    place: usize,
+) -> Result<Flying, AllocError>
     requires hops { AreHops hops.now }
     requires there { place < length hops.now }
     ensures { IfOk result (λ copy. copy ≡ copy_at fields.now hops.now (hop_at hops.now place)) }
 {
     let records = records(alloc, fields, hops, place)?;
-    let hop = hop_in(hops, place);
+    let hop = hops.at(place);
     Ok(Flying {
         number: hop.number,
         records,
@@ -232,18 +230,18 @@ fn copy_in(alloc: Global, fields: &Fields, hops: &[Hop], place: usize) -> Result
 fn records(
     alloc: Global,
     fields: &Fields,
-    hops: &[Hop],
+    hops: &HopList,
     place: usize,
 ) -> Result<List<Packet>, AllocError>
     requires hops { AreHops hops.now }
     requires there { place < length hops.now }
     ensures { IfOk result (λ records. records ≡ records_at fields.now hops.now (hop_at hops.now place).crossings (hop_at hops.now place)) }
 {
-    let crossings = hop_in(hops, place).crossings;
+    let crossings = hops.at(place).crossings;
     let mut backwards = Vec::new(alloc);
     let mut at = place;
     for _step in 0..crossings {
-        let hop = hop_in(hops, at);
+        let hop = hops.at(at);
         push_crossing(&mut backwards, fields, &hop)?;
         at = hop.earlier;
     }

@@ -9,7 +9,8 @@ ghost use Rattle.nk_flight.specs.Trails.{AreHops, hop_at, hop_of, copy_at};
 ghost use Rattle.nk_flight.specs.Updates as updates;
 ghost use Rattle.nk_flight.specs.Updates.{stages_of, stage_after};
 
-use crate::hops::{Hop, Outcome, handle};
+use crate::hop_list::HopList;
+use crate::hops::{Outcome, handle};
 use nk_field::{Fid, Fields, List, Packet};
 use nk_sim::Finder;
 use nk_table::{Table, Tables};
@@ -61,7 +62,7 @@ impl Stage {
     }
 
     /// What the copy whose hop is at a place leads to when its switch handles it.
-    fn handle(&self, alloc: Global, hops: &[Hop], place: usize) -> Result<Outcome, AllocError>
+    fn handle(&self, alloc: Global, hops: &HopList, place: usize) -> Result<Outcome, AllocError>
         requires hops { AreHops hops.now }
         requires there { place < length hops.now }
         ensures next { IfOk result (λ all. all.next.items
@@ -174,7 +175,7 @@ impl StageTables {
     pub(crate) fn handle(
         &self,
         alloc: Global,
-        hops: &[Hop],
+        hops: &HopList,
         place: usize,
         steps: u8,
     ) -> Result<Outcome, AllocError>

@@ -6,7 +6,8 @@ ghost use Rattle.nk_flight.specs.Updates as updates;
 ghost use Rattle.nk_flight.specs.Updates.{stages_of, at_the_start, moved, planned, noted, version_by, state_in, Becomes};
 
 use crate::copies::{Flying, Left};
-use crate::flight::places_from;
+use crate::flight::put_after;
+use crate::hop_list::HopList;
 use crate::hops::{Hop, are_few, copies_in, first_hop};
 use crate::progress::{Progress, counted};
 use crate::stages::StageTables;
@@ -24,7 +25,7 @@ pub struct UpdateFlight {
     stages: StageTables,
     progress: Progress,
     packets: Vec<Packet>,
-    hops: Vec<Hop>,
+    hops: HopList,
     flying: Waiting,
     left: Vec<Left>,
     versions: Vec<Option<Version>>,
@@ -52,9 +53,9 @@ impl Model for UpdateFlight {
 
     ghost Value = { UpdateValue };
 
-    ghost view = { λ f. update_at f.stages f.progress f.packets.items f.hops.items f.flying f.left.items f.versions.items };
+    ghost view = { λ f. update_at f.stages f.progress f.packets.items f.hops f.flying f.left.items f.versions.items };
 
-    ghost invariant = { λ f. IsUpdateHeld f.stages f.progress f.packets.items f.hops.items f.flying f.versions.items f.tagged };
+    ghost invariant = { λ f. IsUpdateHeld f.stages f.progress f.packets.items f.hops f.flying f.versions.items f.tagged };
 }
 
 impl UpdateFlight {
@@ -65,11 +66,12 @@ impl UpdateFlight {
     {
         let stages = StageTables::new(alloc, plan)?;
         let progress = Progress::new(alloc, stages.topo())?;
+        let hops = HopList::new(alloc)?;
         Ok(UpdateFlight {
             stages,
             progress,
             packets: Vec::new(alloc),
-            hops: Vec::new(alloc),
+            hops,
             flying: Waiting::new(alloc),
             left: Vec::new(alloc),
             versions: Vec::new(alloc),
@@ -93,13 +95,12 @@ impl UpdateFlight {
     {
         let alloc = *self.packets.allocator();
         let number = self.packets.len() as u64 + 1;
+        let _held = self.hops.len();
         self.packets.reserve(1)?;
-        self.hops.reserve(1)?;
         self.versions.reserve(1)?;
-        let places = places_from(alloc, self.hops.len(), 1)?;
-        self.flying.append(places)?;
+        let first = first_hop(number, p);
+        put_after(alloc, &mut self.hops, &mut self.flying, &[first])?;
         self.tagged = counted(self.tagged, self.stages.is_old(p));
-        self.hops.push(first_hop(number, p)).unwrap();
         self.versions.push(None).unwrap();
         self.packets.push(*p).unwrap();
         Ok(number)
@@ -115,18 +116,14 @@ impl UpdateFlight {
     {
         let alloc = *self.packets.allocator();
         let place = self.flying.at(i);
-        let hop = self.hops[place];
+        let _held = self.hops.len();
+        let hop = self.hops.at(place);
         let steps = self.progress.at(hop.packet.get(Fid::SWITCH));
-        let mut all = self
-            .stages
-            .handle(alloc, self.hops.as_slice(), place, steps)?;
-        self.hops.reserve(all.next.len())?;
+        let mut all = self.stages.handle(alloc, &self.hops, place, steps)?;
         self.left.reserve(all.left.len())?;
-        let places = places_from(alloc, self.hops.len(), all.next.len())?;
         let more = tagged_among(&self.stages, all.next.as_slice());
-        self.flying.append(places)?;
+        put_after(alloc, &mut self.hops, &mut self.flying, all.next.as_slice())?;
         self.flying.take(i);
-        self.hops.append(&mut all.next).unwrap();
         self.left.append(&mut all.left).unwrap();
         note(&mut self.versions, hop.number, steps);
         self.tagged = without(self.tagged, self.stages.is_old(&hop.packet)) + more;
@@ -154,12 +151,7 @@ impl UpdateFlight {
     {
         let alloc = *self.packets.allocator();
         let places = self.flying.listed(alloc)?;
-        copies_in(
-            alloc,
-            self.stages.fields(),
-            self.hops.as_slice(),
-            places.as_slice(),
-        )
+        copies_in(alloc, self.stages.fields(), &self.hops, places.as_slice())
     }
 
     /// Whether a switch may do its next plan step: the second needs the first done at every switch, the third the second

@@ -1,29 +1,25 @@
 use Rattle.std.proofs.Common.{◌≡◌, ◌∙◌, ap, length, ◌+◌, [], ◌∷◌, ◌++◌}
-use Rattle.std.specs.List.{range_with_len}
 use Rattle.nk_flight.specs.Flights.{injected}
 use Rattle.nk_flight.specs.Trails.{first_hop, state_of_trails, IsSound}
 use Rattle.nk_flight.proofs.Reached.{injected_sound}
 use Rattle.nk_flight.proofs.flight.Flight.inject.Goals as goal
-use Rattle.nk_flight.proofs.flight.Flight.inject.Goals.{After-unwrap-2}
+use Rattle.nk_flight.proofs.flight.Flight.inject.Goals.{After-unwrap}
 
 -- the fields are those after the injection
-is_injected : (c : After-unwrap-2)
-    → (state_of_trails c.self.inside.tables c.push-2.new.self.items c.push.new.self.items c.append.new.self c.self.inside.left.items
-    ≡ injected c.args.p.now (state_of_trails c.self.inside.tables c.self.inside.packets.items c.self.inside.hops.items c.self.inside.flying c.self.inside.left.items))
-    × IsSound c.self.inside.tables c.push-2.new.self.items c.push.new.self.items c.append.new.self c.self.inside.left.items
+is_injected : (c : After-unwrap)
+    → (state_of_trails c.self.inside.tables c.push.new.self.items c.put_after.new.hops c.put_after.new.flying c.self.inside.left.items
+    ≡ injected c.args.p.now (state_of_trails c.self.inside.tables c.self.inside.packets.items c.self.inside.hops c.self.inside.flying c.self.inside.left.items))
+    × IsSound c.self.inside.tables c.push.new.self.items c.put_after.new.hops c.put_after.new.flying c.self.inside.left.items
 is_injected c =
     let inside = c.self.inside in
     let pk = c.args.p.now in
-    let packets : c.push-2.new.self.items ≡ inside.packets.items ++ pk ∷ [] =
-    (rw c.unwrap-2.ensures at c.push-2.ensures.items) ∙ ap (λ l. l ++ pk ∷ []) c.in_ok-reserve.ensures.items in
-    let hops : c.push.new.self.items ≡ inside.hops.items ++ first_hop (length inside.packets.items + 1) pk ∷ [] =
-    (rw c.unwrap.ensures at c.push.ensures.items)
-    ∙ (λ j. c.in_ok-reserve-2.ensures.items j ++ (c.first_hop.ensures ∙ ap (λ n. first_hop (n + 1) pk) (c.len.ensures ∙ inside.packets.ok.0)) j ∷ []) in
-    let flying : c.append.new.self ≡ inside.flying ++ length inside.hops.items ∷ [] =
-    c.in_ok-append.ensures.ok
-    ∙ ap (λ l. inside.flying ++ l)
-    (c.in_ok-places.ensures ∙ ap (λ n. range_with_len n 1) (c.len-2.ensures ∙ c.in_ok-reserve-2.ensures.len ∙ inside.hops.ok.0)) in
-    injected_sound inside.tables inside.packets.items c.push-2.new.self.items inside.hops.items c.push.new.self.items inside.flying c.append.new.self
+    let packets : c.push.new.self.items ≡ inside.packets.items ++ pk ∷ [] =
+    (rw c.unwrap.ensures at c.push.ensures.items) ∙ ap (λ l. l ++ pk ∷ []) c.in_ok-reserve.ensures.items in
+    let hops : c.put_after.new.hops ≡ inside.hops ++ first_hop (length inside.packets.items + 1) pk ∷ [] =
+    c.in_ok-put_after.ensures.hops
+    ∙ (λ j. inside.hops ++ (c.first_hop-first.ensures ∙ ap (λ n. first_hop (n + 1) pk) (c.len.ensures ∙ inside.packets.ok.0)) j ∷ []) in
+    let flying : c.put_after.new.flying ≡ inside.flying ++ length inside.hops ∷ [] = c.in_ok-put_after.ensures.flying in
+    injected_sound inside.tables inside.packets.items c.push.new.self.items inside.hops c.put_after.new.hops inside.flying c.put_after.new.flying
     inside.left.items pk packets hops flying c.self.invariant.0
 
 pub invariant_of-self-2 : goal.invariant_of-self-2

@@ -11,7 +11,7 @@ pub returns-then-all_twice : goal.returns-then-all_twice
 returns-then-all_twice c =
     let inside = c.self.inside in
     let sw = c.args.switch in
-    let u = update_at inside.stages inside.progress inside.packets.items inside.hops.items inside.flying inside.left.items inside.versions.items in
+    let u = update_at inside.stages inside.progress inside.packets.items inside.hops inside.flying inside.left.items inside.versions.items in
     let declared : is_switch inside.stages.before.topo sw ≡ true = cc in
     let two : done_by inside.progress.done sw ≡ 2 = cc in
     let all : all_have_done inside.stages 2 (done_by inside.progress.done) ≡ true =

@@ -13,7 +13,7 @@ pub returns-clause-state : goal.returns-clause-state
 returns-clause-state c =
     let g = c.in_ok-stages.stages in
     (λ j. record {
-      flight = state_of g.before (c.new-3.ensures.items j) (copies_at g.before.fields (c.new-4.ensures.items j) (c.new-5.ensures j)) (c.new-6.ensures.items j);
+      flight = state_of g.before (c.new-4.ensures.items j) (copies_at g.before.fields (c.in_ok-hops.ensures j) (c.new-5.ensures j)) (c.new-6.ensures.items j);
       done = λ sw. c.in_ok-progress.ensures.none sw j;
       versions = λ n. (ap (λ l. version_by l n) c.new-7.ensures.items ∙ no_versions n) j;
     })
