@@ -31,7 +31,7 @@ use Rattle.nk_auto.proofs.Ways.{gives_cons, cons_gives}
 abbrev pub Arm : Type 0
 Arm = (ℕ × ℕ) × ℕ
 
--- a test and what is behind it
+-- a test and what is after it
 pub arm_behind : (st : StoreState) (f d : ℕ) (ends : ℕ × ℕ) (p : Policy) (ps : Policies) → KeepsWhere f (ends ∷ []) p →
     IsSilent st d (seq_of ps) → IsChild st f d → IsArm st f (ends, d) (seq_of (part p ps))
 arm_behind st f d ends p ps keeps a child = record {

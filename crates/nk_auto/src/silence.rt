@@ -135,7 +135,7 @@ fn silent_any(st: &mut Store, ps: &[Pol]) -> Result<Id, AllocError>
 }
 
 /// The diagram of a sum of many sequences that each begin with a test or a range of one field, no two of which hold of one value: one
-/// node over what is behind these. None for another sum. To unite n such diagrams by halves takes n log n steps.
+/// node over what is after these. None for another sum. To unite n such diagrams by halves takes n log n steps.
 #[cycle(silent)]
 fn choice_of(st: &mut Store, ps: &[Pol]) -> Result<Option<Id>, AllocError>
     ensures grows { Grows st.old st.new }
@@ -151,7 +151,7 @@ fn choice_of(st: &mut Store, ps: &[Pol]) -> Result<Option<Id>, AllocError>
     }
 }
 
-/// The arms of a sum: the intervals that its parts begin with, each with what is behind it, in ascending order.
+/// The arms of a sum: the intervals that its parts begin with, each with what is after it, in ascending order.
 #[cycle(silent)]
 fn arms_of(st: &mut Store, f: Fid, ps: &[Pol]) -> Result<Option<List<((u64, u64), Id)>>, AllocError>
     ensures grows { Grows st.old st.new }
@@ -171,8 +171,8 @@ fn arms_of(st: &mut Store, f: Fid, ps: &[Pol]) -> Result<Option<List<((u64, u64)
     Ok(Some(List::from_vec(arms)))
 }
 
-/// The interval that a sequence begins with, and the diagram of what is behind it. None where it begins otherwise, or where an
-/// earlier field is tested behind it.
+/// The interval that a sequence begins with, and the diagram of what is after it. None where it begins otherwise, or where an
+/// earlier field is tested after it.
 #[cycle(silent)]
 #[tactic(auto, using(nk_policy::proofs::Trees::tree_of_seq))]
 fn arm_of(st: &mut Store, f: Fid, p: &Pol) -> Result<Option<((u64, u64), Id)>, AllocError>
