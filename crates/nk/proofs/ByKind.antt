@@ -19,11 +19,11 @@ use Rattle.nk_tabgrammar.specs.declared.written.ReadError.TheVariants as text
 use Rattle.nk_cert.specs.Certificates.{CertificateValue, IsCertificate}
 use Rattle.nk_cert.specs.Equality.{AreSame}
 use Rattle.nk_cert.specs.Verdicts.{RowPart, valid, invalid, IsFinding}
-use Rattle.nk_cert.proofs.Findings.{one_finding}
+use Rattle.nk_check.proofs.Findings.{one_finding}
 use Rattle.nk_query.specs.Asked.{Asked, NoneBreaks}
 use Rattle.nk_query.specs.Answers.{asked_policy}
 use Rattle.nk_compile.proofs.ReasonByName.{never_refused}
-use Rattle.nk_cert.proofs.OneAlone.{no_difference}
+use Rattle.nk_check.proofs.OneAlone.{no_difference}
 use Rattle.nk_verify_commands.specs.Asking.{IsAskAnswer}
 use Rattle.nk_verify_commands.specs.CertifiedText.{HoldsCertificate}
 use Rattle.nk_verify_commands.specs.Checking.{IsCheckAnswer}

@@ -66,7 +66,7 @@ pub fn compare_owned(alloc: Global, fields: &Fields, p: Pol, q: Pol) -> Result<C
 }
 
 /// The automaton of two policies together, the right one's dups numbered on from the left one's. Both are let go then.
-pub(crate) fn owned_automaton(st: &mut Store, p: Pol, q: Pol) -> Result<Both, AllocError>
+pub fn owned_automaton(st: &mut Store, p: Pol, q: Pol) -> Result<Both, AllocError>
     requires left { marked_from (tree_of p) 1 ≡ tree_of p }
     requires right { marked_from (tree_of q) (1 + dups_of (tree_of p)) ≡ tree_of q }
     requires few { 1 + dups_of (tree_of p) + dups_of (tree_of q) < 2 ^ 32 }

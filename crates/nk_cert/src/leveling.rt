@@ -75,7 +75,7 @@ fn levels_of_states(
 }
 
 /// The set of the start alone.
-pub(crate) fn start_alone(alloc: Global) -> Result<List<u64>, AllocError>
+pub fn start_alone(alloc: Global) -> Result<List<u64>, AllocError>
     ensures { IfOk result (λ ls. ls ≡ 0 ∷ []) }
 {
     let mut ls = List::new(alloc);

@@ -53,7 +53,7 @@ pub fn automaton_of_both(st: &mut Store, p: &Pol, q: &Pol) -> Result<Both, Alloc
 }
 
 /// The number after those of a policy's dups, which are numbered from 1 on.
-pub(crate) fn number_after(p: &Pol) -> u32
+pub fn number_after(p: &Pol) -> u32
     requires { 1 + dups_of (tree_of p.now) < 2 ^ 32 }
     ensures { result ≡ 1 + dups_of (tree_of p.now) }
 {

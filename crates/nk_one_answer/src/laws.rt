@@ -7,7 +7,7 @@ ghost use Rattle.nk.specs.Answer.{IsAnswerTo};
 ghost use Rattle.nk.specs.Ends.{IsFixedBy};
 ghost use Rattle.nk_reply.specs.Use.{Use};
 
-use nk_cert::laws::{one_certificate_is_printed, one_thing_is_found};
+use nk_check::laws::{one_certificate_is_printed, one_thing_is_found};
 use nk_grammar::fields_of_texts_have_names;
 use nk_names::laws::declared_fields_are_writable;
 use nk_sim::laws::a_packet_has_one_trace;

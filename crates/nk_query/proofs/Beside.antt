@@ -13,7 +13,7 @@ use Rattle.nk_cert.specs.Equality.{Side, on_left, on_right, AreSame, IsOfOneAlon
 use Rattle.nk_cert.specs.Together.{AreNumbered}
 use Rattle.nk_cert.specs.Certificates.{CertificateValue, IsCertificate}
 use Rattle.nk_cert.specs.Verdicts.{Finding, IsFinding}
-use Rattle.nk_cert.proofs.Soundness.{shows_equality}
+use Rattle.nk_check.proofs.Soundness.{shows_equality}
 use Rattle.nk_cert.proofs.Together.{sides_of}
 use Rattle.nk_cert.specs.Comparison.{IsRelated}
 use Rattle.nk_query.specs.Asked.{Question, apart_of, waypoint_of, rest_are_predicates, question_policy, BreaksQuestion, NoneBreaks, IsBreaking, IsLeastBreak}

@@ -6,8 +6,9 @@ ghost use Rattle.nk_certtext.specs.Rows.{HasStartRow};
 ghost use Rattle.nk_grammar.specs.Certified.{row_value as written_row};
 ghost use Rattle.nk_lex.specs.Lex.{largest};
 
-use nk_cert::{CertPart, Certificate, Verdict, check};
+use nk_cert::{CertPart, Certificate, Verdict};
 use nk_certtext::read_cert;
+use nk_check::check;
 use nk_grammar::{File, file_with_certificate};
 use nk_lex::{Token, tokens};
 use nk_names::Program;

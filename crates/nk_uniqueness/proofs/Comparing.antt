@@ -10,7 +10,7 @@ use Rattle.nk_cert.specs.Equality.{Side, on_left, on_right, IsOfOneAlone, IsLeas
 use Rattle.nk_cert.specs.Certificates.{CertificateValue}
 use Rattle.nk_cert.specs.Printed.{IsPrinted}
 use Rattle.nk_cert.specs.Verdicts.{Finding, IsFinding}
-use Rattle.nk_cert.proofs.OneAlone.{no_difference}
+use Rattle.nk_check.proofs.OneAlone.{no_difference}
 use Rattle.nk_bisim.specs.Answers.{IsCompared}
 use Rattle.nk_cert.specs.declared.compared.Compared.{Compared}
 use Rattle.nk_cert.specs.declared.compared.Compared.TheVariants.{Related, Broken}

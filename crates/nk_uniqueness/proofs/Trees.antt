@@ -10,7 +10,7 @@ use Rattle.nk_store.proofs.Same.{set_in_range}
 use Rattle.nk_table.specs.declared.Bucket.{Bucket}
 use Rattle.nk_extract.specs.Buckets.{bucket_key, tag_of, IsBucketBefore}
 use Rattle.nk_compile.specs.PrintedTable.{IsBucketList, IsTreeOfTag}
-use Rattle.nk_cert.proofs.OneTree.{one_tree}
+use Rattle.nk_check.proofs.OneTree.{one_tree}
 use Rattle.nk_compile.proofs.Orders.{lex_once, listed_once, same_sorted}
 use Rattle.nk_field.specs.Order.{IsListedBefore}
 

@@ -44,7 +44,7 @@ ghost use Rattle.nk_uniqueness.specs.Texts.{TextsHavePackets};
 ghost use Rattle.nk_uniqueness.specs.Told.{Told, told_of, LacksOne, IsTold, IsToldFor, IsFoundFor};
 ghost use Rattle.nk_uniqueness.specs.Worked.{AreMetBySmallPolicy, HasSeveralTables, IsSmallDifference};
 
-use nk_cert::laws::{one_certificate_is_printed, one_thing_is_found};
+use nk_check::laws::{one_certificate_is_printed, one_thing_is_found};
 use nk_compile::laws::the_smallest_table_is_printed;
 use nk_names::laws::{declared_fields_are_writable, declared_topologies_are_declarable};
 

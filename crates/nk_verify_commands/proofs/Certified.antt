@@ -17,7 +17,7 @@ use Rattle.nk_names.proofs.Good.{few_dups, marked_again, over_in_range, over_mar
 use Rattle.nk_cert.specs.Certificates.{CertificateValue, IsCertificate}
 use Rattle.nk_cert.specs.Equality.{AreSame}
 use Rattle.nk_cert.specs.Together.{AreNumbered}
-use Rattle.nk_cert.proofs.Moved.{numbered_on}
+use Rattle.nk_check.proofs.Moved.{numbered_on}
 use Rattle.nk_cert.proofs.Named.{let_named, few_of_both}
 use Rattle.nk_certtext.specs.Printed.{ReadsPrintedFor}
 use Rattle.nk_certtext.specs.Text.{cert_bytes}

@@ -12,8 +12,9 @@ ghost use Rattle.nk_reply.specs.Use.{use_of};
 
 use crate::certified_text::{Judge, judge_text};
 use crate::messages::invalid_message;
-use nk_cert::laws::a_certificate_shows_equality;
-use nk_cert::{Certificate, CheckError, Verdict, check_owned};
+use nk_cert::{Certificate, Verdict};
+use nk_check::laws::a_certificate_shows_equality;
+use nk_check::{CheckError, check_owned};
 use nk_io::Source;
 use nk_names::Program;
 use nk_reply::messages::no_policy_message;

@@ -1,5 +1,5 @@
 use Rattle.nk_uniqueness.proofs.Comparing.{one_difference}
-use Rattle.nk_cert.proofs.OneAlone.{no_difference}
+use Rattle.nk_check.proofs.OneAlone.{no_difference}
 use Rattle.nk_uniqueness.proofs.laws.one_difference_is_least.Goals as goal
 
 pub returns-clause-one : goal.returns-clause-one

@@ -1,0 +1,15 @@
+pub mod Soundness
+pub mod Findings
+pub mod Deciding
+pub mod Worked
+pub mod OneTree
+pub mod OneCertificate
+pub mod Predicates
+pub mod RowSets
+pub mod Judging
+pub mod Finding
+pub mod Standing
+pub mod Moved
+pub mod Weighing
+pub mod OneAlone
+pub mod Shown
