@@ -1,7 +1,7 @@
 //! Two policies compared.
 ghost use Rattle.std.specs.Prelude.{◌≡◌, ◌+◌, ◌<◌, ◌^◌, IfOk};
 ghost use Rattle.nk_field.specs.Packet.{FieldTable};
-ghost use Rattle.nk_store.specs.StoreState.{IsOver};
+ghost use Rattle.nk_store.specs.StoreState.{IsOver, Grows};
 ghost use Rattle.nk_auto.specs.Continued.{IsFit};
 ghost use Rattle.nk_policy.specs.Policy.{Policy, marked_from, dups_of};
 ghost use Rattle.nk_policy.specs.Tree.{tree_of};
@@ -65,14 +65,16 @@ pub fn compare_owned(alloc: Global, fields: &Fields, p: Pol, q: Pol) -> Result<C
     compare_by_levels(&mut st, &both, bound as usize)
 }
 
-/// The automaton of two policies together, the right one's dups numbered on from the left one's. Both are let go then.
+/// The automaton of two policies together, the dups of the left one numbered from 1 on and those of the right one on from
+/// there. Both are let go once it is made. The only error is that memory ran out.
 pub fn owned_automaton(st: &mut Store, p: Pol, q: Pol) -> Result<Both, AllocError>
     requires left { marked_from (tree_of p) 1 ≡ tree_of p }
     requires right { marked_from (tree_of q) (1 + dups_of (tree_of p)) ≡ tree_of q }
     requires few { 1 + dups_of (tree_of p) + dups_of (tree_of q) < 2 ^ 32 }
     requires left_fit { IsFit st.old.maxes (tree_of p) }
     requires right_fit { IsFit st.old.maxes (tree_of q) }
-    ensures { IfOk result (λ b. (fields : FieldTable) → IsOver fields st.old
+    ensures grows { Grows st.old st.new }
+    ensures ok { IfOk result (λ b. (fields : FieldTable) → IsOver fields st.old
         → IsAutomatonOfBoth fields st.new b.states b.left b.right (tree_of p) (tree_of q)) }
 {
     automaton_of_both(st, &p, &q)

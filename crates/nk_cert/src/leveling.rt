@@ -74,7 +74,7 @@ fn levels_of_states(
     Ok(LevelsOfBoth { levels: lv, goal })
 }
 
-/// The set of the start alone.
+/// The labels of the set that has the start alone: 0, the start's label. The only error is that memory ran out.
 pub fn start_alone(alloc: Global) -> Result<List<u64>, AllocError>
     ensures { IfOk result (λ ls. ls ≡ 0 ∷ []) }
 {

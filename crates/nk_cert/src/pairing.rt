@@ -52,7 +52,8 @@ pub fn automaton_of_both(st: &mut Store, p: &Pol, q: &Pol) -> Result<Both, Alloc
     })
 }
 
-/// The number after those of a policy's dups, which are numbered from 1 on.
+/// The number after those of a policy's dups, where they are numbered from 1 on: at least 1, and below 2 ^ 32. The label of
+/// the first dup of a policy that is numbered on from there.
 pub fn number_after(p: &Pol) -> u32
     requires { 1 + dups_of (tree_of p.now) < 2 ^ 32 }
     ensures { result ≡ 1 + dups_of (tree_of p.now) }

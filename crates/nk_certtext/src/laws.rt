@@ -22,7 +22,7 @@ pub fn printed_certificates_are_read()
 }
 
 /// The certificate that is printed for two policies is one whose text is read back, and its rows have predicates, as
-/// `nk_cert::check` asks. What is printed of it, after the text of any program with their fields and a line feed, is read as that
+/// `nk_check::check` asks. What is printed of it, after the text of any program with their fields and a line feed, is read as that
 /// program's declarations and as rows that make that certificate. The policies are numbered one after the other and have fewer
 /// than 2 ^ 32 dups.
 pub fn certificates_of_policies_are_read()

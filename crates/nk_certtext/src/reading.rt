@@ -17,7 +17,7 @@ use std::alloc::Global;
 /// The rows are those of a text with a certificate, the start row first, and are taken in the order of the text. Of each
 /// row the positions come first: they ascend strictly, and no earlier row has them, else the row is a certificate fault at
 /// the line of its word `row`. Then its predicate is that of `nk_names::resolve` with its faults. A row's predicate may
-/// have any size. Each row that is read has a predicate, as `nk_cert::check` asks.
+/// have any size. Each row that is read has a predicate, as `nk_check::check` asks.
 pub fn read_cert(alloc: Global, program: &Program, file: &File) -> Result<Certificate, CertError>
     requires start { HasStartRow (map written_row file.now.rows) }
     ensures read { CertReturns certificate_value result

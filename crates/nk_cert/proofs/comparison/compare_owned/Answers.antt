@@ -27,6 +27,6 @@ returns c =
     (λ k made r e.
     as_declared fields p r (1 + dups_of p) k
     (subst (λ z. IsComparison fields p z k) (sym e)
-    (made fields p q (c.in_ok-both.ensures fields c.in_ok-st.ensures.over) c.number_after-bound.ensures
+    (made fields p q (c.in_ok-both.ensures.ok fields c.in_ok-st.ensures.over) c.number_after-bound.ensures
     (over_in_range fields p c.requires.left_over) (over_in_range fields q c.requires.right_over))))
     c.compare_by_levels.ensures

@@ -21,18 +21,18 @@ owned_automaton-requires-clause-right_fit c =
 
 pub verdict_by-requires-clause-automaton : goal.verdict_by-requires-clause-automaton
 verdict_by-requires-clause-automaton c =
-    (c.args.fields.now, tree_of c.args.p, tree_of c.args.q, c.in_ok-both.ensures c.args.fields.now c.in_ok-st.ensures.over, c.number_after-bound.ensures)
+    (c.args.fields.now, tree_of c.args.p, tree_of c.args.q, c.in_ok-both.ensures.ok c.args.fields.now c.in_ok-st.ensures.over, c.number_after-bound.ensures)
 
 pub returns : goal.returns
 returns c = record {
   found =
       IfOk-weaker c.verdict_by.result _ _
-      (λ v found. found c.args.fields.now (tree_of c.args.p) (tree_of c.args.q) (c.in_ok-both.ensures c.args.fields.now c.in_ok-st.ensures.over) c.number_after-bound.ensures)
+      (λ v found. found c.args.fields.now (tree_of c.args.p) (tree_of c.args.q) (c.in_ok-both.ensures.ok c.args.fields.now c.in_ok-st.ensures.over) c.number_after-bound.ensures)
       c.verdict_by.ensures;
   same =
       IfOk-weaker c.verdict_by.result _ _
       (λ v found is.
-      let f = found c.args.fields.now (tree_of c.args.p) (tree_of c.args.q) (c.in_ok-both.ensures c.args.fields.now c.in_ok-st.ensures.over) c.number_after-bound.ensures in
+      let f = found c.args.fields.now (tree_of c.args.p) (tree_of c.args.q) (c.in_ok-both.ensures.ok c.args.fields.now c.in_ok-st.ensures.over) c.number_after-bound.ensures in
       c.a_certificate_shows_equality.ensures.numbered c.args.fields.now (tree_of c.args.p) (tree_of c.args.q)
       (numbered_on (tree_of c.args.p) (tree_of c.args.q) (tree_of c.args.q) (1 + dups_of (tree_of c.args.p)) c.requires.numbered refl (sym c.requires.following))
       (over_in_range c.args.fields.now (tree_of c.args.p) c.requires.left_over)
