@@ -4,6 +4,7 @@ pub mod Counting
 pub mod Drawing
 pub mod Draws
 pub mod Entering
+pub mod HeldPackets
 pub mod Holding
 pub mod HopLists
 pub mod Leaving

@@ -1,6 +1,7 @@
 pub mod Draws
 pub mod Flights
 pub mod Held
+pub mod HeldPackets
 pub mod HopLists
 pub mod Once
 pub mod Owed
