@@ -1,0 +1,10 @@
+use Rattle.std.proofs.Common.{◌≡◌, drop, map, string_bytes}
+use Rattle.std.specs.List.{list_any}
+use Rattle.nk_openflow.specs.Words.{has_name}
+use Rattle.nk_openflow.proofs.words.some_name.Given as goal
+
+-- what is passed says nothing
+abbrev pub invariant-loop-word : goal.invariant-loop-word
+invariant-loop-word l =
+    list_any (has_name l.name) (map (λ w. string_bytes w) (drop l.word-index l.words))
+    ≡ list_any (has_name l.name) (map (λ w. string_bytes w) l.words)

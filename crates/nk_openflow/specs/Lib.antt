@@ -1,0 +1,10 @@
+pub mod Bases
+pub mod MatchFields
+pub mod Refusals
+pub mod Words
+pub mod Mapping
+pub mod Values
+pub mod Matches
+pub mod Actions
+pub mod Lines
+pub mod Rules
