@@ -59,20 +59,20 @@ abbrev pub set_if_any : Base → VlanHeader → Option MatchField → ℕ → Li
 set_if_any base header None n = []
 set_if_any base header (Some f) n = if is_vlan f then vlan_set_text base header n else field_set_text base f n
 
-abbrev pub set_text : Mapping → VlanHeader → ℕ × ℕ → List ℕ
-set_text mapping header s = set_if_any mapping.base header (mapped_at mapping.fields s.0) s.1
+abbrev pub set_actions : Mapping → VlanHeader → ℕ × ℕ → List ℕ
+set_actions mapping header s = set_if_any mapping.base header (mapped_at mapping.fields s.0) s.1
 
 -- "in_port" sends a packet back where it came in; "output" sends nothing there
-abbrev pub exit_text : Exit → List ℕ
-exit_text Back = codes "in_port"
-exit_text (Port n) = codes "output:" ++ decimal n
+abbrev pub exit_action : Exit → List ℕ
+exit_action Back = codes "in_port"
+exit_action (Port n) = codes "output:" ++ decimal n
 
 -- the assignments, then the exit
-abbrev pub bucket_text : Mapping → VlanHeader → Bucket → List ℕ
-bucket_text mapping header b = flat_map (set_text mapping header) b.sets ++ exit_text b.exit
+abbrev pub bucket_actions : Mapping → VlanHeader → Bucket → List ℕ
+bucket_actions mapping header b = flat_map (set_actions mapping header) b.sets ++ exit_action b.exit
 
 -- what a row does
-abbrev pub target_text : Mapping → VlanHeader → Target → List ℕ
-target_text mapping header (target.Bucket b) = bucket_text mapping header b
-target_text mapping header (target.Group n) = codes "group:" ++ decimal n
-target_text mapping header target.Discard = codes "drop"
+abbrev pub target_actions : Mapping → VlanHeader → Target → List ℕ
+target_actions mapping header (target.Bucket b) = bucket_actions mapping header b
+target_actions mapping header (target.Group n) = codes "group:" ++ decimal n
+target_actions mapping header target.Discard = codes "drop"

@@ -9,15 +9,15 @@ use Rattle.nk_table.specs.declared.Row.{Row}
 use Rattle.nk_openflow.specs.declared.actions.VlanHeader.TheVariants.{Unknown}
 use Rattle.nk_openflow.specs.declared.base.Base.{Base}
 use Rattle.nk_openflow.specs.declared.mapping.Mapping.{Mapping}
-use Rattle.nk_openflow.specs.Actions.{bucket_text, header_of, target_text}
+use Rattle.nk_openflow.specs.Actions.{bucket_actions, header_of, target_actions}
 use Rattle.nk_openflow.specs.Bases.{is_any, keyword_of}
-use Rattle.nk_openflow.specs.Matches.{free_digits, match_text}
+use Rattle.nk_openflow.specs.Matches.{free_digits, flow_match_text}
 
 -- ---- groups
 
 -- Rows of all tags may name a group, so a bucket doesn't know whether there is a VLAN header.
 unfoldable pub bucket_part : Mapping → Bucket → List ℕ
-bucket_part mapping b = codes ",bucket=actions=" ++ bucket_text mapping Unknown b
+bucket_part mapping b = codes ",bucket=actions=" ++ bucket_actions mapping Unknown b
 
 -- the line of a group: a group of type all runs each bucket on a copy of its own
 abbrev pub group_line : Mapping → Group → List ℕ
@@ -43,13 +43,13 @@ flow_head base priority port =
 -- the actions, and a line feed
 abbrev pub flow_actions : FieldTable → Mapping → Row → List ℕ
 flow_actions fs mapping r =
-    codes "actions=" ++ target_text mapping (header_of fs mapping r.matches) r.target ++ codes "\n"
+    codes "actions=" ++ target_actions mapping (header_of fs mapping r.matches) r.target ++ codes "\n"
 
 -- a line of a row, for a port or for all
 abbrev pub flow_line : FieldTable → Mapping → Row → Option ℕ → List ℕ
 flow_line fs mapping r port =
     flow_head mapping.base r.priority port
-    ++ flat_map (match_text fs mapping) r.matches
+    ++ flat_map (flow_match_text fs mapping) r.matches
     ++ flow_actions fs mapping r
 
 -- the match of the port among matches
@@ -58,12 +58,12 @@ port_match [] = None
 port_match (m ∷ ms) = if m.0 == 1 then Some m else port_match ms
 
 -- whether a port agrees with it
-abbrev pub agrees : FieldTable → ℕ × ℕ × ℕ → ℕ → Bool
-agrees fs m p = agrees_to m.1 m.2 (digits_of (slice_index fs.maxima m.0)) p
+abbrev pub port_agrees : FieldTable → ℕ × ℕ × ℕ → ℕ → Bool
+port_agrees fs m p = agrees_to m.1 m.2 (digits_of (slice_index fs.maxima m.0)) p
 
 -- the line for a port, if it agrees
 abbrev pub line_if_agrees : FieldTable → Mapping → Row → ℕ × ℕ × ℕ → ℕ → List ℕ
-line_if_agrees fs mapping r m p = if agrees fs m p then flow_line fs mapping r (Some p) else []
+line_if_agrees fs mapping r m p = if port_agrees fs m p then flow_line fs mapping r (Some p) else []
 
 -- The lines of a row by its match of the port: one for this port or for all; in_port can't be masked, so of a prefix there is
 -- one for each port of the switch that agrees.

@@ -11,7 +11,7 @@ use Rattle.nk_openflow.specs.declared.mapping.MappingError.TheVariants.{Fault, N
 use Rattle.nk_openflow.specs.declared.refusals.WordFault.{WordFault}
 use Rattle.nk_openflow.specs.declared.refusals.WordFault.TheVariants.{NoMatchField, NoField, NotTheTag, FieldTooLarge}
 use Rattle.nk_openflow.specs.MatchFields.{largest_of}
-use Rattle.nk_openflow.specs.Words.{match_field_in, name_in}
+use Rattle.nk_openflow.specs.Words.{match_field_in, mapped_name}
 
 -- whether a match field is the VLAN
 abbrev pub is_vlan : MatchField → Bool
@@ -23,8 +23,8 @@ abbrev pub is_declared : FieldTable → ℕ → Bool
 is_declared fs f = not (nat_lt f 2) && nat_lt f (length fs.maxima)
 
 -- A declared field and the match field that carries it. The VLAN carries the tag alone.
-abbrev pub pair_of : FieldTable → ℕ → MatchField → Result (ℕ × MatchField) WordFault
-pair_of fs f field =
+abbrev pub mapped_pair : FieldTable → ℕ → MatchField → Result (ℕ × MatchField) WordFault
+mapped_pair fs f field =
     if not (is_declared fs f) then Err NoField
     else if is_vlan field && not (is_tag fs f) then Err NotTheTag
     else if nat_lt (largest_of field) (slice_index fs.maxima f) then Err FieldTooLarge
@@ -34,10 +34,10 @@ pair_of fs f field =
 abbrev pub pair_if_any : FieldTable → Option MatchField → Option ℕ → Result (ℕ × MatchField) WordFault
 pair_if_any fs None f = Err NoMatchField
 pair_if_any fs (Some field) None = Err NoField
-pair_if_any fs (Some field) (Some f) = pair_of fs f field
+pair_if_any fs (Some field) (Some f) = mapped_pair fs f field
 
 abbrev pub mapped_by : FieldTable → List ℕ → Result (ℕ × MatchField) WordFault
-mapped_by fs w = pair_if_any fs (match_field_in w) (field_named fs (name_in w))
+mapped_by fs w = pair_if_any fs (match_field_in w) (field_named fs (mapped_name w))
 
 -- the pairs of words, the first of which is number n, after some pairs; or the fault of a word, with its number
 abbrev pub pair_or : ℕ → Result (ℕ × MatchField) WordFault → (ℕ × MatchField → Result (List (ℕ × MatchField)) (ℕ × WordFault))
@@ -45,9 +45,9 @@ abbrev pub pair_or : ℕ → Result (ℕ × MatchField) WordFault → (ℕ × Ma
 pair_or n (Ok p) rest = rest p
 pair_or n (Err k) rest = Err (n, k)
 
-abbrev pub pairs_after : FieldTable → List (ℕ × MatchField) → ℕ → List (List ℕ) → Result (List (ℕ × MatchField)) (ℕ × WordFault)
-pairs_after fs before n [] = Ok before
-pairs_after fs before n (w ∷ ws) = pair_or n (mapped_by fs w) (λ p. pairs_after fs (before ++ p ∷ []) (n + 1) ws)
+abbrev pub mapped_pairs : FieldTable → List (ℕ × MatchField) → ℕ → List (List ℕ) → Result (List (ℕ × MatchField)) (ℕ × WordFault)
+mapped_pairs fs before n [] = Ok before
+mapped_pairs fs before n (w ∷ ws) = pair_or n (mapped_by fs w) (λ p. mapped_pairs fs (before ++ p ∷ []) (n + 1) ws)
 
 -- the mapping of these pairs
 abbrev pub with_base : Base → Result (List (ℕ × MatchField)) (ℕ × WordFault) → Result Mapping (ℕ × WordFault)
@@ -56,7 +56,7 @@ with_base base (Err f) = Err f
 
 -- what words map, the first of which is number n, or the first that is at fault, by its number
 abbrev pub mapping_of : FieldTable → Base → ℕ → List (List ℕ) → Result Mapping (ℕ × WordFault)
-mapping_of fs base n ws = with_base base (pairs_after fs [] n ws)
+mapping_of fs base n ws = with_base base (mapped_pairs fs [] n ws)
 
 -- the result is this answer, or memory ran out
 abbrev pub MappingReturns : Result Mapping MappingError → Result Mapping (ℕ × WordFault) → Type 0

@@ -97,18 +97,18 @@ notation_of f = Number
 
 -- "Prerequisites": whether the packets of a base have them. Each base says the Ethernet type, so that can be matched only
 -- where nothing is known.
-abbrev pub is_in : Base → MatchField → Bool
-is_in b NwSrc = is_ipv4 b
-is_in b NwDst = is_ipv4 b
-is_in b ArpSpa = is_arp b
-is_in b ArpTpa = is_arp b
-is_in b TpSrc = is_tcp b || is_udp b
-is_in b TpDst = is_tcp b || is_udp b
-is_in b NwTos = is_ipv4 b || is_ipv6 b
-is_in b IpDscp = is_ipv4 b || is_ipv6 b
-is_in b MplsLabel = is_mpls b
-is_in b DlType = is_any b
-is_in b f = true
+abbrev pub has_prerequisites : Base → MatchField → Bool
+has_prerequisites b NwSrc = is_ipv4 b
+has_prerequisites b NwDst = is_ipv4 b
+has_prerequisites b ArpSpa = is_arp b
+has_prerequisites b ArpTpa = is_arp b
+has_prerequisites b TpSrc = is_tcp b || is_udp b
+has_prerequisites b TpDst = is_tcp b || is_udp b
+has_prerequisites b NwTos = is_ipv4 b || is_ipv6 b
+has_prerequisites b IpDscp = is_ipv4 b || is_ipv6 b
+has_prerequisites b MplsLabel = is_mpls b
+has_prerequisites b DlType = is_any b
+has_prerequisites b f = true
 
 -- what is no register, by its place among the match fields; nw_tos and ip_dscp are the same bits
 abbrev pub unit_of : MatchField → ℕ × ℕ
@@ -153,14 +153,14 @@ canonical_if_any largest None = None
 canonical_if_any largest (Some ds) = canonical_number largest ds
 
 -- the number after a front
-abbrev pub number_after : List ℕ → ℕ → List ℕ → Option ℕ
-number_after front largest w = canonical_if_any largest (rest_after_prefix front w)
+abbrev pub register_number : List ℕ → ℕ → List ℕ → Option ℕ
+register_number front largest w = canonical_if_any largest (rest_after_prefix front w)
 
 -- reg0 to reg15, xreg0 to xreg7
 abbrev pub register : List ℕ → Option MatchField
 register w =
-    option_or (option_map (λ n. Register n) (number_after (codes "reg") 15 w))
-    (option_map (λ n. WideRegister n) (number_after (codes "xreg") 7 w))
+    option_or (option_map (λ n. Register n) (register_number (codes "reg") 15 w))
+    (option_map (λ n. WideRegister n) (register_number (codes "xreg") 7 w))
 
 -- the match fields of network and transport headers
 abbrev pub network_field : List ℕ → Option MatchField

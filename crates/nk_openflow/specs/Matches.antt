@@ -42,5 +42,5 @@ abbrev pub mapped_if_any : FieldTable → Base → Option MatchField → ℕ × 
 mapped_if_any fs base None m = []
 mapped_if_any fs base (Some f) m = mapped_text base f m.1 (free_digits fs m)
 
-abbrev pub match_text : FieldTable → Mapping → ℕ × ℕ × ℕ → List ℕ
-match_text fs mapping m = mapped_if_any fs mapping.base (mapped_at mapping.fields m.0) m
+abbrev pub flow_match_text : FieldTable → Mapping → ℕ × ℕ × ℕ → List ℕ
+flow_match_text fs mapping m = mapped_if_any fs mapping.base (mapped_at mapping.fields m.0) m

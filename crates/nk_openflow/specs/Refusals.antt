@@ -22,8 +22,8 @@ word_message NotTheTag = codes "not the tag"
 word_message FieldTooLarge = codes "field too large"
 
 -- the line of a word at fault, by its number
-abbrev pub word_line : ℕ → WordFault → List ℕ
-word_line n k = codes "word " ++ decimal n ++ codes ": " ++ word_message k ++ codes "\n"
+abbrev pub word_fault_line : ℕ → WordFault → List ℕ
+word_fault_line n k = codes "word " ++ decimal n ++ codes ": " ++ word_message k ++ codes "\n"
 
 -- the line of a fault of the table text
 abbrev pub text_line : ℕ → List ℕ → List ℕ

@@ -23,12 +23,12 @@ use Rattle.nk_openflow.specs.MatchFields.{is_maskable, is_writable}
 use Rattle.nk_openflow.specs.Matches.{free_digits}
 
 -- a port has a number from 1 to 65279, and the numbers above are kept for OpenFlow (ovs-fields(7), "Ingress Port")
-abbrev pub port_fault : ℕ → Option RuleFault
-port_fault n = if (n == 0) || nat_lt 65279 n then Some (Port n) else None
+abbrev pub port_number_fault : ℕ → Option RuleFault
+port_number_fault n = if (n == 0) || nat_lt 65279 n then Some (Port n) else None
 
-abbrev pub ports_fault : List ℕ → Option RuleFault
-ports_fault [] = None
-ports_fault (p ∷ ps) = first_of (port_fault p) (ports_fault ps)
+abbrev pub port_numbers_fault : List ℕ → Option RuleFault
+port_numbers_fault [] = None
+port_numbers_fault (p ∷ ps) = first_of (port_number_fault p) (port_numbers_fault ps)
 
 -- ---- matches
 
@@ -45,14 +45,14 @@ mapped_match_fault fs None m = Some (NotMapped m.0)
 mapped_match_fault fs (Some field) m = field_match_fault m.0 field m.1 (free_digits fs m)
 
 -- of the port an exact number is one of a port; of the other fields each is mapped
-abbrev pub match_fault : FieldTable → Mapping → ℕ × ℕ × ℕ → Option RuleFault
-match_fault fs mapping m =
-    if m.0 == 1 then (if free_digits fs m == 0 then port_fault m.1 else None)
+abbrev pub match_rule_fault : FieldTable → Mapping → ℕ × ℕ × ℕ → Option RuleFault
+match_rule_fault fs mapping m =
+    if m.0 == 1 then (if free_digits fs m == 0 then port_number_fault m.1 else None)
     else mapped_match_fault fs (mapped_at mapping.fields m.0) m
 
 abbrev pub matches_fault : FieldTable → Mapping → List (ℕ × ℕ × ℕ) → Option RuleFault
 matches_fault fs mapping [] = None
-matches_fault fs mapping (m ∷ ms) = first_of (match_fault fs mapping m) (matches_fault fs mapping ms)
+matches_fault fs mapping (m ∷ ms) = first_of (match_rule_fault fs mapping m) (matches_fault fs mapping ms)
 
 -- ---- what is done
 
@@ -74,7 +74,7 @@ sets_fault mapping is_known (s ∷ ss) = first_of (set_fault mapping is_known s.
 
 abbrev pub exit_fault : Exit → Option RuleFault
 exit_fault exit.Back = None
-exit_fault (exit.Port n) = port_fault n
+exit_fault (exit.Port n) = port_number_fault n
 
 abbrev pub bucket_fault : Mapping → Bool → Bucket → Option RuleFault
 bucket_fault mapping is_known b = first_of (sets_fault mapping is_known b.sets) (exit_fault b.exit)
@@ -101,8 +101,8 @@ row_fault fs mapping r =
     first_of (matches_fault fs mapping r.matches) (target_fault mapping (is_told (header_of fs mapping r.matches)) r.target)
 
 -- the number of a group is at most 0xffffff00 (OpenFlow 1.3, OFPG_MAX)
-abbrev pub group_fault : Mapping → Group → Option RuleFault
-group_fault mapping g = if nat_lt 4294967040 g.number then Some GroupNumber else buckets_fault mapping g.buckets
+abbrev pub group_rule_fault : Mapping → Group → Option RuleFault
+group_rule_fault mapping g = if nat_lt 4294967040 g.number then Some GroupNumber else buckets_fault mapping g.buckets
 
 -- a fault with its place
 abbrev pub at : Place → Option RuleFault → Option (Place × RuleFault)
@@ -111,14 +111,14 @@ at p (Some k) = Some (p, k)
 
 abbrev pub groups_fault : Mapping → List Group → Option (Place × RuleFault)
 groups_fault mapping [] = None
-groups_fault mapping (g ∷ gs) = first_of (at (place.Group g.number) (group_fault mapping g)) (groups_fault mapping gs)
+groups_fault mapping (g ∷ gs) = first_of (at (place.Group g.number) (group_rule_fault mapping g)) (groups_fault mapping gs)
 
 -- the first of these rows is number n
-abbrev pub rows_fault : FieldTable → Mapping → ℕ → List Row → Option (Place × RuleFault)
-rows_fault fs mapping n [] = None
-rows_fault fs mapping n (r ∷ rs) = first_of (at (place.Row n) (row_fault fs mapping r)) (rows_fault fs mapping (n + 1) rs)
+abbrev pub row_rules_fault : FieldTable → Mapping → ℕ → List Row → Option (Place × RuleFault)
+row_rules_fault fs mapping n [] = None
+row_rules_fault fs mapping n (r ∷ rs) = first_of (at (place.Row n) (row_fault fs mapping r)) (row_rules_fault fs mapping (n + 1) rs)
 
 -- the first fault of the ports, else of the groups, else of the rows
-abbrev pub first_fault : FieldTable → Mapping → List ℕ → List Group → List Row → Option (Place × RuleFault)
-first_fault fs mapping ports groups rows =
-    first_of (at place.Ports (ports_fault ports)) (first_of (groups_fault mapping groups) (rows_fault fs mapping 1 rows))
+abbrev pub first_rule_fault : FieldTable → Mapping → List ℕ → List Group → List Row → Option (Place × RuleFault)
+first_rule_fault fs mapping ports groups rows =
+    first_of (at place.Ports (port_numbers_fault ports)) (first_of (groups_fault mapping groups) (row_rules_fault fs mapping 1 rows))

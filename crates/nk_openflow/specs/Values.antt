@@ -43,16 +43,16 @@ colons n = three_bytes (n / 16777216) ++ codes ":" ++ three_bytes n
 
 -- The number that stands for a value: of nw_tos the value is the six highest of eight bits, and of vlan_vid the bit 4096
 -- says that there is a VLAN header.
-abbrev pub number_of : MatchField → ℕ → ℕ
-number_of NwTos n = 4 * (n % 64)
-number_of VlanVid n = 4096 + n % 4096
-number_of f n = n
+abbrev pub header_number : MatchField → ℕ → ℕ
+header_number NwTos n = 4 * (n % 64)
+header_number VlanVid n = 4096 + n % 4096
+header_number f n = n
 
 -- a value in each notation
 abbrev pub written_in : Notation → MatchField → ℕ → List ℕ
 written_in Dotted f n = dotted n
 written_in Colons f n = colons n
-written_in Number f n = decimal (number_of f n)
+written_in Number f n = decimal (header_number f n)
 
 abbrev pub value_text : MatchField → ℕ → List ℕ
 value_text f n = written_in (notation_of f) f n

@@ -12,7 +12,7 @@ use Rattle.nk_openflow.specs.declared.words.Part.TheVariants.{Groups, Flows}
 use Rattle.nk_openflow.specs.declared.refusals.WordFault.{WordFault}
 use Rattle.nk_openflow.specs.declared.refusals.WordFault.TheVariants.{NoMatchField, NotInBase, MatchFieldTwice, FieldTwice}
 use Rattle.nk_openflow.specs.Bases.{base_named}
-use Rattle.nk_openflow.specs.MatchFields.{is_in, match_field_named, overlap}
+use Rattle.nk_openflow.specs.MatchFields.{has_prerequisites, match_field_named, overlap}
 
 -- ---- the first words
 
@@ -53,8 +53,8 @@ abbrev pub has_equals : List ℕ → Bool
 has_equals w = nat_lt (position_or_len is_equals w) (length w)
 
 -- what stands before the first one, or the whole word
-abbrev pub name_in : List ℕ → List ℕ
-name_in w = before_first is_equals w
+abbrev pub mapped_name : List ℕ → List ℕ
+mapped_name w = before_first is_equals w
 
 -- the match field that stands after it
 abbrev pub match_field_in : List ℕ → Option MatchField
@@ -70,15 +70,15 @@ clashes f w = overlap_any f (match_field_in w)
 
 -- whether a word has this name
 abbrev pub has_name : List ℕ → List ℕ → Bool
-has_name name w = bytes_eq (name_in w) name
+has_name name w = bytes_eq (mapped_name w) name
 
 -- what is wrong with a word of this match field, after the words before it
 abbrev pub field_word_fault : Base → List (List ℕ) → List ℕ → Option MatchField → Option WordFault
 field_word_fault base before w None = Some NoMatchField
 field_word_fault base before w (Some f) =
-    if not (is_in base f) then Some NotInBase
+    if not (has_prerequisites base f) then Some NotInBase
     else if list_any (clashes f) before then Some MatchFieldTwice
-    else if list_any (has_name (name_in w)) before then Some FieldTwice
+    else if list_any (has_name (mapped_name w)) before then Some FieldTwice
     else None
 
 abbrev pub word_fault : Base → List (List ℕ) → List ℕ → Option WordFault

@@ -140,7 +140,7 @@ fn push_port_line(
 
 /// Whether a port agrees with a match of the port.
 fn agrees(fs: &Fields, m: &(Fid, u64, u8), port: u64) -> bool
-    ensures { result ≡ specs.agrees fs.now m.now port }
+    ensures { result ≡ specs.port_agrees fs.now m.now port }
 {
     let (f, value, length) = *m;
     let digits = digits_at(fs, f);

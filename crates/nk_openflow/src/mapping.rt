@@ -67,7 +67,7 @@ fn mapped_by(fs: &Fields, word: &str) -> Result<(Fid, MatchField), WordFault>
 
 /// The two, if the match field can carry the field.
 fn pair_of(fs: &Fields, f: Fid, field: MatchField) -> Result<(Fid, MatchField), WordFault>
-    ensures { result ≡ specs.pair_of fs.now f field }
+    ensures { result ≡ specs.mapped_pair fs.now f field }
 {
     if f.place() < 2 || fs.len() <= f.place() {
         return Err(WordFault::NoField);

@@ -144,7 +144,7 @@ impl MatchField {
 
     /// Whether packets of the base have it.
     pub(crate) fn is_in(self, base: Base) -> bool
-        ensures { result ≡ specs.is_in base self }
+        ensures { result ≡ specs.has_prerequisites base self }
     {
         match self {
             MatchField::NwSrc | MatchField::NwDst => base.is_ipv4(),
@@ -277,7 +277,7 @@ fn register(word: &str) -> Option<MatchField>
 
 /// The number after a front, at most this one and written without zeros in front.
 fn number_after(front: &str, largest: u64, word: &str) -> Option<u64>
-    ensures { result ≡ specs.number_after front.now largest word.now }
+    ensures { result ≡ specs.register_number front.now largest word.now }
 {
     match word.strip_prefix(front) {
         Some(digits) => canonical_upto(largest, digits),

@@ -55,7 +55,7 @@ pub(crate) fn push_matches(
     mapping: &Mapping,
     matches: &[(Fid, u64, u8)],
 ) -> Result<(), AllocError>
-    ensures { OnOk result (out.new.items ≡ out.old.items ++ flat_map (specs.match_text fs.now mapping.now) matches.now) }
+    ensures { OnOk result (out.new.items ≡ out.old.items ++ flat_map (specs.flow_match_text fs.now mapping.now) matches.now) }
 {
     for m in matches {
         push_match(out, fs, mapping, m)?;
@@ -70,7 +70,7 @@ fn push_match(
     mapping: &Mapping,
     m: &(Fid, u64, u8),
 ) -> Result<(), AllocError>
-    ensures { OnOk result (out.new.items ≡ out.old.items ++ specs.match_text fs.now mapping.now m.now) }
+    ensures { OnOk result (out.new.items ≡ out.old.items ++ specs.flow_match_text fs.now mapping.now m.now) }
 {
     let (f, value, _) = *m;
     match mapped_at(mapping, f) {

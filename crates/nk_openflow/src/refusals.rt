@@ -77,7 +77,7 @@ pub enum Place {
 
 /// `word N: WORDS` with a line feed.
 pub fn word_line(alloc: Global, number: u64, fault: WordFault) -> Result<Vec<u8>, AllocError>
-    ensures { IfOk result (λ v. v.items ≡ specs.word_line number fault) }
+    ensures { IfOk result (λ v. v.items ≡ specs.word_fault_line number fault) }
 {
     let mut line = Vec::new(alloc);
     line.extend_from_slice(b"word ")?;

@@ -24,7 +24,7 @@ pub fn first_fault(
     groups: &[Group],
     rows: &[Row],
 ) -> Option<(Place, RuleFault)>
-    ensures { result ≡ specs.first_fault fs.now mapping.now ports.now groups.now rows.now }
+    ensures { result ≡ specs.first_rule_fault fs.now mapping.now ports.now groups.now rows.now }
 {
     if let Some(fault) = ports_fault(ports) {
         return Some((Place::Ports, fault));
@@ -37,7 +37,7 @@ pub fn first_fault(
 
 /// The first port that isn't OpenFlow's.
 fn ports_fault(ports: &[u16]) -> Option<RuleFault>
-    ensures { result ≡ specs.ports_fault ports.now }
+    ensures { result ≡ specs.port_numbers_fault ports.now }
 {
     for port in ports {
         let fault = port_fault(*port as u64);
@@ -50,7 +50,7 @@ fn ports_fault(ports: &[u16]) -> Option<RuleFault>
 
 /// What is wrong with a port.
 fn port_fault(n: u64) -> Option<RuleFault>
-    ensures { result ≡ specs.port_fault n }
+    ensures { result ≡ specs.port_number_fault n }
 {
     if n == 0 || LARGEST_PORT < n {
         Some(RuleFault::Port(n))
@@ -73,7 +73,7 @@ fn groups_fault(mapping: &Mapping, groups: &[Group]) -> Option<(Place, RuleFault
 
 /// What is wrong with a group.
 fn group_fault(mapping: &Mapping, group: &Group) -> Option<RuleFault>
-    ensures { result ≡ specs.group_fault mapping.now group.now }
+    ensures { result ≡ specs.group_rule_fault mapping.now group.now }
 {
     if LARGEST_GROUP < group.number {
         return Some(RuleFault::GroupNumber);
@@ -89,7 +89,7 @@ fn group_fault(mapping: &Mapping, group: &Group) -> Option<RuleFault>
 
 /// The first row at fault, by its number from 1.
 fn rows_fault(fs: &Fields, mapping: &Mapping, rows: &[Row]) -> Option<(Place, RuleFault)>
-    ensures { result ≡ specs.rows_fault fs.now mapping.now 1 rows.now }
+    ensures { result ≡ specs.row_rules_fault fs.now mapping.now 1 rows.now }
 {
     for (i, row) in rows.iter().enumerate() {
         if let Some(fault) = row_fault(fs, mapping, row) {
@@ -131,7 +131,7 @@ fn matches_fault(fs: &Fields, mapping: &Mapping, matches: &[(Fid, u64, u8)]) -> 
 
 /// What is wrong with a match.
 fn match_fault(fs: &Fields, mapping: &Mapping, m: &(Fid, u64, u8)) -> Option<RuleFault>
-    ensures { result ≡ specs.match_fault fs.now mapping.now m.now }
+    ensures { result ≡ specs.match_rule_fault fs.now mapping.now m.now }
 {
     let (f, value, _) = *m;
     let free = free_digits(fs, m);

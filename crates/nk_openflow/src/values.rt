@@ -20,7 +20,7 @@ pub(crate) fn push_value(out: &mut Vec<u8>, field: MatchField, n: u64) -> Result
 
 /// The number that stands for a value.
 fn field_number(field: MatchField, n: u64) -> u64
-    ensures { result ≡ specs.number_of field n }
+    ensures { result ≡ specs.header_number field n }
 {
     match field {
         MatchField::NwTos => 4 * (n % 64),

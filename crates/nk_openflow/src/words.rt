@@ -106,7 +106,7 @@ fn part_named(word: &str) -> Option<Part>
 
 /// The name before the first `=` of a word; the whole word where it has none.
 pub fn name_in(word: &str) -> &str
-    ensures { result.now ≡ specs.name_in word.now }
+    ensures { result.now ≡ specs.mapped_name word.now }
 {
     match word.split_once('=') {
         Some((name, _)) => name,

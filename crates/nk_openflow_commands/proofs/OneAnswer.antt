@@ -10,7 +10,7 @@ use Rattle.nk_reply.specs.Answer.{Answer, answer_of, limit, too_long}
 use Rattle.nk_reply.specs.Outcome.{Outcome}
 use Rattle.nk_openflow.specs.declared.words.Head.{Head}
 use Rattle.nk_openflow_commands.specs.Answer.{ToText}
-use Rattle.nk_openflow_commands.specs.Ends.{IsAnswerOf, IsAnswerTo, asked, mapping_words}
+use Rattle.nk_openflow_commands.specs.Ends.{IsAnswerOf, IsFlowsAnswerTo, asked, mapping_words}
 
 -- two that are equal to a third are equal
 same : {X : Type 0} (x y z : X) → x ≡ z → y ≡ z → x ≡ y
@@ -37,5 +37,5 @@ one_of (Ok head) ws bytes a b p q =
     one_by (nat_lt limit (length bytes)) head (mapping_words head ws) (tables_of bytes) a b p q
 one_of (Err said) ws bytes a b p q = same _ _ _ p q
 
-pub one_answer : (ws : List (List ℕ)) (bytes : List ℕ) (a b : Answer) → IsAnswerTo ws bytes a → IsAnswerTo ws bytes b → a ≡ b
+pub one_answer : (ws : List (List ℕ)) (bytes : List ℕ) (a b : Answer) → IsFlowsAnswerTo ws bytes a → IsFlowsAnswerTo ws bytes b → a ≡ b
 one_answer ws bytes a b p q = one_of (asked ws) ws bytes a b p q

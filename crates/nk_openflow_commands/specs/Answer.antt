@@ -22,14 +22,14 @@ use Rattle.nk_openflow.specs.declared.words.Part.{Part}
 use Rattle.nk_openflow.specs.declared.words.Part.TheVariants.{Groups, Flows}
 use Rattle.nk_openflow.specs.Lines.{group_line, row_lines}
 use Rattle.nk_openflow.specs.Mapping.{mapping_of}
-use Rattle.nk_openflow.specs.Refusals.{rule_line, text_line, word_line}
-use Rattle.nk_openflow.specs.Rules.{first_fault}
+use Rattle.nk_openflow.specs.Refusals.{rule_line, text_line, word_fault_line}
+use Rattle.nk_openflow.specs.Rules.{first_rule_fault}
 
 abbrev pub text_fault : ℕ → List ℕ → Outcome
 text_fault line words = text_refused (text_line line words)
 
 abbrev pub word_refused : ℕ → WordFault → Outcome
-word_refused n k = policy_refused (word_line n k)
+word_refused n k = policy_refused (word_fault_line n k)
 
 -- the lines of a part of a switch's table
 abbrev pub lines_of : Part → FieldTable → Mapping → List ℕ → List Group → List Row → List ℕ
@@ -44,7 +44,7 @@ unless_at_fault fs (Some f) lines = policy_refused (rule_line fs f.0 f.1)
 -- the same of a switch
 abbrev pub of_switch : Part → FieldTable → Mapping → List ℕ → List Group → List Row → Outcome
 of_switch part fs mapping ports groups rows =
-    unless_at_fault fs (first_fault fs mapping ports groups rows) (lines_of part fs mapping ports groups rows)
+    unless_at_fault fs (first_rule_fault fs mapping ports groups rows) (lines_of part fs mapping ports groups rows)
 
 abbrev pub of_mapping : Head → Tables → Mapping → Outcome
 of_mapping head t mapping =

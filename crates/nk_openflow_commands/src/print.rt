@@ -5,10 +5,10 @@ ghost use Rattle.nk_reply.specs.Reply as replies;
 ghost use Rattle.nk_reply.specs.Sent.{LeavesAlone};
 ghost use Rattle.nk_reply.specs.Use.{use_of};
 ghost use Rattle.nk_openflow_commands.specs.Answer.{IsLinesAnswer};
-ghost use Rattle.nk_openflow_commands.specs.Ends.{Ends, IsMeant, IsMeantByWords, IsMeantTo, answer_in, asked, asked_by, nothing_done, reads, word_answer};
+ghost use Rattle.nk_openflow_commands.specs.Ends.{Ends, IsMeant, IsMeantByWords, IsFlowsMeantTo, flows_answer_in, asked, asked_by, nothing_done, reads, word_answer};
 
 use crate::answer::reply_to_bytes;
-use crate::reply::{Said, send};
+use crate::reply::{FlowsReply, send};
 use nk_io::{LONGEST, Sink, Source, read_all};
 use nk_openflow::{Head, WordFault, first_word_fault, head_of, word_line};
 use nk_reply::{CommandAnswer, Reply, Status};
@@ -40,21 +40,21 @@ pub fn print_lines<S: Source, O: Sink, E: Sink>(
 }
 
 /// What the run means to say. Nothing is written yet.
-fn said_to_words<S: Source>(alloc: Global, words: &[String], source: &mut S) -> Said
+fn said_to_words<S: Source>(alloc: Global, words: &[String], source: &mut S) -> FlowsReply
     ensures meant { IsMeant (map (λ w. string_bytes w) words.now)
-        (use_of S.left S.faults source.old source.new) (answer_in result) }
+        (use_of S.left S.faults source.old source.new) (flows_answer_in result) }
     ensures unread { reads (asked (map (λ w. string_bytes w) words.now)) ≡ false → source.new ≡ source.old }
 {
     match head_of(words) {
-        Some(head) => Said::Reply(reply_to_head(alloc, &head, words, source)),
-        None => Said::Usage,
+        Some(head) => FlowsReply::Reply(reply_to_head(alloc, &head, words, source)),
+        None => FlowsReply::Usage,
     }
 }
 
 /// The same where the first words say what is asked for.
 fn reply_to_head<S: Source>(alloc: Global, head: &Head, words: &[String], source: &mut S) -> Reply
     requires within { head.now.count ≤ length words.now }
-    ensures meant { IsMeantTo (asked_by (Some head.now) (map (λ w. string_bytes w) words.now)) (map (λ w. string_bytes w) words.now)
+    ensures meant { IsFlowsMeantTo (asked_by (Some head.now) (map (λ w. string_bytes w) words.now)) (map (λ w. string_bytes w) words.now)
         (use_of S.left S.faults source.old source.new) (replies.answer_in result) }
     ensures unread { reads (asked_by (Some head.now) (map (λ w. string_bytes w) words.now)) ≡ false → source.new ≡ source.old }
 {
