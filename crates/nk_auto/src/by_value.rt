@@ -17,16 +17,17 @@ use std::alloc::{AllocError, Global};
 /// A sum of no more parts than this is drawn part by part.
 const MANY: usize = 64;
 
-/// The field that many sequences test first, where no value seems to pass two of these tests. It tells whether a choice by the field
-/// is worth a try, and no more.
-pub(crate) fn common_field(alloc: Global, ps: &[Pol]) -> Result<Option<Fid>, AllocError> {
+/// The field that many sequences test first, where no value passes two of these tests, and only later fields are tested after them. It
+/// tells whether a choice by the field can be made, and no more: what is drawn for a choice that isn't made is drawn in vain, once for
+/// each sum around it.
+pub(crate) fn common_field(st: &Store, ps: &[Pol]) -> Result<Option<Fid>, AllocError> {
     if ps.len() <= MANY {
         return Ok(None);
     }
     let Some(f) = first_tested(&ps[0]) else {
         return Ok(None);
     };
-    if are_apart(alloc, f, ps)? {
+    if are_apart(st, f, ps)? {
         Ok(Some(f))
     } else {
         Ok(None)
@@ -45,17 +46,52 @@ fn first_tested(p: &Pol) -> Option<Fid> {
     }
 }
 
-/// Whether all parts begin with a test or a range of the field, each with values of its own.
-fn are_apart(alloc: Global, f: Fid, ps: &[Pol]) -> Result<bool, AllocError> {
-    let mut found = Vec::with_capacity(alloc, ps.len())?;
+/// Whether all parts begin with a test or a range of the field, each with values of its own, and test later fields alone after it.
+fn are_apart(st: &Store, f: Fid, ps: &[Pol]) -> Result<bool, AllocError> {
+    let _place = f.place();
+    let mut found = Vec::with_capacity(st.alloc(), ps.len())?;
     for p in ps {
         let Some(ends) = first_values(p, f) else {
             return Ok(false);
         };
+        if !goes_on_later(p, f) {
+            return Ok(false);
+        }
         found.push(ends)?;
     }
     found.sort_unstable();
-    Ok(is_rising(found.as_slice()))
+    Ok(is_rising(found.as_slice(), st.max(f)))
+}
+
+/// Whether the parts of a sequence after the first test fields after this one alone.
+fn goes_on_later(p: &Pol, f: Fid) -> bool {
+    match p {
+        Pol::Seq(qs) => all_test_later(qs.as_slice(), 1, f),
+        _ => false,
+    }
+}
+
+/// Whether a policy tests fields after this one alone.
+#[cycle(tests_later)]
+fn tests_later(p: &Pol, f: Fid) -> bool {
+    match p {
+        Pol::Test(g, _) | Pol::Range(g, _, _) => f < *g,
+        Pol::Set(_, _) => true,
+        Pol::Sum(ps) | Pol::Seq(ps) => all_test_later(ps.as_slice(), 0, f),
+        Pol::Not(q) | Pol::Star(q) => tests_later(q, f),
+        Pol::Dup(_) | Pol::Link(_, _, _, _, _) => false,
+    }
+}
+
+/// The same of the policies from a place on.
+#[cycle(tests_later)]
+fn all_test_later(ps: &[Pol], from: usize, f: Fid) -> bool {
+    for i in from..ps.len() {
+        if !tests_later(&ps[i], f) {
+            return false;
+        }
+    }
+    true
 }
 
 /// The ends of the values of the test or the range of the field that a sequence begins with.
@@ -69,12 +105,12 @@ fn first_values(p: &Pol, f: Fid) -> Option<(u64, u64)> {
     }
 }
 
-/// Whether each interval ends before the next one begins.
-fn is_rising(intervals: &[(u64, u64)]) -> bool {
+/// Whether each interval ends before the next one begins, and the last one at the largest value at most.
+fn is_rising(intervals: &[(u64, u64)], max: u64) -> bool {
     let mut last = 0;
     for i in 0..intervals.len() {
         let (lo, hi) = intervals[i];
-        if hi < lo {
+        if hi < lo || max < hi {
             return false;
         }
         if i > 0 && lo <= last {

@@ -141,7 +141,7 @@ fn choice_of(st: &mut Store, ps: &[Pol]) -> Result<Option<Id>, AllocError>
     ensures grows { Grows st.old st.new }
     ensures ok { IfOk result (λ o. IfSome o (λ d. IsSilent st.new d (sum_of (trees_of ps.now)))) }
 {
-    let Some(f) = common_field(st.alloc(), ps)? else {
+    let Some(f) = common_field(st, ps)? else {
         return Ok(None);
     };
     let found = arms_of(st, f, ps)?;
