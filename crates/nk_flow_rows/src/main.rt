@@ -17,7 +17,6 @@ fn main(rt: HostRuntime) -> io::Result<()> {
     let mut text = String::new(rt.alloc());
     for line in file.as_str().lines() {
         if let Some(words) = line.strip_prefix("$ ") {
-            println!(rt; "{line}")?;
             ask(&rt, words, text.as_str())?;
         } else if line == "text" {
             text = String::new(rt.alloc());
@@ -29,8 +28,9 @@ fn main(rt: HostRuntime) -> io::Result<()> {
     Ok(())
 }
 
-/// Asks for the answer to words and a text, and prints it.
+/// Asks for the answer to words and a text, and prints it after the line that asks.
 fn ask(rt: &HostRuntime, words: &str, text: &str) -> io::Result<()> {
+    println!(rt; "$ {words}")?;
     let alloc = rt.alloc();
     let words = listed(alloc, words)?;
     let bytes = Vec::from_slice(alloc, text.as_bytes())?;
