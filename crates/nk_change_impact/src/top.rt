@@ -1,0 +1,64 @@
+//! The top call.
+ghost use Rattle.std.specs.Prelude.{◌≡◌, None, map, string_bytes};
+ghost use Rattle.nk_reply.specs.Meant.{IsMeantBy};
+ghost use Rattle.nk_reply.specs.Reply.{IsReplyOf, answer_in};
+ghost use Rattle.nk_reply.specs.Sent.{LeavesAlone};
+ghost use Rattle.nk_reply.specs.Use.{use_of};
+ghost use Rattle.nk_change_impact.specs.Ends.{Ends, names_in};
+ghost use Rattle.nk_change_impact.specs.Impact.{IsImpactAnswer};
+
+use crate::answer::impact_answer;
+use nk_io::{LONGEST, Sink, Source, read_all};
+use nk_reply::{Reply, Status, deliver, deliver_text};
+use std::alloc::Global;
+
+/// Tells which packets differ between the two policies that the words name, of the text that the source has. Words that are not
+/// two are refused before anything is read. Else the source is read to its end, which fails where a call of the source fails or
+/// it has more than 16,777,216 bytes. The whole answer is made before its first byte is written: on `out` for the statuses
+/// `Done` and `Differs`, on `err` for the others. After a write that fails nothing more is written.
+pub fn impact<S: Source, O: Sink, E: Sink>(
+    alloc: Global,
+    words: &[String],
+    source: &mut S,
+    out: &mut O,
+    err: &mut E,
+) -> Status
+    // An answer was meant for a cause, and then sent, or its sink failed at it.
+    ensures ends { Ends (map (λ w. string_bytes w) words.now)
+        (use_of S.left S.faults source.old source.new)
+        (use_of O.taken O.faults out.old out.new)
+        (use_of E.taken E.faults err.old err.new) result }
+    // No call was made on the source where the words are not two.
+    ensures unread { names_in (map (λ w. string_bytes w) words.now) ≡ None → source.new ≡ source.old }
+    // No call was made on the sink that the answer doesn't go to.
+    ensures alone { LeavesAlone result (out.new ≡ out.old) (err.new ≡ err.old) }
+{
+    match words {
+        [left, right] => {
+            let reply = reply_to_names(alloc, left.as_str(), right.as_str(), source);
+            deliver(&reply, out, err)
+        }
+        _ => deliver_text(Status::Usage, b"usage: nk_impact LEFT RIGHT\n", out, err),
+    }
+}
+
+/// What the run means to say to two names. Nothing is written yet.
+fn reply_to_names<S: Source>(alloc: Global, left: &str, right: &str, source: &mut S) -> Reply
+    ensures { IsMeantBy (IsImpactAnswer left.now right.now)
+        (use_of S.left S.faults source.old source.new) (answer_in result) }
+{
+    match read_all(alloc, source, LONGEST) {
+        Ok(bytes) => reply_to_bytes(alloc, left, right, bytes),
+        Err(error) => Reply::unread(error),
+    }
+}
+
+/// What is answered to all of the input, where memory doesn't run out.
+fn reply_to_bytes(alloc: Global, left: &str, right: &str, bytes: Vec<u8>) -> Reply
+    ensures { IsReplyOf (IsImpactAnswer left.now right.now bytes.items) result }
+{
+    match impact_answer(alloc, left, right, bytes) {
+        Ok(said) => Reply::CommandAnswer(said),
+        Err(_) => Reply::NoMemory,
+    }
+}

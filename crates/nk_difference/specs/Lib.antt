@@ -1,0 +1,5 @@
+pub mod Alone
+pub mod Guarded
+pub mod Difference
+pub mod Sides
+pub mod Named
