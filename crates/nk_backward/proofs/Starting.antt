@@ -24,16 +24,16 @@ use Rattle.nk_goal.proofs.Growing.{sets_known, sets_same, under_on, under_back, 
 use Rattle.nk_goal.proofs.Adding.{not_found, found_under, under_found}
 use Rattle.nk_witness.proofs.Pulling.{empty_not}
 use Rattle.nk_backward.specs.declared.transitions.Transitions.{Transitions}
-use Rattle.nk_backward.specs.Transitions.{entries_of, AreAllGiven, IsLed, LeadsInto, AreTransitions}
+use Rattle.nk_backward.specs.Transitions.{explored_entries, AreAllGiven, IsLed, LeadsInto, AreTransitions}
 use Rattle.nk_backward.specs.Closures.{IsClosure}
-use Rattle.nk_backward.specs.Starts.{StartsBreak, AreStarts, of_side, IsSideViolation, LeadToSide, AreUnder}
+use Rattle.nk_backward.specs.Starts.{StartsBreak, AreStarts, of_side, IsSideViolation, LeadToSide, StandUnder}
 use Rattle.nk_backward.proofs.Listing.{under_entries, each_entry}
 use Rattle.nk_backward.proofs.Tracing.{led_in_range, led_on}
 use Rattle.nk_backward.proofs.Taking.{leads_on}
 use Rattle.nk_backward.proofs.Sided.{side_has, has_side}
 
 -- the packets under a set that has an entry
-pub under_some : (st new : StoreState) (back : List (ℕ × ℕ)) (s x y r : ℕ) → Once back → lookup (eqb s) back ≡ Some y → IsSet st x → HasLeaves new r (λ pk. guarded (look st y pk) (look st x pk)) → (IsPredicate st x → IsPredicate new r) → AreUnder st back s x new r
+pub under_some : (st new : StoreState) (back : List (ℕ × ℕ)) (s x y r : ℕ) → Once back → lookup (eqb s) back ≡ Some y → IsSet st x → HasLeaves new r (λ pk. guarded (look st y pk) (look st x pk)) → (IsPredicate st x → IsPredicate new r) → StandUnder st back s x new r
 under_some st new back s x y r once found set h pred = record {
   packets = record { id = h.id; predicate = pred set.predicate };
   goes = λ z w m.
@@ -46,7 +46,7 @@ under_some st new back s x y r once found set h pred = record {
     key z w = ap has_some_out (h.leaf z w) ∙ guarded_out (look st y z) (look st x z)
 
 -- no packets where it has none
-pub under_none : (st new : StoreState) (back : List (ℕ × ℕ)) (s x r : ℕ) → lookup (eqb s) back ≡ None → HasLeaves new r (λ pk. []) → IsPredicate new r → AreUnder st back s x new r
+pub under_none : (st new : StoreState) (back : List (ℕ × ℕ)) (s x r : ℕ) → lookup (eqb s) back ≡ None → HasLeaves new r (λ pk. []) → IsPredicate new r → StandUnder st back s x new r
 under_none st new back s x r none h pred = record {
   packets = record { id = h.id; predicate = pred };
   goes = λ z w m. absurd (empty_not new r z h w.0 m);
@@ -62,7 +62,7 @@ leads_grow a b ts Goal Next g given f (suc n) i z w l =
 
 -- from violations by their closure
 pub lead_to_side_of : (st s1 s2 new : StoreState) (ss : List (List ℕ)) (ts : List Transitions) (entries : List (ℕ × ℕ)) (bad : List ℕ → List ℕ → List Out) (side : Side) (s x : ℕ) (goal back : List (ℕ × ℕ)) (r : ℕ) → Grows st s1 → Grows s1 s2 → IsId st x → AreAllGiven st ts →
-    AreViolationsSoFar st ss (λ set pk. of_side side (bad set pk)) entries s1 goal → IsClosure s1 ts goal s2 back → AreUnder s2 back s x new r → LeadToSide st ss ts entries bad side s x new r
+    AreViolationsSoFar st ss (λ set pk. of_side side (bad set pk)) entries s1 goal → IsClosure s1 ts goal s2 back → StandUnder s2 back s x new r → LeadToSide st ss ts entries bad side s x new r
 lead_to_side_of st s1 s2 new ss ts entries bad side s x goal back r g1 g2 id given so close un = record {
   packets = un.packets;
   goes = λ y w m.
@@ -91,14 +91,14 @@ walk_of old st oss ss states entries ts Goal k (suc n) i z w l =
 -- what is known of a graph that was made of all levels
 pub record IsGraph (old : StoreState) (oss : List (List ℕ)) (states : List ℕ) (set start : ℕ) (ls : List (List (ℕ × ℕ))) (st : StoreState) (ss : List (List ℕ)) (entries : List (ℕ × ℕ)) (ts : List Transitions) : Type 0 where
   pub levels : AreLevels old old oss states set start (λ s pk. []) ls false
-  pub is : entries ≡ entries_of ls
+  pub is : entries ≡ explored_entries ls
   pub transitions : AreTransitions old oss states entries st ss ts
   pub grows : Grows old st
   pub sets : SetsGrow oss ss
   pub once : HasEachSetOnce ss
 
 -- each entry of all levels is over the states
-pub entries_pairs : (old : StoreState) (oss : List (List ℕ)) (states : List ℕ) (set start : ℕ) (bad : List ℕ → List ℕ → List Out) (ls : List (List (ℕ × ℕ))) → AreLevels old old oss states set start bad ls false → EachPair (IsPair old oss (length states)) (entries_of ls)
+pub entries_pairs : (old : StoreState) (oss : List (List ℕ)) (states : List ℕ) (set start : ℕ) (bad : List ℕ → List ℕ → List Out) (ls : List (List (ℕ × ℕ))) → AreLevels old old oss states set start bad ls false → EachPair (IsPair old oss (length states)) (explored_entries ls)
 entries_pairs old oss states set start bad ls k = each_entry (IsPair old oss (length states)) ls (λ j l. (k.pairs j l).each)
 
 -- entries over some labels are entries over more, as store and sets grow
@@ -133,7 +133,7 @@ module _ (old : StoreState) (oss : List (List ℕ)) (states : List ℕ) (set sta
   reached k i s y at l is =
       let c = gr.levels.complete refl k (s, y) at in
       let j : ℕ = c.3.0 in
-      let here : Under old (entries_of ls) j y = under_entries old ls c.0 j y c.2 c.3.2 in
+      let here : Under old (explored_entries ls) j y = under_entries old ls c.0 j y c.2 c.3.2 in
       let u : Under old entries j y = subst (λ (es : List (ℕ × ℕ)). Under old es j y) (sym gr.is) here in
       let known : j < length oss = gr.transitions.known j (under_named old entries j y u) in
       let same : j ≡ i = gr.once j i (sets_known oss ss j gr.sets known) l (sets_same oss ss j gr.sets known ∙ c.3.1 ∙ sym is) in

@@ -38,7 +38,7 @@ pub record LeadToSide (st : StoreState) (ss : List (List ℕ)) (ts : List Transi
   pub comes : (n : ℕ) (y : List ℕ) → IsStorePacket st y → is_in st x y ≡ true → LeadsInto st ts (IsSideViolation st ss entries bad side) n s y → is_in new r y ≡ true
 
 -- exactly the packets of x that stand under the set
-pub record AreUnder (st : StoreState) (back : List (ℕ × ℕ)) (s x : ℕ) (new : StoreState) (r : ℕ) : Type 0 where
+pub record StandUnder (st : StoreState) (back : List (ℕ × ℕ)) (s x : ℕ) (new : StoreState) (r : ℕ) : Type 0 where
   pub packets : IsSet new r
   pub goes : (y : List ℕ) → IsStorePacket st y → is_in new r y ≡ true → (is_in st x y ≡ true) × Under st back s y
   pub comes : (y : List ℕ) → IsStorePacket st y → is_in st x y ≡ true → Under st back s y → is_in new r y ≡ true

@@ -10,9 +10,9 @@ use Rattle.nk_outs.specs.declared.outs.Given.{Given}
 use Rattle.nk_backward.specs.declared.transitions.Transitions.{Transitions}
 
 -- the entries of all levels, in turn
-abbrev pub entries_of : List (List (ℕ × ℕ)) → List (ℕ × ℕ)
-entries_of [] = []
-entries_of (l ∷ ls) = l ++ entries_of ls
+abbrev pub explored_entries : List (List (ℕ × ℕ)) → List (ℕ × ℕ)
+explored_entries [] = []
+explored_entries (l ∷ ls) = l ++ explored_entries ls
 
 -- the transitions at a place, or none
 abbrev pub transitions_at : List Transitions → ℕ → Transitions

@@ -1,6 +1,6 @@
 //! The entries of all levels as one list.
 ghost use Rattle.std.specs.Prelude.{◌≡◌, ◌++◌, IfOk, OnOk};
-ghost use Rattle.nk_backward.specs.Transitions.{entries_of};
+ghost use Rattle.nk_backward.specs.Transitions.{explored_entries};
 
 use nk_determ::{Levels, SetId};
 use nk_field::List;
@@ -9,7 +9,7 @@ use std::alloc::{AllocError, Global};
 
 /// The entries of all levels, in turn.
 pub(crate) fn all_entries(alloc: Global, l: &Levels) -> Result<List<(SetId, Id)>, AllocError>
-    ensures { IfOk result (λ es. es ≡ entries_of l.now.levels) }
+    ensures { IfOk result (λ es. es ≡ explored_entries l.now.levels) }
 {
     let mut all = List::new(alloc);
     for k in 0..l.levels.len() {

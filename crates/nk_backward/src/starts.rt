@@ -8,7 +8,7 @@ ghost use Rattle.nk_determ.specs.Levels.{AreLevels};
 ghost use Rattle.nk_goal.specs.Entries.{HaveSets};
 ghost use Rattle.nk_witness.specs.Finds.{first_set, first_packets};
 ghost use Rattle.nk_backward.specs.Transitions.{AreAllGiven};
-ghost use Rattle.nk_backward.specs.Starts.{AreStarts, LeadToSide, AreUnder};
+ghost use Rattle.nk_backward.specs.Starts.{AreStarts, LeadToSide, StandUnder};
 
 use crate::closure::close_back;
 use crate::transitions::{Graph, graph_of};
@@ -96,7 +96,7 @@ fn packets_under(st: &mut Store, back: &Entries, s: SetId, x: Id) -> Result<Id, 
     requires once { Once back.now }
     requires packets { IsSet st.old x }
     ensures grows { Grows st.old st.new }
-    ensures ok { IfOk result (λ r. AreUnder st.old back.now s x st.new r) }
+    ensures ok { IfOk result (λ r. StandUnder st.old back.now s x st.new r) }
 {
     match back.under(s) {
         Some(y) => {

@@ -4,7 +4,7 @@ ghost use Rattle.nk_store.specs.StoreState.{Grows};
 ghost use Rattle.nk_sets.specs.PacketSets.{IsSet};
 ghost use Rattle.nk_determ.specs.Sets.{SetsGrow, HasEachSetOnce};
 ghost use Rattle.nk_determ.specs.Pairs.{AreStates, AreLabelsBelow, EachPair, IsPair};
-ghost use Rattle.nk_backward.specs.Transitions.{entries_of, AreStepsFrom, AreTransitions};
+ghost use Rattle.nk_backward.specs.Transitions.{explored_entries, AreStepsFrom, AreTransitions};
 
 use crate::entries::all_entries;
 use nk_determ::{Levels, SetId, Sets};
@@ -53,11 +53,11 @@ pub(crate) fn graph_of(
     l: &Levels,
 ) -> Result<Graph, AllocError>
     requires states { AreStates st.old states.now }
-    requires entries { EachPair (IsPair st.old ss.old (length states.now)) (entries_of l.now.levels) }
+    requires entries { EachPair (IsPair st.old ss.old (length states.now)) (explored_entries l.now.levels) }
     ensures grows { Grows st.old st.new }
     ensures sets { SetsGrow ss.old ss.new }
     ensures differ { OnOk result (HasEachSetOnce ss.new) }
-    ensures entries { IfOk result (λ gr. gr.entries ≡ entries_of l.now.levels) }
+    ensures entries { IfOk result (λ gr. gr.entries ≡ explored_entries l.now.levels) }
     ensures ok { IfOk result (λ gr. AreTransitions st.old ss.old states.now gr.entries st.new ss.new gr.transitions) }
 {
     let entries = all_entries(st.alloc(), l)?;

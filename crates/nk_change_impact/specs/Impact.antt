@@ -19,7 +19,7 @@ impact_lines fields left right =
     codes "let left_alone = " ++ pol_bytes fields left ++ codes "\nlet right_alone = " ++ pol_bytes fields right ++ codes "\n"
 
 -- the program has policies of both names
-pub record AreNamed (said : DeclaredProgram) (left right : List ℕ) : Type 0 where
+pub record AreBothNamed (said : DeclaredProgram) (left right : List ℕ) : Type 0 where
   pub program : Program
   pub says : program_by program ≡ said
   pub left_policy : Policy
@@ -29,33 +29,33 @@ pub record AreNamed (said : DeclaredProgram) (left right : List ℕ) : Type 0 wh
 
 -- the policies of these names give the same histories on every packet in range, and the text says so
 pub record TellsSame (said : DeclaredProgram) (left right text : List ℕ) : Type 0 where
-  pub named : AreNamed said left right
+  pub named : AreBothNamed said left right
   pub same : AreSame named.program.fields named.left_policy named.right_policy
   pub told : text ≡ codes "same\n"
 
 -- the text has the predicates of the packets that the policies of these names differ on
 pub record TellsImpact (said : DeclaredProgram) (left right text : List ℕ) : Type 0 where
-  pub named : AreNamed said left right
+  pub named : AreBothNamed said left right
   pub left_predicate : Policy
   pub right_predicate : Policy
   pub predicates : AreTheirPredicates named.program.fields named.left_policy named.right_policy left_predicate right_predicate
   pub told : text ≡ impact_lines named.program.fields left_predicate right_predicate
 
 -- one of the names is no policy's, and the text says so
-pub record LacksPolicy (said : DeclaredProgram) (left right text : List ℕ) : Type 0 where
+pub record LacksNamedPolicy (said : DeclaredProgram) (left right text : List ℕ) : Type 0 where
   pub program : Program
   pub says : program_by program ≡ said
   pub lacks : (policy_named program left ≡ None) ⊎ (policy_named program right ≡ None)
   pub told : text ≡ codes "refused C1: no policy\n"
 
 -- what is answered to a program
-abbrev pub ToProgram : DeclaredProgram → List ℕ → List ℕ → Outcome → Type 0
-ToProgram said left right (done text) = TellsSame said left right text
-ToProgram said left right (differs text) = TellsImpact said left right text
-ToProgram said left right (policy_refused text) = LacksPolicy said left right text
-ToProgram said left right outcome = ⊥
+abbrev pub ToImpactProgram : DeclaredProgram → List ℕ → List ℕ → Outcome → Type 0
+ToImpactProgram said left right (done text) = TellsSame said left right text
+ToImpactProgram said left right (differs text) = TellsImpact said left right text
+ToImpactProgram said left right (policy_refused text) = LacksNamedPolicy said left right text
+ToImpactProgram said left right outcome = ⊥
 
 -- what is answered over the bytes of a text
 abbrev pub IsImpactAnswer : List ℕ → List ℕ → List ℕ → Outcome → Type 0
 IsImpactAnswer left right bytes (text_refused text) = HasFault bytes text
-IsImpactAnswer left right bytes outcome = (said : DeclaredProgram) × Declares bytes said × ToProgram said left right outcome
+IsImpactAnswer left right bytes outcome = (said : DeclaredProgram) × Declares bytes said × ToImpactProgram said left right outcome

@@ -3,7 +3,7 @@ ghost use Rattle.std.specs.Prelude.{IfOk};
 ghost use Rattle.nk_names.specs.ProgramOf.{program_by};
 ghost use Rattle.nk_names.specs.ProgramValue.{IsProgram};
 ghost use Rattle.nk_reply.specs.Reply.{outcome_of};
-ghost use Rattle.nk_change_impact.specs.Impact.{IsImpactAnswer, ToProgram};
+ghost use Rattle.nk_change_impact.specs.Impact.{IsImpactAnswer, ToImpactProgram};
 
 use crate::text::impact_message;
 use nk_bisim::CompareError;
@@ -39,7 +39,7 @@ fn answer_to_program(
     program: Program,
 ) -> Result<CommandAnswer, AllocError>
     requires is { IsProgram program.fields program.topo program.lets }
-    ensures { IfOk result (λ s. ToProgram (program_by program) left.now right.now (outcome_of s)) }
+    ensures { IfOk result (λ s. ToImpactProgram (program_by program) left.now right.now (outcome_of s)) }
 {
     match named_difference(alloc, program, left, right) {
         Ok(answer) => {

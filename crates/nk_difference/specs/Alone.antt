@@ -13,8 +13,8 @@ abbrev pub HasAlone : Policy → Policy → Packet → Type 0
 HasAlone p q pk = (w : List Packet) × (y : Packet) × Gives p pk w y × ¬ (Gives q pk w y)
 
 -- the predicate keeps the packet
-abbrev pub Keeps : Policy → Packet → Type 0
-Keeps predicate pk = Gives predicate pk [] pk
+abbrev pub KeepsPacket : Policy → Packet → Type 0
+KeepsPacket predicate pk = Gives predicate pk [] pk
 
 -- The reduced tree of the packets from which the first policy has a history of its own. A leaf passes a packet as it is or
 -- drops it.
@@ -25,7 +25,7 @@ pub record IsTreeOfAlone (fields : FieldTable) (p q : Policy) (d : SetTree) : Ty
 
 -- The printed predicate of these packets: it keeps exactly them, of the packets in range.
 pub record IsPredicateOfAlone (fields : FieldTable) (p q predicate : Policy) : Type 0 where
-  pub keeps : (pk : Packet) → IsPacket fields pk → Keeps predicate pk ↔ HasAlone p q pk
+  pub keeps : (pk : Packet) → IsPacket fields pk → KeepsPacket predicate pk ↔ HasAlone p q pk
   pub tree : SetTree
   pub tree_is : IsTreeOfAlone fields p q tree
   pub printed : predicate ≡ predicate_of tree
