@@ -1,4 +1,4 @@
-# Bash completion for nk. It completes the commands, and the names of policies and predicates where it can see the text: where the command
+# Bash completion for nk and nk_address. It completes the commands, and the names of policies and predicates where it can see the text: where the command
 # has `< FILE` after the word nk, before or after the cursor. It can't see a text that comes from a pipe or a here-document, nor a file that
 # is named by a variable, a pattern or a substitution; then it offers no names. It reads the first 4 MiB of the file and runs nothing of it.
 
@@ -55,7 +55,9 @@ _nk_text_file() {
 
 _nk() {
     local cur=$2 command= place=0 kinds= kind file at
+    local commands='compile equal check apart waypoint check_apart check_waypoint trace fly update compact virtual gen job'
     COMPREPLY=()
+    [[ ${1##*/} == nk_address ]] && commands='in out'
     # what stands before the cursor, redirections left out
     for ((at = 1; at < COMP_CWORD; at++)); do
         if [[ ${COMP_WORDS[at]} == [\<\>]* ]]; then
@@ -77,7 +79,7 @@ _nk() {
         fi
     done
     if [[ -z $command ]]; then
-        mapfile -t COMPREPLY < <(compgen -W 'compile equal check apart waypoint check_apart check_waypoint trace fly update compact virtual gen job' -- "$cur")
+        mapfile -t COMPREPLY < <(compgen -W "$commands" -- "$cur")
         return
     fi
     # of each argument, whether it is the name of a policy (p) or of a predicate (t)
@@ -94,4 +96,4 @@ _nk() {
     mapfile -t COMPREPLY < <(compgen -W "$(head -c 4194304 -- "$file" | _nk_names "$kind")" -- "$cur")
 }
 
-complete -F _nk nk
+complete -F _nk nk nk_address

@@ -1,0 +1,9 @@
+pub mod Answer
+pub mod Cutting
+pub mod Inward
+pub mod Laws
+pub mod Lexemes
+pub mod Outward
+pub mod Run
+pub mod Translation
+pub mod Words

@@ -1,0 +1,365 @@
+//! Addresses become numbers.
+ghost use Rattle.std.specs.Prelude.{◌≡◌, ◌+◌, ◌-◌, ◌<◌, ◌≤◌, ◌^◌, ◌++◌, ◌==◌, codes, length, decimal, take, drop, not, Ok, Err, Option, IfErr, OnOk};
+ghost use Rattle.nk_number_forms.specs.Forms.{address_of, has_dots, has_ones_after, place_of_dots};
+ghost use Rattle.nk_notation.specs.Inward.{after_byte, after_word, both_atoms, inward, is_tables, kind_after, kind_beyond, place_after, plain_in, prefix_in, prefix_with, range_in, run_in, size_at, size_of_kind, slash_in, small_size, spelled, text_start, word_in};
+ghost use Rattle.nk_number_forms.specs.Numbers.{number_within};
+ghost use Rattle.nk_notation.specs.Translation.{Puts};
+
+use crate::Notation;
+use crate::context::TextKind;
+use nk_number_forms::{
+    Atom, Cause, Fault, Stop, WordStop, address_of, atom_of, block_size, dropped, first_of,
+    is_dotted, is_white, last_of, number_within, parted, place_of, place_of_dots, put, put_number,
+};
+
+/// What is known of the text before a lexeme.
+#[derive(Clone, Copy)]
+pub struct Inward {
+    line: u64,
+    kind: TextKind,
+    place: Place,
+    last: u8,
+}
+
+/// Where a size of a field may stand.
+#[derive(Clone, Copy)]
+pub(crate) enum Place {
+    /// After none of these.
+    Elsewhere,
+    /// After the word `field`.
+    Field,
+    /// After `field` and a name.
+    Name,
+}
+
+impl Inward {
+    /// Before the first byte of a text.
+    pub fn new() -> Inward
+        ensures { result ≡ text_start }
+    {
+        Inward {
+            line: 1,
+            kind: TextKind::Unknown,
+            place: Place::Elsewhere,
+            last: 0,
+        }
+    }
+}
+
+impl Notation for Inward {
+    ghost made = { inward };
+
+    fn word(&mut self, out: &mut Vec<u8>, text: &[u8]) -> Result<(), Stop> {
+        match self.put_word(out, text) {
+            Ok(()) => {
+                self.pass_word(text);
+                Ok(())
+            }
+            Err(WordStop::NoMemory) => Err(Stop::NoMemory),
+            Err(WordStop::Refused(cause)) => {
+                let fault = Fault {
+                    line: self.line,
+                    cause,
+                };
+                match put(out, text) {
+                    Ok(()) => Err(Stop::Refused(fault)),
+                    Err(_) => Err(Stop::NoMemory),
+                }
+            }
+        }
+    }
+
+    fn byte(&mut self, out: &mut Vec<u8>, byte: u8) -> Result<(), Stop> {
+        match out.push(byte) {
+            Ok(()) => {
+                self.pass_byte(byte);
+                Ok(())
+            }
+            Err(_) => Err(Stop::NoMemory),
+        }
+    }
+
+    fn note(&mut self, out: &mut Vec<u8>, byte: u8) -> Result<(), Stop> {
+        match out.push(byte) {
+            Ok(()) => Ok(()),
+            Err(_) => Err(Stop::NoMemory),
+        }
+    }
+
+    fn end(&mut self, _out: &mut Vec<u8>) -> Result<(), Stop> {
+        Ok(())
+    }
+}
+
+impl Inward {
+    /// Goes past a word.
+    #[tactic(auto, unfolding(crate::specs::Inward::after_word))]
+    fn pass_word(&mut self, text: &[u8])
+        ensures { self.new ≡ after_word self.old text.now }
+    {
+        self.kind = kind_after(self.kind, text);
+        self.place = place_after(self.place, text);
+        self.last = last_of(text);
+    }
+
+    /// Goes past a byte outside words.
+    #[tactic(auto, unfolding(crate::specs::Inward::after_byte))]
+    fn pass_byte(&mut self, byte: u8)
+        ensures { self.new ≡ after_byte self.old byte }
+    {
+        if byte == b'\n' {
+            self.line = self.line.saturating_add(1);
+        }
+        self.kind = kind_beyond(self.kind, byte);
+        if !is_white(byte) {
+            self.place = Place::Elsewhere;
+        }
+        self.last = byte;
+    }
+
+    /// Puts what a word is written as at the end.
+    #[tactic(auto, unfolding(crate::specs::Inward::word_in))]
+    fn put_word(&self, out: &mut Vec<u8>, text: &[u8]) -> Result<(), WordStop>
+        ensures { Puts result (word_in self.now text.now) out.old.items out.new.items }
+    {
+        match size_at(self.place, text) {
+            Some(size) => put_number(out, size),
+            None => self.put_plain(out, text),
+        }
+    }
+
+    /// The same where no size is due.
+    #[tactic(auto, unfolding(crate::specs::Inward::plain_in, nk_number_forms::specs::Forms::first_byte))]
+    fn put_plain(&self, out: &mut Vec<u8>, text: &[u8]) -> Result<(), WordStop>
+        ensures { Puts result (plain_in self.now text.now) out.old.items out.new.items }
+    {
+        let tables = is_tables(self.kind);
+        match text {
+            [b'=', run @ ..] => put_run(out, tables, self.last != b':', b"=", run),
+            _ => put_run(out, tables, false, b"", text),
+        }
+    }
+}
+
+/// The largest value of a field of the kind that a word stands for, where a size is due.
+#[tactic(auto, unfolding(crate::specs::Inward::size_at))]
+fn size_at(place: Place, text: &[u8]) -> Option<u64>
+    ensures { result ≡ size_at place text.now }
+{
+    match place {
+        Place::Name => size_of_kind(text),
+        _ => None,
+    }
+}
+
+/// The largest value of a field of the kind that a word stands for.
+#[tactic(auto, unfolding(crate::specs::Inward::size_of_kind))]
+fn size_of_kind(text: &[u8]) -> Option<u64>
+    ensures { result ≡ size_of_kind text.now }
+{
+    if text == b"ipv4".as_slice() {
+        Some(4_294_967_295)
+    } else if text == b"mac".as_slice() {
+        Some(281_474_976_710_655)
+    } else if text == b"ethertype".as_slice() || text == b"port".as_slice() {
+        Some(65_535)
+    } else {
+        small_size(text)
+    }
+}
+
+/// The same of the kinds of fewer than 16 binary digits.
+#[tactic(auto, unfolding(crate::specs::Inward::small_size))]
+pub(crate) fn small_size(text: &[u8]) -> Option<u64>
+    ensures { result ≡ small_size text.now }
+{
+    if text == b"vlan".as_slice() {
+        Some(4095)
+    } else if text == b"byte".as_slice() {
+        Some(255)
+    } else if text == b"bit".as_slice() {
+        Some(1)
+    } else {
+        None
+    }
+}
+
+/// Whether it is a table text.
+#[tactic(auto, unfolding(crate::specs::Inward::is_tables))]
+pub(crate) fn is_tables(kind: TextKind) -> bool
+    ensures { result ≡ is_tables kind }
+{
+    match kind {
+        TextKind::Tables => true,
+        _ => false,
+    }
+}
+
+/// The kind of a text once a word of it was read.
+#[tactic(auto, unfolding(crate::specs::Inward::kind_after))]
+pub(crate) fn kind_after(kind: TextKind, text: &[u8]) -> TextKind
+    ensures { result ≡ kind_after kind text.now }
+{
+    match kind {
+        TextKind::Unknown if text == b"tables".as_slice() => TextKind::Tables,
+        TextKind::Unknown => TextKind::Other,
+        kind => kind,
+    }
+}
+
+/// The kind of a text once a byte outside words was read.
+#[tactic(auto, unfolding(crate::specs::Inward::kind_beyond))]
+pub(crate) fn kind_beyond(kind: TextKind, byte: u8) -> TextKind
+    ensures { result ≡ kind_beyond kind byte }
+{
+    match kind {
+        TextKind::Unknown if !is_white(byte) => TextKind::Other,
+        kind => kind,
+    }
+}
+
+/// The place after a word.
+#[tactic(auto, unfolding(crate::specs::Inward::place_after, crate::specs::Inward::name_place))]
+fn place_after(place: Place, text: &[u8]) -> Place
+    ensures { result ≡ place_after place text.now }
+{
+    if text == b"field".as_slice() {
+        return Place::Field;
+    }
+    match place {
+        Place::Field if first_of(text) != b'=' => Place::Name,
+        _ => Place::Elsewhere,
+    }
+}
+
+/// Puts a run of bytes at the end, with these bytes before it, with each address as a number.
+#[tactic(auto, unfolding(crate::specs::Inward::run_in))]
+fn put_run(
+    out: &mut Vec<u8>,
+    tables: bool,
+    tests: bool,
+    lead: &[u8],
+    run: &[u8],
+) -> Result<(), WordStop>
+    ensures { Puts result (run_in tables tests lead.now run.now) out.old.items out.new.items }
+{
+    let dots = place_of_dots(run);
+    if dots < run.len() {
+        return put_range(out, lead, run, dots);
+    }
+    if place_of(b'/', run) < run.len() {
+        return put_slash(out, tables, tests, lead, run);
+    }
+    put_both(out, lead, atom_of(run), run, b"", Atom::Kept, b"")
+}
+
+/// The same of a run with `..` at a place.
+#[tactic(auto, unfolding(crate::specs::Inward::range_in))]
+fn put_range(out: &mut Vec<u8>, lead: &[u8], run: &[u8], dots: usize) -> Result<(), WordStop>
+    requires dots { dots ≡ place_of_dots run.now }
+    requires within { dots < length run.now }
+    ensures { Puts result (range_in lead.now run.now) out.old.items out.new.items }
+{
+    let low = &run[..dots];
+    let high = dropped(run, dots + 2);
+    if place_of_dots(high) < high.len() {
+        put(out, lead)?;
+        return put(out, run);
+    }
+    put_both(out, lead, atom_of(low), low, b"..", atom_of(high), high)
+}
+
+/// The same of a run with a `/`.
+#[tactic(auto, unfolding(crate::specs::Inward::slash_in, crate::specs::Inward::prefix_with))]
+fn put_slash(
+    out: &mut Vec<u8>,
+    tables: bool,
+    tests: bool,
+    lead: &[u8],
+    run: &[u8],
+) -> Result<(), WordStop>
+    ensures { Puts result (slash_in tables tests lead.now run.now) out.old.items out.new.items }
+{
+    let (front, length) = parted(b'/', run);
+    if !is_dotted(front) {
+        return put_both(out, lead, atom_of(front), front, b"/", Atom::Kept, length);
+    }
+    let Some(address) = address_of(front) else {
+        return Err(WordStop::Refused(Cause::Address));
+    };
+    let Some(digits) = number_within(32, length) else {
+        return Err(WordStop::Refused(Cause::Length));
+    };
+    put_prefix(out, tables, tests, lead, length, address, digits)
+}
+
+/// Puts a prefix at the end, as it stays in a table text, and as the range of its addresses where it is tested for.
+#[tactic(auto, unfolding(crate::specs::Inward::prefix_in))]
+fn put_prefix(
+    out: &mut Vec<u8>,
+    tables: bool,
+    tests: bool,
+    lead: &[u8],
+    length: &[u8],
+    address: u64,
+    digits: u64,
+) -> Result<(), WordStop>
+    requires address { address < 2 ^ 32 }
+    requires digits { digits ≤ 32 }
+    ensures { Puts result (prefix_in tables tests lead.now length.now address digits) out.old.items out.new.items }
+{
+    let size = block_size(digits);
+    if address % size != 0 {
+        return Err(WordStop::Refused(Cause::Ones));
+    }
+    if tables {
+        put(out, lead)?;
+        put_number(out, address)?;
+        put(out, b"/")?;
+        return put(out, length);
+    }
+    if !tests {
+        return Err(WordStop::Refused(Cause::Untested));
+    }
+    put(out, b" in ")?;
+    put_number(out, address)?;
+    put(out, b"..")?;
+    put_number(out, address + (size - 1))
+}
+
+/// Puts two atoms at the end, with these bytes before them and between them.
+#[tactic(auto, unfolding(crate::specs::Inward::both_atoms))]
+fn put_both(
+    out: &mut Vec<u8>,
+    lead: &[u8],
+    first: Atom,
+    first_text: &[u8],
+    between: &[u8],
+    second: Atom,
+    second_text: &[u8],
+) -> Result<(), WordStop>
+    ensures { Puts result (both_atoms lead.now first first_text.now between.now second second_text.now) out.old.items out.new.items }
+{
+    if let Atom::Faulty(cause) = first {
+        return Err(WordStop::Refused(cause));
+    }
+    if let Atom::Faulty(cause) = second {
+        return Err(WordStop::Refused(cause));
+    }
+    put(out, lead)?;
+    put_atom(out, first, first_text)?;
+    put(out, between)?;
+    put_atom(out, second, second_text)
+}
+
+/// Puts an atom at the end, as a number where it is one.
+#[tactic(auto, unfolding(crate::specs::Inward::spelled))]
+fn put_atom(out: &mut Vec<u8>, atom: Atom, text: &[u8]) -> Result<(), WordStop>
+    ensures ok { OnOk result (out.new.items ≡ out.old.items ++ spelled atom text.now) }
+    ensures err { IfErr result (λ e. e ≡ WordStop.NoMemory) }
+{
+    match atom {
+        Atom::Number(number) => put_number(out, number),
+        _ => put(out, text),
+    }
+}

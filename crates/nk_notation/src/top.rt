@@ -1,0 +1,94 @@
+//! The top call.
+ghost use Rattle.std.specs.Prelude.{◌≡◌, None, map, string_bytes};
+ghost use Rattle.nk_reply.specs.Use.{use_of};
+ghost use Rattle.nk_notation.specs.Answer.{AnswersTranslation, AnswersBy, IsTranslated, inward_text, outward_text};
+ghost use Rattle.nk_notation.specs.Outward.{named_form};
+ghost use Rattle.nk_notation.specs.Words.{direction_in, direction_of};
+
+use crate::inward::Inward;
+use crate::outward::{NamedField, Outward};
+use crate::pieces::translate;
+use crate::telling::{send, tell};
+use crate::words::{Asked, read_words};
+use nk_io::{Sink, Source};
+use nk_reply::Status;
+use std::alloc::Global;
+
+/// Translates the text that the source has, as the words ask for: `in` writes the addresses of the text as numbers, and
+/// `out FIELD=KIND ..` the values of these fields as addresses. It reads piece by piece, and what comes of a piece is written
+/// before the next one is read. So where the run ends early, `out` has the front of the translated text: at a malformed word what
+/// stands before the word, and the word as it stood. Then a line on `err` says why. After a write that fails nothing more is written.
+pub fn translate_by_words<S: Source, O: Sink, E: Sink>(
+    alloc: Global,
+    words: &[String],
+    source: &mut S,
+    out: &mut O,
+    err: &mut E,
+) -> Status
+    // What was read, written and told, and the status.
+    ensures answers { AnswersTranslation (direction_of (map (λ w. string_bytes w) words.now))
+        (use_of S.left S.faults source.old source.new)
+        (use_of O.taken O.faults out.old out.new) (use_of E.taken E.faults err.old err.new) result }
+    // No call was made on the source and on `out` where the words ask for no translation.
+    ensures unread { direction_of (map (λ w. string_bytes w) words.now) ≡ None → source.new ≡ source.old }
+    ensures unwritten { direction_of (map (λ w. string_bytes w) words.now) ≡ None → out.new ≡ out.old }
+{
+    match read_words(alloc, words) {
+        Ok(asked) => answer(alloc, asked, source, out, err),
+        Err(_) => send(err, b"no memory\n", Status::NoMemory),
+    }
+}
+
+/// The same of what the words ask for.
+#[tactic(auto, unfolding(crate::specs::Words::direction_in))]
+fn answer<S: Source, O: Sink, E: Sink>(
+    alloc: Global,
+    asked: Asked,
+    source: &mut S,
+    out: &mut O,
+    err: &mut E,
+) -> Status
+    ensures answers { AnswersBy (direction_in asked) (use_of S.left S.faults source.old source.new)
+        (use_of O.taken O.faults out.old out.new) (use_of E.taken E.faults err.old err.new) result }
+    ensures unread { direction_in asked ≡ None → source.new ≡ source.old }
+    ensures unwritten { direction_in asked ≡ None → out.new ≡ out.old }
+{
+    match asked {
+        Asked::In => translate_in(alloc, source, out, err),
+        Asked::Out(fields) => translate_out(alloc, fields, source, out, err),
+        Asked::Usage => send(
+            err,
+            b"usage: nk_address in | nk_address out FIELD=KIND ..\n",
+            Status::Usage,
+        ),
+    }
+}
+
+/// Writes the addresses of a text as numbers.
+fn translate_in<S: Source, O: Sink, E: Sink>(
+    alloc: Global,
+    source: &mut S,
+    out: &mut O,
+    err: &mut E,
+) -> Status
+    ensures { IsTranslated inward_text (use_of S.left S.faults source.old source.new)
+        (use_of O.taken O.faults out.old out.new) (use_of E.taken E.faults err.old err.new) result }
+{
+    let ending = translate(alloc, Inward::new(), source, out);
+    tell(ending, err)
+}
+
+/// Writes the values of these fields as addresses.
+fn translate_out<S: Source, O: Sink, E: Sink>(
+    alloc: Global,
+    fields: Vec<NamedField>,
+    source: &mut S,
+    out: &mut O,
+    err: &mut E,
+) -> Status
+    ensures { IsTranslated (outward_text (map named_form fields.items)) (use_of S.left S.faults source.old source.new)
+        (use_of O.taken O.faults out.old out.new) (use_of E.taken E.faults err.old err.new) result }
+{
+    let ending = translate(alloc, Outward::new(fields), source, out);
+    tell(ending, err)
+}

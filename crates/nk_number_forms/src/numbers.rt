@@ -1,0 +1,111 @@
+//! Numbers in decimal and hexadecimal digits.
+ghost use Rattle.std.specs.Prelude.{◌≡◌, ◌+◌, ◌-◌, ◌<◌, ◌≤◌, min, IfSome};
+ghost use Rattle.nk_lex.specs.Classes.{is_digit, is_white};
+ghost use Rattle.nk_lex.specs.Lex.{largest, value_of};
+ghost use Rattle.nk_number_forms.specs.Numbers.{hex_digit, hex_number, hex_value, is_hex, number_within, hexadecimal_pair};
+
+use itoa::Buffer;
+use nk_lex::LARGEST;
+
+/// Whether the byte is a decimal digit.
+pub fn is_digit(byte: u8) -> bool
+    ensures { result ≡ is_digit byte }
+{
+    b'0' <= byte && byte <= b'9'
+}
+
+/// Whether the byte is white space.
+pub fn is_white(byte: u8) -> bool
+    ensures { result ≡ is_white byte }
+{
+    byte == b' ' || byte == b'\t' || byte == b'\r' || byte == b'\n'
+}
+
+/// Whether the byte is a hexadecimal digit.
+#[tactic(auto, unfolding(crate::specs::Numbers::is_hex))]
+pub fn is_hex(byte: u8) -> bool
+    ensures { result ≡ is_hex byte }
+{
+    is_digit(byte) || (b'a' <= byte && byte <= b'f') || (b'A' <= byte && byte <= b'F')
+}
+
+/// The value of a hexadecimal digit.
+#[tactic(auto, unfolding(crate::specs::Numbers::hex_value))]
+fn hex_value(byte: u8) -> u64
+    ensures value { result ≡ hex_value byte }
+    ensures small { result < 208 }
+{
+    if is_digit(byte) {
+        u64::from(byte - b'0')
+    } else if b'a' <= byte {
+        u64::from(byte - 87)
+    } else {
+        u64::from(byte.saturating_sub(55))
+    }
+}
+
+/// The value of decimal digits; `LARGEST` + 1 for every number above `LARGEST`.
+fn value(digits: &[u8]) -> u64
+    ensures { result ≡ min (value_of digits.now) (largest + 1) }
+{
+    let mut value = 0;
+    for digit in digits {
+        let next = value * 10 + u64::from(digit.saturating_sub(b'0'));
+        value = next.min(LARGEST + 1);
+    }
+    value
+}
+
+/// The value of hexadecimal digits; `LARGEST` + 1 for every number above `LARGEST`.
+#[tactic(auto, unfolding(crate::specs::Numbers::hex_number))]
+pub fn hex_number(digits: &[u8]) -> u64
+    ensures { result ≡ min (hex_number digits.now) (largest + 1) }
+{
+    let mut value = 0;
+    for digit in digits {
+        let next = value * 16 + hex_value(*digit);
+        value = next.min(LARGEST + 1);
+    }
+    value
+}
+
+/// The number of at most `most` that the text writes in decimal digits, without leading zeros.
+#[tactic(auto, unfolding(crate::specs::Numbers::number_within))]
+pub fn number_within(most: u64, text: &[u8]) -> Option<u64>
+    requires { most ≤ largest }
+    ensures value { result ≡ number_within most text.now }
+    ensures small { IfSome result (λ n. n ≤ most) }
+{
+    let value = value(text);
+    let mut buffer = Buffer::new();
+    if value <= most && text == buffer.format(value).as_bytes() {
+        Some(value)
+    } else {
+        None
+    }
+}
+
+/// The byte that two hexadecimal digits write.
+#[tactic(auto, unfolding(crate::specs::Numbers::hexadecimal_pair))]
+pub fn pair_of(text: &[u8]) -> Option<u64>
+    ensures value { result ≡ hexadecimal_pair text.now }
+    ensures small { IfSome result (λ n. n < 4096) }
+{
+    match text {
+        [a, b] if is_hex(*a) && is_hex(*b) => Some(hex_value(*a) * 16 + hex_value(*b)),
+        _ => None,
+    }
+}
+
+/// The hexadecimal digit of a number below 16.
+#[tactic(auto, unfolding(crate::specs::Numbers::hex_digit))]
+pub fn hex_digit(value: u64) -> u8
+    requires { value < 16 }
+    ensures { result ≡ hex_digit value }
+{
+    if value < 10 {
+        b'0' + value as u8
+    } else {
+        87 + value as u8
+    }
+}
