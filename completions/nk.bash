@@ -1,6 +1,7 @@
-# Bash completion for nk and nk_address. It completes the commands, and the names of policies and predicates where it can see the text: where the command
-# has `< FILE` after the word nk, before or after the cursor. It can't see a text that comes from a pipe or a here-document, nor a file that
-# is named by a variable, a pattern or a substitution; then it offers no names. It reads the first 4 MiB of the file and runs nothing of it.
+# Bash completion for nk, nk_impact, nk_flows and nk_address. It completes the commands, and the names of policies and predicates where it can
+# see the text: where the command has `< FILE` after its first word, before or after the cursor. It can't see a text that comes from a pipe or a
+# here-document, nor a file that is named by a variable, a pattern or a substitution; then it offers no names. It reads the first 4 MiB of the
+# file and runs nothing of it.
 
 # The names of a program's text on standard input: of all policies, or of those that are predicates where the first word is `predicates`.
 _nk_names() {
@@ -57,7 +58,10 @@ _nk() {
     local cur=$2 command= place=0 kinds= kind file at
     local commands='compile equal check apart waypoint check_apart check_waypoint trace fly update compact virtual gen job'
     COMPREPLY=()
-    [[ ${1##*/} == nk_address ]] && commands='in out'
+    case ${1##*/} in
+        nk_address) commands='in out' ;;
+        nk_*) command=${1##*/} ;;
+    esac
     # what stands before the cursor, redirections left out
     for ((at = 1; at < COMP_CWORD; at++)); do
         if [[ ${COMP_WORDS[at]} == [\<\>]* ]]; then
@@ -82,10 +86,14 @@ _nk() {
         mapfile -t COMPREPLY < <(compgen -W "$commands" -- "$cur")
         return
     fi
+    if [[ $command == nk_flows && $place == 1 ]]; then
+        mapfile -t COMPREPLY < <(compgen -W 'groups flows' -- "$cur")
+        return
+    fi
     # of each argument, whether it is the name of a policy (p) or of a predicate (t)
     case $command in
         compile | compact | virtual) kinds=p ;;
-        equal | check | update) kinds=pp ;;
+        equal | check | update | nk_impact) kinds=pp ;;
         apart | check_apart) kinds=ptt ;;
         waypoint | check_waypoint) kinds=pttt ;;
     esac
@@ -96,4 +104,4 @@ _nk() {
     mapfile -t COMPREPLY < <(compgen -W "$(head -c 4194304 -- "$file" | _nk_names "$kind")" -- "$cur")
 }
 
-complete -F _nk nk nk_address
+complete -F _nk nk nk_impact nk_flows nk_address
