@@ -31,16 +31,16 @@ no_dot (x ∷ xs) h =
     ap (λ t. not t && list_all (λ b. not (b == 46)) xs) (not_that is_digit 46 x refl parts.0)
     ∙ ap (λ t. true && t) (no_dot xs parts.1)
 
-decimal_digits : (n : ℕ) → n ≤ largest → list_all is_digit (decimal n) ≡ true
+pub decimal_digits : (n : ℕ) → n ≤ largest → list_all is_digit (decimal n) ≡ true
 decimal_digits n le =
     let d = digits_of n le in
     ap (list_all is_digit) d.are ∙ ap (λ t. t && list_all is_digit d.rest) d.first_digit ∙ ap (λ t. true && t) d.digits
 
-take_all : (w r : List ℕ) → take (length w) (w ++ r) ≡ w
+pub take_all : (w r : List ℕ) → take (length w) (w ++ r) ≡ w
 take_all [] r = refl
 take_all (x ∷ xs) r = ap (λ l. x ∷ l) (take_all xs r)
 
-drop_past : (w : List ℕ) (b : ℕ) (r : List ℕ) → drop (length w + 1) (w ++ b ∷ r) ≡ r
+pub drop_past : (w : List ℕ) (b : ℕ) (r : List ℕ) → drop (length w + 1) (w ++ b ∷ r) ≡ r
 drop_past [] b r = refl
 drop_past (x ∷ xs) b r =
     let e : suc (length xs) + 1 ≡ suc (length xs + 1) = omega arith in

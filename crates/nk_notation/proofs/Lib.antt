@@ -2,5 +2,9 @@ pub mod Addresses
 pub mod Cuts
 pub mod Fields
 pub mod Kept
+pub mod ReadBack
 pub mod SoFar
 pub mod WrittenBytes
+pub mod WrittenForms
+pub mod WrittenHardware
+pub mod WrittenHex

@@ -1,10 +1,12 @@
 -- What holds of every text.
-use Rattle.std.specs.Prelude.{◌≡◌, ◌<◌, ◌^◌, ℕ, List, [], ◌∷◌, ◌++◌, None, Some, Ok}
+use Rattle.std.specs.Prelude.{◌≡◌, ◌<◌, ◌≤◌, ◌+◌, ◌-◌, ◌^◌, ℕ, Bool, true, false, List, [], ◌∷◌, ◌++◌, None, Some, Ok, codes, decimal}
 use Rattle.nk_notation.specs.declared.inward.Inward.{Inward}
 use Rattle.nk_notation.specs.Answer.{inward_text}
-use Rattle.nk_number_forms.specs.Forms.{address_of, address_text}
-use Rattle.nk_notation.specs.Inward.{after_byte, after_word, text_start, word_in}
+use Rattle.nk_number_forms.specs.Forms.{address_block_size, address_of, address_text, has_ones_after}
+use Rattle.nk_notation.specs.declared.outward.Form.{Form}
+use Rattle.nk_notation.specs.Inward.{after_byte, after_word, run_in, text_start, word_in}
 use Rattle.nk_notation.specs.Lexemes.{TextLexeme, Word, Byte, Note, lexemes_of}
+use Rattle.nk_notation.specs.Outward.{form_text, largest_in_form, number_out}
 
 -- the bytes of lexemes
 abbrev pub lexeme_bytes : List TextLexeme → List ℕ
@@ -31,3 +33,24 @@ TextsWithoutFormsStay = (text : List ℕ) → AllKept text_start (lexemes_of tex
 -- the address that a number is written as is read as the number
 abbrev pub AddressesAreReadBack : Type 0
 AddressesAreReadBack = (n : ℕ) → n < 2 ^ 32 → address_of (address_text n) ≡ Some n
+
+-- a value in the form of its kind is read as the value, whatever stands before it
+abbrev pub ValuesAreReadBack : Type 0
+ValuesAreReadBack = (f : Form) (n : ℕ) → n ≤ largest_in_form f → (tables tests : Bool) (lead : List ℕ)
+    → run_in tables tests lead (form_text f n) ≡ Ok (lead ++ decimal n)
+
+-- so is a range
+abbrev pub RangesAreReadBack : Type 0
+RangesAreReadBack = (f : Form) (x y : ℕ) → x ≤ largest_in_form f → y ≤ largest_in_form f → (tables tests : Bool) (lead : List ℕ)
+    → run_in tables tests lead (form_text f x ++ codes ".." ++ form_text f y) ≡ Ok (lead ++ decimal x ++ codes ".." ++ decimal y)
+
+-- A prefix that is tested for is read as the range of its addresses. In a table text it is read as a prefix.
+abbrev pub PrefixesAreReadBack : Type 0
+PrefixesAreReadBack = (n k : ℕ) → n < 2 ^ 32 → k ≤ 32 → has_ones_after n k ≡ false → (tests : Bool) (lead : List ℕ)
+    → (run_in false true lead (address_text n ++ codes "/" ++ decimal k) ≡ Ok (codes " in " ++ decimal n ++ codes ".." ++ decimal (n + (address_block_size k - 1))))
+    × (run_in true tests lead (address_text n ++ codes "/" ++ decimal k) ≡ Ok (lead ++ decimal n ++ codes "/" ++ decimal k))
+
+-- a number that `in` leaves as it is comes back as it was from the form that `out` writes it in
+abbrev pub NumbersComeBack : Type 0
+NumbersComeBack = (f : Form) (w : List ℕ) (tables tests : Bool) (lead : List ℕ) → run_in tables tests lead w ≡ Ok (lead ++ w)
+    → run_in tables tests lead (number_out f w) ≡ Ok (lead ++ w)
