@@ -78,7 +78,8 @@ def certificate(space, runs):
 
 
 def tag_sets(space, runs):
-    """GLOSSARY, IsTagSet: the last numbers "after an odd number of them from a start packet; the tag sets in order"."""
+    """GLOSSARY, IsTagSet: the last numbers "after an odd number of records from a start packet; the tag sets in
+    order"."""
     return [frozenset(it) for it in runs.position_sets(space.located(), every=2)]
 
 
