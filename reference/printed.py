@@ -128,8 +128,8 @@ class Compiled:
         return rows
 
     def tag_rows(self, switch, tag, members):
-        """PROMISES, Statuses 0 and 1, by command: "the first tag set of the class under which the packet is met there;
-        where the packet is met under none, the first tag set of the class"."""
+        """PROMISES, Statuses 0 and 1, by command: "the first tag set of the class under which the packet is met there.
+        If the packet is met under none, the first tag set of the class acts"."""
 
         def leaf(x):
             member = next((at for at in members if x in self.met.get(at, ())), members[0])
