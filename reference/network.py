@@ -86,7 +86,7 @@ class Update:
 
     def may(self, switch):
         """GUIDE 5: "A switch may do this step once all switches have done the first"; "once all switches have done the
-        second and no copy with an old tag is on its way"."""
+        second and no copy with an old tag is in flight"."""
         if self.done[switch] == 3 or min(self.done.values()) < self.done[switch]:
             return False
         return self.done[switch] < 2 or all(not 0 < copy[self.old.tag] <= self.old_tags for _, _, copy in self.flying)

@@ -126,7 +126,7 @@ def emitted(tables, rows, packet):
 
 
 def agrees(tables, match, packet):
-    """GUIDE 4: A match "`f=v/len`, a *prefix*, is for all values that have the same first len binary digits as v"."""
+    """GUIDE 4: A match "`f=v/len`, a *prefix*, matches all values that have the same first len binary digits as v"."""
     f, value, length = match
     rest = digits_of(tables.fields[f][1]) - length
     return packet[f] >> rest == value >> rest
