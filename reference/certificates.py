@@ -51,9 +51,9 @@ class Judge:
         tell_apart(left | right)
         tell_apart(nexts)
         if left != right:
-            return "finals"  # REFERENCE, Certificates: "both policies end at the same packets without a record"
-        # REFERENCE, Certificates: "some row has exactly the numbers of the dups that record it, and that row's
-        # predicate has the recorded packet".
+            return "finals"  # REFERENCE, Certificates: "both policies end at the same packets where they end without a further record"
+        # REFERENCE, Certificates: "Some row has exactly the numbers of the dups that record it, and the predicate
+        # of this row keeps the recorded packet".
         met = [numbers in self.rows and keeps(self.rows[numbers], y) for y, numbers in nexts.items()]
         return "valid" if all(met) else "hop"
 

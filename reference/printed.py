@@ -84,8 +84,8 @@ def tag_sets(space, runs):
 
 
 def classes(space, policy, sets):
-    """README, The commands: "one tag for all tag sets after which the policy still gives the same histories"; what
-    tells two tags apart."""
+    """README, The commands: "one tag for all tag sets after which the policy gives the same histories"; what
+    distinguishes two tags."""
     runs = Runs(policy, policy)
     firsts, numbers, aparts = [], [], {}
     for at in sets:

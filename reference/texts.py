@@ -39,7 +39,7 @@ def demand(holds, token, words):
 KEYWORDS = "field tag switch ports link let certificate row start id drop dup".split()
 KEYWORDS += "tables table group out in virtual fabric by".split()
 # REFERENCE, Program texts: "Spaces, tabs, carriage returns, line feeds and comments stand between tokens; a comment
-# goes from `#` to the end of the line"; "each lexeme is as long as it can be".
+# goes from `#` to the end of the line"; "each token is as long as it can be".
 LEXEME = re.compile(
     rb"(?P<space>[ \t\r\n]+|\#[^\n]*)|(?P<NAME>[A-Za-z_][A-Za-z0-9_]*)|(?P<NUMBER>[0-9]+)"
     rb"|(?P<symbol>:=|=>|->|\.\.|[+;*~()=:,\[\]/])"
@@ -260,7 +260,7 @@ class Program:
             case ["virtual", ends, "by", name]:
                 self.add_link(self.virtuals, *ends, name)
                 demand(name in self.fabrics, name, "unknown name")
-            case [word, name, "=", tree]:  # GUIDE 3: "Only virtual links know the names of fabrics"
+            case [word, name, "=", tree]:  # GUIDE 3: "Only a `virtual` line may use the name of a fabric"
                 policies = self.lets if word == "let" else self.fabrics
                 demand(name not in policies, name, "let twice")
                 policies[name] = policy = mapped(tree, lambda leaf: self.written(leaf, self.lets))
