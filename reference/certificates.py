@@ -51,7 +51,7 @@ class Judge:
         tell_apart(left | right)
         tell_apart(nexts)
         if left != right:
-            return "finals"  # REFERENCE, Certificates: "both policies end at the same packets where they end without a further record"
+            return "finals"  # REFERENCE, Certificates: "both policies end, without a further record, at the same packets"
         # REFERENCE, Certificates: "Some row has exactly the numbers of the dups that record it, and the predicate
         # of this row keeps the recorded packet".
         met = [numbers in self.rows and keeps(self.rows[numbers], y) for y, numbers in nexts.items()]
