@@ -1,2 +1,3 @@
 pub mod Impact
 pub mod Ends
+pub mod Succeeding

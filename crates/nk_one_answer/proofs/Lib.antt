@@ -6,3 +6,5 @@ pub mod Answers
 pub mod Compacting
 pub mod Updating
 pub mod Virtualizing
+pub mod FirstKept
+pub mod OneImpact

@@ -1,4 +1,4 @@
-//! A law, and no code: there is one answer.
+//! Laws, and no code: there is one answer.
 #![tactic(auto)]
 
 pub mod laws;

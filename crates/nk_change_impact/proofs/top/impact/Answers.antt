@@ -1,0 +1,22 @@
+use Rattle.nk_change_impact.proofs.Endings.{caused, complete, tells_read, tells_usage, tells_write}
+use Rattle.nk_change_impact.proofs.Succeeding.{succeeds}
+use Rattle.nk_change_impact.proofs.top.impact.Goals as goal
+
+-- all of them follow from how the run ends
+pub returns-clause-causes : goal.returns-clause-causes
+returns-clause-causes g c = caused _ _ _ _ _ c.answer_words.ensures.ends
+
+pub returns-clause-complete : goal.returns-clause-complete
+returns-clause-complete g c = complete _ _ _ _ _ c.answer_words.ensures.ends
+
+pub returns-clause-succeeds : goal.returns-clause-succeeds
+returns-clause-succeeds g c = succeeds _ _ _ _ _ c.answer_words.ensures.ends
+
+pub returns-clause-read_faults : goal.returns-clause-read_faults
+returns-clause-read_faults g c = tells_read _ _ _ _ _ c.answer_words.ensures.ends
+
+pub returns-clause-write_faults : goal.returns-clause-write_faults
+returns-clause-write_faults g c = tells_write _ _ _ _ _ c.answer_words.ensures.ends
+
+pub returns-clause-usage : goal.returns-clause-usage
+returns-clause-usage g c = tells_usage _ _ _ _ _ c.answer_words.ensures.ends
