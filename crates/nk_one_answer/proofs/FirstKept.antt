@@ -8,7 +8,7 @@ use Rattle.nk_cert.specs.Equality.{Side, on_left, on_right, IsOfOneAlone, IsLeas
 use Rattle.nk_difference.specs.Alone.{KeepsPacket}
 use Rattle.nk_difference.specs.Difference.{AreTheirPredicates}
 use Rattle.nk_compile.proofs.Orders.{one_least}
-use Rattle.nk_one_answer.specs.FirstKept.{side_predicate, IsKept, StartsAlone, IsFirstKept}
+use Rattle.nk_one_answer.specs.FirstKept.{side_predicate, EitherKeeps, StartsAlone, IsFirstKept}
 
 module _ (fields : FieldTable) (p q : Policy) where
   in_range : (side : Side) (f : Found) → IsOfOneAlone fields p q side f → IsPacket fields f.start
@@ -21,12 +21,12 @@ module _ (fields : FieldTable) (p q : Policy) where
     side_keeps on_left f h = (k.left_is.keeps f.start h.0).1 (f.records, f.last, h.1, h.2)
     side_keeps on_right f h = (k.right_is.keeps f.start h.0).1 (f.records, f.last, h.1, h.2)
 
-    kept_by : (side : Side) (pk : Packet) → KeepsPacket (side_predicate side left right) pk → IsKept left right pk
+    kept_by : (side : Side) (pk : Packet) → KeepsPacket (side_predicate side left right) pk → EitherKeeps left right pk
     kept_by on_left pk h = inl h
     kept_by on_right pk h = inr h
 
     module _ (side : Side) (f : Found) (least : IsLeastDifference fields p q side f) where
-      start_kept : IsKept left right f.start
+      start_kept : EitherKeeps left right f.start
       start_kept = kept_by side f.start (side_keeps side f least.0)
 
       before_or_same : (g : Found) → ((s : Side) × IsOfOneAlone fields p q s g) → (f ≡ g) ⊎ IsLess f g

@@ -18,8 +18,8 @@ side_predicate on_left left right = left
 side_predicate on_right left right = right
 
 -- one of the predicates keeps the packet
-abbrev pub IsKept : Policy → Policy → Packet → Type 0
-IsKept left right pk = KeepsPacket left pk ⊎ KeepsPacket right pk
+abbrev pub EitherKeeps : Policy → Policy → Packet → Type 0
+EitherKeeps left right pk = KeepsPacket left pk ⊎ KeepsPacket right pk
 
 -- one policy alone has a history from the packet with so many records
 abbrev pub StartsAlone : FieldTable → Policy → Policy → Packet → ℕ → Type 0
@@ -30,10 +30,10 @@ StartsAlone fields p q pk count =
 -- alone has takes more records than the shortest from this packet, or as many, and then that packet isn't a lesser one.
 pub record IsFirstKept (fields : FieldTable) (p q left right : Policy) (pk : Packet) : Type 0 where
   pub range : IsPacket fields pk
-  pub kept : IsKept left right pk
+  pub kept : EitherKeeps left right pk
   pub count : ℕ
   pub starts : StartsAlone fields p q pk count
-  pub first : (other : Packet) (n : ℕ) → IsKept left right other → StartsAlone fields p q other n
+  pub first : (other : Packet) (n : ℕ) → EitherKeeps left right other → StartsAlone fields p q other n
       → (count < n) ⊎ ((count ≡ n) × ((pk ≡ other) ⊎ Precedes pk other))
 
 -- The bytes declare policies of both names. One text shows the least history that one of them alone has, and the other has the
