@@ -32,3 +32,8 @@ under_or_not st (p ∷ ps) i z = elim (under_or_not st ps i z) [
     ]
   ]
 ]
+
+-- a list of no length
+pub empty_list : (ps : List (ℕ × ℕ)) → length ps ≡ 0 → ps ≡ []
+empty_list [] e = refl
+empty_list (p ∷ ps) e = absurd (omega (arith, e))

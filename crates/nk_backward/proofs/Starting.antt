@@ -28,8 +28,7 @@ use Rattle.nk_backward.specs.Transitions.{explored_entries, AreAllGiven, IsLed, 
 use Rattle.nk_backward.specs.Closures.{IsClosure}
 use Rattle.nk_backward.specs.Starts.{StartsBreak, AreStarts, of_side, IsSideViolation, LeadToSide, StandUnder}
 use Rattle.nk_backward.proofs.Listing.{under_entries, each_entry}
-use Rattle.nk_backward.proofs.Tracing.{led_in_range, led_on}
-use Rattle.nk_backward.proofs.Taking.{leads_on}
+use Rattle.nk_backward.proofs.Taking.{leads_on, leads_grow}
 use Rattle.nk_backward.proofs.Sided.{side_has, has_side}
 
 -- the packets under a set that has an entry
@@ -52,13 +51,6 @@ under_none st new back s x r none h pred = record {
   goes = λ z w m. absurd (empty_not new r z h w.0 m);
   comes = λ z w hx u. absurd (not_found back s none (under_named st back s z u));
 }
-
--- ways as the store grows, to a goal that follows
-leads_grow : (a b : StoreState) (ts : List Transitions) (Goal Next : ℕ → List ℕ → Type 0) → Grows a b → AreAllGiven a ts → ((i : ℕ) (z : List ℕ) → IsStorePacket a z → Goal i z → Next i z) →
-    (n i : ℕ) (z : List ℕ) → IsStorePacket a z → LeadsInto a ts Goal n i z → LeadsInto b ts Next n i z
-leads_grow a b ts Goal Next g given f zero i z w l = f i z w l
-leads_grow a b ts Goal Next g given f (suc n) i z w l =
-    (l.0, l.1, led_on a b ts i z l.0 l.1 g given l.2, leads_grow a b ts Goal Next g given f n l.0 l.1 (led_in_range a ts i z l.0 l.1 given w l.2) l.3)
 
 -- from violations by their closure
 pub lead_to_side_of : (st s1 s2 new : StoreState) (ss : List (List ℕ)) (ts : List Transitions) (entries : List (ℕ × ℕ)) (bad : List ℕ → List ℕ → List Out) (side : Side) (s x : ℕ) (goal back : List (ℕ × ℕ)) (r : ℕ) → Grows st s1 → Grows s1 s2 → IsId st x → AreAllGiven st ts →
