@@ -1,5 +1,5 @@
 -- Packets that come under sets, in turn.
-use Rattle.std.proofs.Common.{◌≡◌, ℕ, ◌<◌, ◌+◌, ◌⊎◌, ◌&&◌, true, false, inl, inr, refl, sym, ◌∙◌, ap, subst, List, [], length}
+use Rattle.std.proofs.Common.{◌≡◌, ℕ, ◌⊎◌, true, false, inl, inr, refl, sym, ◌∙◌, subst, List}
 use Rattle.nk_store.specs.StoreState.{StoreState, IsWhole, IsStorePacket, Grows}
 use Rattle.nk_store.proofs.Stores.{grows_on}
 use Rattle.nk_sets.specs.PacketSets.{is_in, IsSet}

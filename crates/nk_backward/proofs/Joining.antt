@@ -1,13 +1,12 @@
 -- The diagrams of each set put together.
-use Rattle.std.proofs.Common.{◌≡◌, ℕ, zero, suc, ◌<◌, ◌≤◌, ◌+◌, ◌-◌, ◌⊎◌, true, false, inl, inr, refl, sym, ◌∙◌, ap, subst, arith, cond, eqb, List, [], ◌∷◌, ◌++◌, length, length-append, get_or, Option, Some, None, Contains}
+use Rattle.std.proofs.Common.{◌≡◌, ℕ, zero, suc, ◌<◌, ◌≤◌, ◌+◌, ◌-◌, ◌⊎◌, true, false, inl, inr, refl, sym, ◌∙◌, ap, subst, arith, cond, eqb, List, [], ◌∷◌, ◌++◌, length, length-append, get_or, Some, None, Contains}
 use Rattle.std.specs.List.Sorted.{IsPermutation}
 use Rattle.std.specs.Map.{lookup}
 use Rattle.std.proofs.lemmas.Bool.Decides.{eqb_tells, leb_tells}
 use Rattle.std.proofs.lemmas.List.{get_or_append_left}
 use Rattle.std.proofs.lemmas.List.Sorted.{Contains-permutation, IsPermutation-sym}
 use Rattle.nk_store.specs.declared.node.Out.{Out}
-use Rattle.nk_store.specs.StoreState.{StoreState, IsId, IsWhole, HasLeaves, look, Grows}
-use Rattle.nk_store.proofs.Stores.{grows_on}
+use Rattle.nk_store.specs.StoreState.{StoreState, IsId, HasLeaves, look, Grows}
 use Rattle.nk_apply.specs.Leaves.{merged}
 use Rattle.nk_apply.specs.Unions.{AreIds, unions}
 use Rattle.nk_apply.proofs.Members.{merged_members}

@@ -1,5 +1,5 @@
 -- Transitions by their places, and a diagram for each of them.
-use Rattle.std.proofs.Common.{◌≡◌, ℕ, zero, suc, ◌<◌, ◌≤◌, ◌+◌, ◌-◌, ◌⊎◌, ◌↔◌, Bool, true, false, inl, inr, refl, sym, ◌∙◌, ap, subst, arith, List, [], ◌∷◌, ◌++◌, length, length-append, get_or, Contains}
+use Rattle.std.proofs.Common.{◌≡◌, ℕ, zero, suc, ◌<◌, ◌≤◌, ◌+◌, ◌-◌, ◌⊎◌, ◌↔◌, true, false, inl, inr, refl, sym, ◌∙◌, ap, subst, arith, List, [], ◌∷◌, ◌++◌, length, length-append, get_or, Contains}
 use Rattle.std.proofs.lemmas.Bool.Decides.{eqb_tells}
 use Rattle.std.proofs.lemmas.List.{get_or_append_left, get_or-append_right}
 use Rattle.std.proofs.lemmas.List.Elements.{Contains-append_left, Contains-append_right, Contains-append_cases}
@@ -17,7 +17,7 @@ use Rattle.nk_outs.proofs.Givens.{entry_at}
 use Rattle.nk_steps.proofs.Locals.{acts_in_range}
 use Rattle.nk_backward.specs.declared.transitions.Transitions.{Transitions}
 use Rattle.nk_backward.specs.Transitions.{transitions_at, AreAllGiven}
-use Rattle.nk_backward.specs.Predecessors.{out_at, ArePlacesBelow, place_at, numbered, IsInto, LeavesFrom, made_by, diagram_at, HaveDiagrams, ShowsBelow, IsMarked, AreMarked}
+use Rattle.nk_backward.specs.Predecessors.{out_at, ArePlacesBelow, place_at, numbered, made_by, diagram_at, HaveDiagrams, ShowsBelow, IsMarked, AreMarked}
 use Rattle.nk_backward.proofs.Tracing.{at_place}
 
 -- the only item of a list

@@ -1,12 +1,11 @@
 -- How many packets, of those in range, are not under the sets of the transitions: a number that falls with each pass.
 use Rattle.std.proofs.Common.{◌≡◌, ℕ, zero, suc, ◌<◌, ◌≤◌, ◌+◌, ◌⊎◌, ◌||◌, Bool, true, false, inl, inr, refl, sym, ◌∙◌, ap, subst, arith, List, [], ◌∷◌, ◌++◌, length, get_or, cond, eqb}
 use Rattle.std.proofs.lemmas.Bool.Decides.{eqb_tells}
-use Rattle.nk_store.specs.StoreState.{StoreState, IsStorePacket, Grows}
+use Rattle.nk_store.specs.StoreState.{StoreState, IsStorePacket}
 use Rattle.nk_store.specs.Nodes.{InRange}
 use Rattle.nk_apply.proofs.Members.{Has as Among}
 use Rattle.nk_sets.specs.PacketSets.{is_in}
 use Rattle.nk_determ.specs.Pairs.{Under}
-use Rattle.nk_outs.proofs.Kept.{packet_on}
 use Rattle.nk_goal.proofs.Everything.{before, spread, up_to, packets_from, among_packets}
 use Rattle.nk_backward.specs.declared.transitions.Transitions.{Transitions}
 use Rattle.nk_backward.specs.Transitions.{transitions_at}

@@ -1,21 +1,21 @@
 -- The transitions into each set, by their numbers.
-use Rattle.std.proofs.Common.{◌≡◌, ℕ, ◌<◌, ◌≤◌, ◌+◌, ◌⊎◌, Bool, true, false, inl, inr, refl, sym, ◌∙◌, ap, subst, arith, eqb, List, [], ◌∷◌, length, Some, None, Contains}
+use Rattle.std.proofs.Common.{◌≡◌, ℕ, ◌+◌, true, refl, sym, ◌∙◌, ap, subst, arith, eqb, List, [], length, Some, None, Contains}
 use Rattle.std.specs.List.Sorted.{IsPermutation}
 use Rattle.std.specs.Map.{lookup}
 use Rattle.std.proofs.lemmas.List.Sorted.{IsPermutation-sym}
 use Rattle.nk_field.specs.Act.{applied}
 use Rattle.nk_store.specs.declared.node.Out.{Out}
-use Rattle.nk_store.specs.StoreState.{StoreState, IsWhole, IsStorePacket, HasLeaves, look, Grows}
+use Rattle.nk_store.specs.StoreState.{StoreState, IsStorePacket, HasLeaves, look, Grows}
 use Rattle.nk_store.proofs.Stores.{grows_on}
 use Rattle.nk_apply.specs.Leaves.{guarded}
 use Rattle.nk_sets.specs.PacketSets.{is_in}
 use Rattle.nk_outs.specs.declared.outs.Given.{Given}
-use Rattle.nk_outs.specs.Outs.{GivesAny, IsByOut, sent_to}
+use Rattle.nk_outs.specs.Outs.{IsByOut, sent_to}
 use Rattle.nk_outs.proofs.Kept.{packet_on, packet_back, has_back}
 use Rattle.nk_witness.proofs.Pulling.{out_is}
 use Rattle.nk_backward.specs.declared.transitions.Transitions.{Transitions}
 use Rattle.nk_backward.specs.Transitions.{transitions_at, AreAllGiven, IsLed}
-use Rattle.nk_backward.specs.Predecessors.{out_at, ArePlacesBelow, place_at, numbered, IsInto, LeavesFrom, made_by, ShowsBelow, Shows, FindDiagrams, AreMarked, AreJoined, ArePredecessors, AreShownAt}
+use Rattle.nk_backward.specs.Predecessors.{out_at, ArePlacesBelow, place_at, numbered, IsInto, LeavesFrom, made_by, ShowsBelow, AreMarked, AreJoined, ArePredecessors, AreShownAt}
 use Rattle.nk_backward.proofs.Tracing.{given_in_range}
 use Rattle.nk_backward.proofs.Marking.{place_is, number_of, guarded_in, guarded_has, guarded_some}
 use Rattle.nk_backward.proofs.Joining.{shows_moved, shown_on, shown_back}

@@ -1,5 +1,5 @@
 -- What transitions lead to a violation is what starts a history that breaks.
-use Rattle.std.proofs.Common.{◌≡◌, ℕ, zero, suc, ◌<◌, ◌≤◌, ◌+◌, ◌&&◌, inl, inr, refl, sym, ◌∙◌, ap, subst, arith, true, false, Some, None, List, [], ◌∷◌, length, get_or, eqb, Contains}
+use Rattle.std.proofs.Common.{◌≡◌, ℕ, zero, suc, ◌<◌, ◌≤◌, ◌&&◌, inl, refl, sym, ◌∙◌, ap, subst, arith, true, false, Some, None, List, [], ◌∷◌, length, get_or, eqb, Contains}
 use Rattle.std.specs.Map.{lookup}
 use Rattle.nk_field.specs.Act.{applied}
 use Rattle.nk_field.specs.Order.{Found}
@@ -11,20 +11,18 @@ use Rattle.nk_apply.specs.Predicates.{IsPredicate}
 use Rattle.nk_sets.specs.PacketSets.{has_some_out, is_in, IsSet}
 use Rattle.nk_sets.proofs.SetLemmas.{guarded_out, both_pass, pass_both, set_grows}
 use Rattle.nk_determ.specs.Sets.{SetsGrow, HasEachSetOnce}
-use Rattle.nk_determ.specs.Pairs.{Node, Under, Once, EachPair, AreStates, AreLabelsBelow, IsPair, ArePairs, IsStart, IsStep, IsGood}
-use Rattle.nk_determ.specs.Levels.{At, IsViolation, AreLevels}
-use Rattle.nk_goal.specs.Entries.{HaveSets}
-use Rattle.nk_determ.specs.Breaks.{Walks, IsBreak}
+use Rattle.nk_determ.specs.Pairs.{Node, Under, Once, EachPair, AreLabelsBelow, IsPair, ArePairs, IsStep, IsGood}
+use Rattle.nk_determ.specs.Levels.{At, AreLevels}
+use Rattle.nk_determ.specs.Breaks.{Walks}
 use Rattle.nk_witness.specs.Finds.{target_of}
-use Rattle.nk_determ.specs.Breaks.{MakesWithTarget}
 use Rattle.nk_witness.specs.Backs.{AreViolationsSoFar}
 use Rattle.nk_witness.specs.declared.found.Side.{Side}
-use Rattle.nk_outs.proofs.Kept.{Has, packet_on, packet_back, has_on, has_back}
+use Rattle.nk_outs.proofs.Kept.{Has, packet_on, has_on, has_back}
 use Rattle.nk_goal.proofs.Growing.{sets_known, sets_same, under_on, under_back, under_named, named_known, packets_of, pair_on, each_weaker}
 use Rattle.nk_goal.proofs.Adding.{not_found, found_under, under_found}
 use Rattle.nk_witness.proofs.Pulling.{empty_not}
 use Rattle.nk_backward.specs.declared.transitions.Transitions.{Transitions}
-use Rattle.nk_backward.specs.Transitions.{explored_entries, AreAllGiven, IsLed, LeadsInto, AreTransitions}
+use Rattle.nk_backward.specs.Transitions.{explored_entries, AreAllGiven, LeadsInto, AreTransitions}
 use Rattle.nk_backward.specs.Closures.{IsClosure}
 use Rattle.nk_backward.specs.Starts.{StartsBreak, AreStarts, of_side, IsSideViolation, LeadToSide, StandUnder}
 use Rattle.nk_backward.proofs.Listing.{under_entries, each_entry}

@@ -1,29 +1,26 @@
 -- Outs taken back along the transitions that they stand for, and a frontier taken back until no more packets come.
-use Rattle.std.proofs.Common.{◌≡◌, ℕ, zero, suc, ◌<◌, ◌≤◌, ◌+◌, ◌⊎◌, ◌&&◌, true, false, inl, inr, refl, sym, ◌∙◌, ap, subst, arith, List, [], ◌∷◌, ◌++◌, length, get_or, take, Contains}
+use Rattle.std.proofs.Common.{◌≡◌, ℕ, zero, suc, ◌<◌, ◌+◌, ◌⊎◌, ◌&&◌, true, inl, inr, refl, sym, ◌∙◌, ap, subst, arith, List, [], ◌∷◌, ◌++◌, length}
 use Rattle.std.proofs.lemmas.Bool.Decides.{eqb_tells}
-use Rattle.std.specs.Map.{lookup}
 use Rattle.nk_field.specs.Act.{applied}
 use Rattle.nk_store.specs.declared.node.Out.{Out}
-use Rattle.nk_store.specs.StoreState.{StoreState, IsWhole, IsStorePacket, Grows}
+use Rattle.nk_store.specs.StoreState.{StoreState, IsStorePacket, Grows}
 use Rattle.nk_store.proofs.Stores.{grows_on}
 use Rattle.nk_sets.specs.PacketSets.{is_in, IsSet, IsPacketSetOf}
 use Rattle.nk_sets.proofs.SetLemmas.{both_pass, pass_both}
 use Rattle.nk_determ.specs.Pairs.{Under, Once}
 use Rattle.nk_outs.specs.declared.outs.Given.{Given}
-use Rattle.nk_outs.specs.Outs.{entry, AreGiven, GivesAny, sent_to}
+use Rattle.nk_outs.specs.Outs.{entry, AreGiven}
 use Rattle.nk_goal.specs.Entries.{HaveSets, IsMerged}
 use Rattle.nk_outs.proofs.Kept.{Has, packet_on, packet_back, has_on, has_back}
 use Rattle.nk_goal.proofs.Growing.{under_on, under_back}
 use Rattle.nk_goal.proofs.Adding.{under_append, under_left, under_right}
-use Rattle.nk_outs.proofs.Givens.{entry_at, gives_on, gives_back}
 use Rattle.nk_steps.proofs.Locals.{acts_in_range}
-use Rattle.nk_witness.proofs.Pulling.{out_is}
 use Rattle.nk_backward.specs.declared.transitions.Transitions.{Transitions}
 use Rattle.nk_backward.specs.Transitions.{transitions_at, AreAllGiven, IsLed, LeadsInto}
-use Rattle.nk_backward.specs.Predecessors.{out_at, ArePlacesBelow, place_at, numbered, IsInto, LeavesFrom, made_by, Shows, FindDiagrams, ArePredecessors, AreShownAt}
+use Rattle.nk_backward.specs.Predecessors.{out_at, ArePlacesBelow, place_at, numbered, IsInto, LeavesFrom, made_by, ArePredecessors, AreShownAt}
 use Rattle.nk_backward.specs.Closures.{IsTaken, IsTakenBelow, IsLedTo, IsLedInto, IsGained, IsClosure, IsWholeFrontier}
 use Rattle.nk_backward.proofs.Listing.{under_or_not}
-use Rattle.nk_backward.proofs.Tracing.{given_in_range, led_in_range, led_on, led_back}
+use Rattle.nk_backward.proofs.Tracing.{led_in_range, led_on, led_back}
 use Rattle.nk_backward.proofs.Marking.{place_is}
 use Rattle.nk_backward.proofs.Preceding.{made_in_range, led_by, number_led}
 use Rattle.nk_backward.proofs.Gaining.{sets_on, gained_then, gained_before}

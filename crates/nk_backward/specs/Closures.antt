@@ -1,6 +1,6 @@
 -- Entries that grow by the packets from where transitions lead to packets of entries, until no more come: a least fixed point by
 -- a frontier, as backward reachability over a symbolic graph has it (Clarke, Grumberg and Peled, Model Checking, 1999).
-use Rattle.std.specs.Prelude.{◌≡◌, ℕ, ◌+◌, ◌<◌, ◌⊎◌, true, List, [], length}
+use Rattle.std.specs.Prelude.{◌≡◌, ℕ, ◌+◌, ◌<◌, ◌⊎◌, true, List, length}
 use Rattle.nk_store.specs.StoreState.{StoreState, IsStorePacket}
 use Rattle.nk_sets.specs.PacketSets.{is_in}
 use Rattle.nk_outs.specs.declared.outs.Given.{Given}

@@ -1,10 +1,10 @@
 use Rattle.std.proofs.Common.{◌≡◌, ℕ, length, sym, subst, arith}
-use Rattle.nk_store.proofs.Stores.{grows_on, grows_same}
+use Rattle.nk_store.proofs.Stores.{grows_on}
 use Rattle.nk_store.specs.StoreState.{HasLeaves}
 use Rattle.nk_apply.specs.Unions.{AreIds, unions}
 use Rattle.nk_backward.specs.Predecessors.{AreJoined}
 use Rattle.nk_backward.proofs.Marking.{diagrams_on}
-use Rattle.nk_backward.proofs.Joining.{run_ids, joined_start, joined_push}
+use Rattle.nk_backward.proofs.Joining.{run_ids, joined_push}
 use Rattle.nk_backward.proofs.predecessors.joined_all.Goals as goal
 
 pub union_all-requires : goal.union_all-requires

@@ -1,4 +1,4 @@
-use Rattle.std.proofs.Common.{length, sym, subst}
+use Rattle.std.proofs.Common.{sym, subst}
 use Rattle.std.specs.List.Sorted.{IsPermutation}
 use Rattle.nk_backward.proofs.Joining.{diagrams_moved}
 use Rattle.nk_backward.proofs.Preceding.{predecessors_made}
