@@ -1,5 +1,9 @@
 pub mod Listing
 pub mod Tracing
+pub mod Gaining
+pub mod Marking
+pub mod Joining
+pub mod Preceding
 pub mod Taking
 pub mod Missing
 pub mod Sided

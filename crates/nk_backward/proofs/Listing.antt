@@ -1,5 +1,5 @@
 -- The entries of all levels in one list.
-use Rattle.std.proofs.Common.{◌≡◌, ℕ, zero, suc, ◌<◌, ◌⊎◌, inl, inr, refl, sym, ap, subst, arith, List, [], ◌∷◌, ◌++◌, length, get_or}
+use Rattle.std.proofs.Common.{◌≡◌, ℕ, zero, suc, ◌<◌, ◌⊎◌, inl, inr, refl, arith, List, [], ◌∷◌, length, get_or}
 use Rattle.std.proofs.lemmas.Bool.Decides.{eqb_tells}
 use Rattle.nk_store.specs.StoreState.{StoreState}
 use Rattle.nk_sets.specs.PacketSets.{is_in}
@@ -32,3 +32,8 @@ under_or_not st (p ∷ ps) i z = elim (under_or_not st ps i z) [
     ]
   ]
 ]
+
+-- a list of no length
+pub empty_list : (ps : List (ℕ × ℕ)) → length ps ≡ 0 → ps ≡ []
+empty_list [] e = refl
+empty_list (p ∷ ps) e = absurd (omega (arith, e))

@@ -1,16 +1,15 @@
 -- How many packets, of those in range, are not under the sets of the transitions: a number that falls with each pass.
 use Rattle.std.proofs.Common.{◌≡◌, ℕ, zero, suc, ◌<◌, ◌≤◌, ◌+◌, ◌⊎◌, ◌||◌, Bool, true, false, inl, inr, refl, sym, ◌∙◌, ap, subst, arith, List, [], ◌∷◌, ◌++◌, length, get_or, cond, eqb}
 use Rattle.std.proofs.lemmas.Bool.Decides.{eqb_tells}
-use Rattle.nk_store.specs.StoreState.{StoreState, IsStorePacket, Grows}
+use Rattle.nk_store.specs.StoreState.{StoreState, IsStorePacket}
 use Rattle.nk_store.specs.Nodes.{InRange}
 use Rattle.nk_apply.proofs.Members.{Has as Among}
 use Rattle.nk_sets.specs.PacketSets.{is_in}
 use Rattle.nk_determ.specs.Pairs.{Under}
-use Rattle.nk_outs.proofs.Kept.{packet_on}
 use Rattle.nk_goal.proofs.Everything.{before, spread, up_to, packets_from, among_packets}
 use Rattle.nk_backward.specs.declared.transitions.Transitions.{Transitions}
 use Rattle.nk_backward.specs.Transitions.{transitions_at}
-use Rattle.nk_backward.specs.Closures.{ArePassed}
+use Rattle.nk_backward.specs.Closures.{IsLedInto, IsGained}
 
 -- whether the packet stands under the set
 abbrev pub is_under : StoreState → List (ℕ × ℕ) → ℕ → List ℕ → Bool
@@ -181,9 +180,17 @@ less_in a b old new (t ∷ ts) zs f (suc k) y l m e n =
     omega (arith, fewer_at a b old new t.source zs (f t.source), less_in a b old new ts zs f k y (omega (arith, l)) m e n)
 
 -- a pass in which packets came leaves fewer missing
-pub missing_falls : (maxes : List ℕ) (a b : StoreState) (ts : List Transitions) (n : ℕ) (old new : List (ℕ × ℕ)) (grew : Bool) → maxes ≡ a.maxes → ArePassed a ts n old b new grew → grew ≡ true → missing maxes b new ts < missing maxes a old ts
+pub missing_falls : (maxes : List ℕ) (a b : StoreState) (ts : List Transitions) (frontier old all next : List (ℕ × ℕ)) → maxes ≡ a.maxes → IsGained a (IsLedInto a ts frontier) old [] b all next → (next ≡ [] → ⊥) → missing maxes b all ts < missing maxes a old ts
 unfolding missing
-missing_falls maxes a b ts n old new grew e pass some =
-    let f = pass.fresh some in
-    less_in a b old new ts (all_packets maxes) (λ i z m h. under_passes b new i z (pass.kept i z (all_in_range a maxes z e m) (passes_under a old i z h)))
-    f.0 f.1 f.2 (in_range_all a maxes f.1 e f.3) (under_passes b new (transitions_at ts f.0).source f.1 f.4) (λ h. f.5 (passes_under a old (transitions_at ts f.0).source f.1 h))
+missing_falls maxes a b ts frontier old all next e m more = elim m.some [
+  | inl none ↦ absurd (more none)
+  | inr f ↦
+      let i : ℕ = f.0 in
+      let y : List ℕ = f.1 in
+      let came : IsLedInto a ts frontier i y = elim (m.from i y f.2 f.3) [ inl was ↦ absurd (f.4 was) | inr c ↦ c ] in
+      let k : ℕ = came.2.0 in
+      let source : i ≡ (transitions_at ts k).source = sym came.2.3 in
+      less_in a b old all ts (all_packets maxes) (λ j z n h. under_passes b all j z (m.kept j z (all_in_range a maxes z e n) (passes_under a old j z h)))
+      k y came.2.2 (in_range_all a maxes y e f.2) (under_passes b all (transitions_at ts k).source y (subst (λ j. Under b all j y) source f.3))
+      (λ h. f.4 (subst (λ j. Under a old j y) (sym source) (passes_under a old (transitions_at ts k).source y h)))
+]

@@ -1,5 +1,5 @@
 -- The violations of one side.
-use Rattle.std.proofs.Common.{◌≡◌, ℕ, zero, suc, inl, inr, refl, sym, ◌∙◌, ap, subst, Option, Some, None, List, [], ◌∷◌, Contains}
+use Rattle.std.proofs.Common.{◌≡◌, ℕ, zero, suc, inl, refl, sym, subst, Some, None, List, [], ◌∷◌, Contains}
 use Rattle.nk_store.specs.declared.node.Out.{Out}
 use Rattle.nk_apply.proofs.Members.{Has, has_contains, contains_has, gathered_has, has_gathered}
 use Rattle.nk_determ.specs.Targets.{out_by_table, retargeted}

@@ -1,5 +1,5 @@
 -- What transitions lead to a violation is what starts a history that breaks.
-use Rattle.std.proofs.Common.{◌≡◌, ℕ, zero, suc, ◌<◌, ◌≤◌, ◌+◌, ◌&&◌, inl, inr, refl, sym, ◌∙◌, ap, subst, arith, true, false, Some, None, List, [], ◌∷◌, length, get_or, eqb, Contains}
+use Rattle.std.proofs.Common.{◌≡◌, ℕ, zero, suc, ◌<◌, ◌≤◌, ◌&&◌, inl, refl, sym, ◌∙◌, ap, subst, arith, true, false, Some, None, List, [], ◌∷◌, length, get_or, eqb, Contains}
 use Rattle.std.specs.Map.{lookup}
 use Rattle.nk_field.specs.Act.{applied}
 use Rattle.nk_field.specs.Order.{Found}
@@ -11,25 +11,22 @@ use Rattle.nk_apply.specs.Predicates.{IsPredicate}
 use Rattle.nk_sets.specs.PacketSets.{has_some_out, is_in, IsSet}
 use Rattle.nk_sets.proofs.SetLemmas.{guarded_out, both_pass, pass_both, set_grows}
 use Rattle.nk_determ.specs.Sets.{SetsGrow, HasEachSetOnce}
-use Rattle.nk_determ.specs.Pairs.{Node, Under, Once, EachPair, AreStates, AreLabelsBelow, IsPair, ArePairs, IsStart, IsStep, IsGood}
-use Rattle.nk_determ.specs.Levels.{At, IsViolation, AreLevels}
-use Rattle.nk_goal.specs.Entries.{HaveSets}
-use Rattle.nk_determ.specs.Breaks.{Walks, IsBreak}
+use Rattle.nk_determ.specs.Pairs.{Node, Under, Once, EachPair, AreLabelsBelow, IsPair, ArePairs, IsStep, IsGood}
+use Rattle.nk_determ.specs.Levels.{At, AreLevels}
+use Rattle.nk_determ.specs.Breaks.{Walks}
 use Rattle.nk_witness.specs.Finds.{target_of}
-use Rattle.nk_determ.specs.Breaks.{MakesWithTarget}
 use Rattle.nk_witness.specs.Backs.{AreViolationsSoFar}
 use Rattle.nk_witness.specs.declared.found.Side.{Side}
-use Rattle.nk_outs.proofs.Kept.{Has, packet_on, packet_back, has_on, has_back}
+use Rattle.nk_outs.proofs.Kept.{Has, packet_on, has_on, has_back}
 use Rattle.nk_goal.proofs.Growing.{sets_known, sets_same, under_on, under_back, under_named, named_known, packets_of, pair_on, each_weaker}
 use Rattle.nk_goal.proofs.Adding.{not_found, found_under, under_found}
 use Rattle.nk_witness.proofs.Pulling.{empty_not}
 use Rattle.nk_backward.specs.declared.transitions.Transitions.{Transitions}
-use Rattle.nk_backward.specs.Transitions.{explored_entries, AreAllGiven, IsLed, LeadsInto, AreTransitions}
+use Rattle.nk_backward.specs.Transitions.{explored_entries, AreAllGiven, LeadsInto, AreTransitions}
 use Rattle.nk_backward.specs.Closures.{IsClosure}
 use Rattle.nk_backward.specs.Starts.{StartsBreak, AreStarts, of_side, IsSideViolation, LeadToSide, StandUnder}
 use Rattle.nk_backward.proofs.Listing.{under_entries, each_entry}
-use Rattle.nk_backward.proofs.Tracing.{led_in_range, led_on}
-use Rattle.nk_backward.proofs.Taking.{leads_on}
+use Rattle.nk_backward.proofs.Taking.{leads_on, leads_grow}
 use Rattle.nk_backward.proofs.Sided.{side_has, has_side}
 
 -- the packets under a set that has an entry
@@ -52,13 +49,6 @@ under_none st new back s x r none h pred = record {
   goes = λ z w m. absurd (empty_not new r z h w.0 m);
   comes = λ z w hx u. absurd (not_found back s none (under_named st back s z u));
 }
-
--- ways as the store grows, to a goal that follows
-leads_grow : (a b : StoreState) (ts : List Transitions) (Goal Next : ℕ → List ℕ → Type 0) → Grows a b → AreAllGiven a ts → ((i : ℕ) (z : List ℕ) → IsStorePacket a z → Goal i z → Next i z) →
-    (n i : ℕ) (z : List ℕ) → IsStorePacket a z → LeadsInto a ts Goal n i z → LeadsInto b ts Next n i z
-leads_grow a b ts Goal Next g given f zero i z w l = f i z w l
-leads_grow a b ts Goal Next g given f (suc n) i z w l =
-    (l.0, l.1, led_on a b ts i z l.0 l.1 g given l.2, leads_grow a b ts Goal Next g given f n l.0 l.1 (led_in_range a ts i z l.0 l.1 given w l.2) l.3)
 
 -- from violations by their closure
 pub lead_to_side_of : (st s1 s2 new : StoreState) (ss : List (List ℕ)) (ts : List Transitions) (entries : List (ℕ × ℕ)) (bad : List ℕ → List ℕ → List Out) (side : Side) (s x : ℕ) (goal back : List (ℕ × ℕ)) (r : ℕ) → Grows st s1 → Grows s1 s2 → IsId st x → AreAllGiven st ts →

@@ -1,149 +1,150 @@
--- Outs taken back, and transitions in turn, until no more packets come.
-use Rattle.std.proofs.Common.{◌≡◌, ℕ, zero, suc, ◌<◌, ◌≤◌, ◌+◌, ◌⊎◌, ◌||◌, Bool, true, false, inl, inr, refl, sym, ◌∙◌, ap, subst, arith, List, length, get_or}
+-- Outs taken back along the transitions that they stand for, and a frontier taken back until no more packets come.
+use Rattle.std.proofs.Common.{◌≡◌, ℕ, zero, suc, ◌<◌, ◌+◌, ◌⊎◌, ◌&&◌, true, inl, inr, refl, sym, ◌∙◌, ap, subst, arith, List, [], ◌∷◌, ◌++◌, length}
 use Rattle.std.proofs.lemmas.Bool.Decides.{eqb_tells}
 use Rattle.nk_field.specs.Act.{applied}
-use Rattle.nk_store.specs.StoreState.{StoreState, IsWhole, IsStorePacket, Grows}
+use Rattle.nk_store.specs.declared.node.Out.{Out}
+use Rattle.nk_store.specs.StoreState.{StoreState, IsStorePacket, Grows}
 use Rattle.nk_store.proofs.Stores.{grows_on}
-use Rattle.nk_sets.specs.PacketSets.{is_in, IsSet}
-use Rattle.nk_sets.proofs.SetLemmas.{set_grows}
-use Rattle.nk_outs.specs.declared.outs.Given.{Given}
+use Rattle.nk_sets.specs.PacketSets.{is_in, IsSet, IsPacketSetOf}
+use Rattle.nk_sets.proofs.SetLemmas.{both_pass, pass_both}
 use Rattle.nk_determ.specs.Pairs.{Under, Once}
-use Rattle.nk_outs.specs.Outs.{AreGiven, GivesAny}
-use Rattle.nk_goal.specs.Entries.{HaveSets, IsAdded, IsRest}
-use Rattle.nk_outs.specs.Outs.{sent_to}
-use Rattle.nk_witness.specs.Pulls.{AreAllPulled}
-use Rattle.nk_outs.proofs.Kept.{Has, packet_on, packet_back}
-use Rattle.nk_goal.proofs.Growing.{each_weaker, under_on, under_back}
-use Rattle.nk_outs.proofs.Givens.{gives_on, gives_back}
+use Rattle.nk_outs.specs.declared.outs.Given.{Given}
+use Rattle.nk_outs.specs.Outs.{entry, AreGiven}
+use Rattle.nk_goal.specs.Entries.{HaveSets, IsMerged}
+use Rattle.nk_outs.proofs.Kept.{Has, packet_on, packet_back, has_on, has_back}
+use Rattle.nk_goal.proofs.Growing.{under_on, under_back}
+use Rattle.nk_goal.proofs.Adding.{under_append, under_left, under_right}
+use Rattle.nk_steps.proofs.Locals.{acts_in_range}
 use Rattle.nk_backward.specs.declared.transitions.Transitions.{Transitions}
 use Rattle.nk_backward.specs.Transitions.{transitions_at, AreAllGiven, IsLed, LeadsInto}
-use Rattle.nk_backward.specs.Closures.{IsTakenBack, ArePassed, IsClosure}
+use Rattle.nk_backward.specs.Predecessors.{out_at, ArePlacesBelow, place_at, numbered, IsInto, LeavesFrom, made_by, ArePredecessors, AreShownAt}
+use Rattle.nk_backward.specs.Closures.{IsTaken, IsTakenBelow, IsLedTo, IsLedInto, IsGained, IsClosure, IsWholeFrontier}
 use Rattle.nk_backward.proofs.Listing.{under_or_not}
-use Rattle.nk_backward.proofs.Tracing.{given_in_range, led_in_range, led_on, led_back}
+use Rattle.nk_backward.proofs.Tracing.{led_in_range, led_on, led_back}
+use Rattle.nk_backward.proofs.Marking.{place_is}
+use Rattle.nk_backward.proofs.Preceding.{made_in_range, led_by, number_led}
+use Rattle.nk_backward.proofs.Gaining.{sets_on, gained_then, gained_before}
 
--- entries have sets of packets as the store grows
-pub sets_on : (a b : StoreState) (ps : List (ℕ × ℕ)) → Grows a b → HaveSets a ps → HaveSets b ps
-sets_on a b ps g h = each_weaker (λ p. IsSet a p.1) (λ p. IsSet b p.1) ps (λ p q. set_grows a b p.1 g q) h
+-- what an out that stands for no transition takes back
+pub taken_none : (st : StoreState) (ts : List Transitions) (places : List (ℕ × ℕ)) (q : Given) (i : ℕ) (z : List ℕ) → ((n : ℕ) → n < length places → q.out.target ≡ n + 1 → ⊥) → IsTaken st ts places q i z → ⊥
+taken_none st ts places q i z none k = none k.0 k.1 k.2
 
--- no packet came
-pub taken_none : (st s1 s2 : StoreState) (source : ℕ) (outs : List Given) (back : List (ℕ × ℕ)) (led rest : ℕ) → Grows st s1 → Grows s1 s2 → HaveSets st back → Once back →
-    AreAllPulled st outs (length outs) back s1 led → IsRest s1 back source led s2 rest → ((pk : List ℕ) → IsWhole pk → is_in s2 rest pk ≡ false) → IsTakenBack st source outs back s2 back false
-taken_none st s1 s2 source outs back led rest g1 g2 sets once all left empty = record {
-  from = λ i z w u. inl (under_back st s2 back i z g sets u);
-  kept = λ i z w u. under_on st s2 back i z g sets u;
-  packets = sets_on st s2 back g sets;
-  once = once;
-  same = λ e. refl;
-  closed = λ e z t h w m u. elim (under_or_not st back source z) [
-    | inl there ↦ there
-    | inr none ↦
-        let has : Has s1 led z = all.every z t h w m u in
-        let more : Has s2 rest z = left.both z (packet_on st s1 z g1 w) has (λ v. none (under_back st s1 back source z g1 sets v)) in
-        let no : is_in s2 rest z ≡ false = empty z w.0 in
-        absurd cc
-  ];
-  fresh = λ e. absurd cc;
-}
+-- the place of the transition that an out stands for
+pub place_within : (ts : List Transitions) (places : List (ℕ × ℕ)) (q : Given) (p : ℕ × ℕ) → ArePlacesBelow ts (length ts) places → (n : ℕ) × (n < length places) × (q.out.target ≡ n + 1) × (p ≡ place_at places n) → (p.0 < length ts) × (p.1 < length (transitions_at ts p.0).outs)
+place_within ts places q p are k = subst (λ (r : ℕ × ℕ). (r.0 < length ts) × (r.1 < length (transitions_at ts r.0).outs)) (sym k.3) (place_is ts places k.0 are k.1)
+
+-- the packets of an out taken back along its transition
+pub taken_one : (st s1 new : StoreState) (ts : List Transitions) (places : List (ℕ × ℕ)) (q : Given) (p : ℕ × ℕ) (t : Transitions) (o : Given) (led : ℕ) (back next all more : List (ℕ × ℕ)) → Grows st s1 → HaveSets st back → Once back → HaveSets st next → Once next →
+    (n : ℕ) × (n < length places) × (q.out.target ≡ n + 1) × (p ≡ place_at places n) → t ≡ transitions_at ts p.0 → o ≡ entry t.outs p.1 → IsPacketSetOf s1 led (λ pk. is_in st q.packets (applied o.out.act pk) && is_in st o.packets pk) →
+    IsGained s1 (λ i z. (i ≡ t.source) × (is_in s1 led z ≡ true)) back next new all more → IsGained st (IsTaken st ts places q) back next new all more
+taken_one st s1 new ts places q p t o led back next all more g sets once next_sets next_once k is_t is_o is m =
+    gained_before st s1 new (λ i z. (i ≡ t.source) × (is_in s1 led z ≡ true)) (IsTaken st ts places q) back next all more g sets once next_sets next_once m on off
   where
-    g : Grows st s2
-    g = grows_on st s1 s2 g1 g2
+    n : ℕ
+    n = k.0
 
--- some packets came
-pub taken_some : (st s1 s2 new : StoreState) (source : ℕ) (outs : List Given) (back more : List (ℕ × ℕ)) (led rest : ℕ) → Grows st s1 → Grows s1 s2 → HaveSets st back →
-    AreAllPulled st outs (length outs) back s1 led → IsRest s1 back source led s2 rest → ((pk : List ℕ) × IsStorePacket s2 pk × (is_in s2 rest pk ≡ true)) → IsAdded s2 back source rest new more → IsTakenBack st source outs back new more true
-taken_some st s1 s2 new source outs back more led rest g1 g2 sets all left found add = record {
-  from = λ i z w u. elim (add.either i z (packet_on st s2 z g w) u) [
-    | inl old ↦ inl (under_back st s2 back i z g sets old)
-    | inr here ↦
-        let has : Has s1 led z = left.first z (packet_on st s1 z g1 w) here.1 in
-        inr (here.0, all.from z w has)
-  ];
-  kept = λ i z w u. add.old i z (packet_on st s2 z g w) (under_on st s2 back i z g sets u);
-  packets = add.packets;
-  once = add.once;
-  same = λ e. absurd cc;
-  closed = λ e. absurd cc;
-  fresh = λ e. (
-    found.0,
-    packet_back st s2 found.0 g found.1,
-    add.more found.0 found.1 found.2,
-    λ u. left.second found.0 (packet_back s1 s2 found.0 g2 found.1) found.2 (under_on st s1 back source found.0 g1 sets u),
-  );
-}
+    t_is : t ≡ transitions_at ts (place_at places n).0
+    t_is = is_t ∙ ap (λ (r : ℕ × ℕ). transitions_at ts r.0) k.3
+
+    o_is : o ≡ out_at ts (place_at places n)
+    o_is = is_o ∙ ap (λ (u : Transitions). entry u.outs p.1) is_t ∙ ap (λ (r : ℕ × ℕ). out_at ts r) k.3
+
+    on : (i : ℕ) (z : List ℕ) → IsStorePacket st z → (i ≡ t.source) × (is_in s1 led z ≡ true) → IsTaken st ts places q i z
+    on i z w c =
+        let two = both_pass (is_in st q.packets (applied o.out.act z)) (is_in st o.packets z) (sym (is.at z w.0) ∙ c.1) in
+        (n, k.1, k.2, ap (λ (u : Transitions). u.source) (sym t_is) ∙ sym c.0, subst (λ (e : Given). is_in st e.packets z ≡ true) o_is two.1, subst (λ (e : Given). is_in st q.packets (applied e.out.act z) ≡ true) o_is two.0)
+
+    off : (i : ℕ) (z : List ℕ) → IsStorePacket st z → IsTaken st ts places q i z → (i ≡ t.source) × (is_in s1 led z ≡ true)
+    off i z w c =
+        let e : c.0 ≡ n = let a = c.2 in let b = k.2 in omega (arith, a, b) in
+        let source : (transitions_at ts (place_at places n).0).source ≡ i = subst (λ (j : ℕ). (transitions_at ts (place_at places j).0).source ≡ i) e c.3 in
+        let from : is_in st (out_at ts (place_at places n)).packets z ≡ true = subst (λ (j : ℕ). LeavesFrom st ts places j z) e c.4 in
+        let to : is_in st q.packets (applied (out_at ts (place_at places n)).out.act z) ≡ true = subst (λ (j : ℕ). is_in st q.packets (made_by ts places j z) ≡ true) e c.5 in (
+          sym source ∙ ap (λ (u : Transitions). u.source) (sym t_is),
+          is.at z w.0 ∙ pass_both (is_in st q.packets (applied o.out.act z)) (is_in st o.packets z) (subst (λ (e : Given). is_in st q.packets (applied e.out.act z) ≡ true) (sym o_is) to) (subst (λ (e : Given). is_in st e.packets z ≡ true) (sym o_is) from),
+        )
+
+-- an out more
+pub taken_push : (a st new : StoreState) (ts : List Transitions) (places : List (ℕ × ℕ)) (es : List Given) (k : ℕ) (q : Given) (back next mid between all more : List (ℕ × ℕ)) → Grows a st → AreAllGiven a ts → ArePlacesBelow ts (length ts) places → AreGiven a es → k < length es → q ≡ entry es k →
+    IsGained a (IsTakenBelow a ts places es k) back next st mid between → IsGained st (IsTaken st ts places q) mid between new all more → IsGained a (IsTakenBelow a ts places es (k + 1)) back next new all more
+taken_push a st new ts places es k q back next mid between all more g given are outs l is first second =
+    gained_then a st new (IsTakenBelow a ts places es k) (IsTaken st ts places q) (IsTakenBelow a ts places es (k + 1)) back next mid between all more g first second parts (λ i z w c. (c.0, omega (arith, c.1), c.2)) right
   where
-    g : Grows st s2
-    g = grows_on st s1 s2 g1 g2
+    set : IsSet a q.packets
+    set = subst (λ (e : Given). IsSet a e.packets) (sym is) (outs k l).packets
 
--- none of two tests
-pub neither : (a b : Bool) → (a || b) ≡ false → (a ≡ false) × (b ≡ false)
-neither true b e = absurd cc
-neither false b e = (refl, e)
+    parts : (i : ℕ) (z : List ℕ) → IsStorePacket a z → IsTakenBelow a ts places es (k + 1) i z → IsTakenBelow a ts places es k i z ⊎ IsTaken st ts places q i z
+    parts i z w c = elim (eqb_tells c.0 k) [
+      | inr other ↦ inl (c.0, let m = c.1 in omega (arith, m, other.1), c.2)
+      | inl same ↦
+          let m : IsTaken a ts places q i z = subst (λ (e : Given). IsTaken a ts places e i z) (ap (λ (j : ℕ). entry es j) same.1 ∙ sym is) c.2 in
+          let n : ℕ = m.0 in
+          let at = place_is ts places n are m.1 in
+          inr (n, m.1, m.2, m.3, has_on a st (out_at ts (place_at places n)).packets z g (given (place_at places n).0 at.0 (place_at places n).1 at.1).packets.id m.4, has_on a st q.packets (made_by ts places n z) g set.id m.5)
+    ]
 
--- one of two tests
-pub one_of : (a b : Bool) → (a || b) ≡ true → (a ≡ true) ⊎ (b ≡ true)
-one_of true b e = inl refl
-one_of false b e = inr e
+    right : (i : ℕ) (z : List ℕ) → IsStorePacket a z → IsTaken st ts places q i z → IsTakenBelow a ts places es (k + 1) i z
+    right i z w m =
+        let n : ℕ = m.0 in
+        let at = place_is ts places n are m.1 in
+        let back : IsTaken a ts places q i z = (n, m.1, m.2, m.3, has_back a st (out_at ts (place_at places n)).packets z g (given (place_at places n).0 at.0 (place_at places n).1 at.1).packets.id m.4, has_back a st q.packets (made_by ts places n z) g set.id m.5) in
+        (k, omega arith, subst (λ (e : Given). IsTaken a ts places e i z) is back)
 
--- no transitions yet
-pub passed_start : (st : StoreState) (ts : List Transitions) (back : List (ℕ × ℕ)) → HaveSets st back → Once back → ArePassed st ts 0 back st back false
-passed_start st ts back sets once = record {
-  sound = λ i z w u. (0, u);
-  kept = λ i z w u. u;
-  packets = sets;
-  once = once;
-  same = λ e. refl;
-  closed = λ e k z t g l m w o u. absurd (omega (arith, l, m));
-  fresh = λ e. absurd cc;
-}
-
--- one more
-pub passed_push : (a st new : StoreState) (ts : List Transitions) (n k : ℕ) (t : Transitions) (old back more : List (ℕ × ℕ)) (grew b : Bool) → AreAllGiven a ts → HaveSets a old → Grows a st → Grows st new → n + k + 1 ≡ length ts → t ≡ transitions_at ts k →
-    ArePassed a ts n old st back grew → IsTakenBack st t.source t.outs back new more b → ArePassed a ts (n + 1) old new more (grew || b)
-passed_push a st new ts n k t old back more grew b given sets g1 g2 place is was one = record {
-  sound = λ i z w u. elim (one.from i z (packet_on a st z g1 w) u) [
-    | inl there ↦ was.sound i z w there
-    | inr came ↦
-        let v = came.1 in
-        let u : ℕ = v.0 in
-        let h : List (ℕ × ℕ) = v.1 in
-        let m : GivesAny a (transitions_at ts k).outs z (sent_to h (u + 1)) = back_at k z u h below (subst (λ (q : Transitions). GivesAny st q.outs z (sent_to h (u + 1))) is v.2) in
-        let y : IsStorePacket a (applied h z) = given_in_range a (transitions_at ts k).outs z h u (given k below) w m in
-        let lead = was.sound u (applied h z) y v.3 in
-        (suc lead.0, (u, applied h z, (k, h, below, ap (λ (q : Transitions). q.source) (sym is) ∙ sym came.0, m, refl), lead.1))
-  ];
-  kept = λ i z w u. one.kept i z (packet_on a st z g1 w) (was.kept i z w u);
-  packets = one.packets;
-  once = one.once;
-  same = λ e. let two = neither grew b e in one.same two.1 ∙ was.same two.0;
-  closed = λ e j z u h l m w o v.
-      let two = neither grew b e in
-      elim (eqb_tells j k) [
-        | inr other ↦ was.closed two.0 j z u h (omega (arith, l, m, place, other.1)) m w o v
-        | inl same ↦
-            let e : transitions_at ts j ≡ t = ap (λ i. transitions_at ts i) same.1 ∙ sym is in
-            let here : GivesAny st t.outs z (sent_to h (u + 1)) = subst (λ (q : Transitions). GivesAny st q.outs z (sent_to h (u + 1))) e (on_at j z u h m o) in
-            let unchanged : back ≡ old = was.same two.0 in
-            let to : Under st back u (applied h z) = subst (λ (ps : List (ℕ × ℕ)). Under st ps u (applied h z)) (sym unchanged) (under_on a st old u (applied h z) g1 sets v) in
-            let from : Under st back t.source z = one.closed two.1 z u h (packet_on a st z g1 w) here to in
-            let again : Under st old t.source z = subst (λ (ps : List (ℕ × ℕ)). Under st ps t.source z) unchanged from in
-            subst (λ (q : Transitions). Under a old q.source z) (sym e) (under_back a st old t.source z g1 sets again)
-      ];
-  fresh = λ e. elim (one_of grew b e) [
-    | inl before ↦ let f = was.fresh before in (f.0, f.1, f.2, f.3, one.kept (transitions_at ts f.0).source f.1 (packet_on a st f.1 g1 f.3) f.4, f.5)
-    | inr now ↦
-        let f = one.fresh now in
-        (k, f.0, below, packet_back a st f.0 g1 f.1, subst (λ (q : Transitions). Under new more q.source f.0) is f.2, λ v. f.3 (subst (λ (q : Transitions). Under st back q.source f.0) (sym is) (was.kept (transitions_at ts k).source f.0 (packet_back a st f.0 g1 f.1) v)))
-  ];
-}
+-- all outs that stand for transitions into the set at the packets of x
+pub taken_all : (st s1 new : StoreState) (ts : List Transitions) (places into : List (ℕ × ℕ)) (t x : ℕ) (es : List Given) (back next all more : List (ℕ × ℕ)) → Grows st s1 → AreAllGiven st ts → HaveSets st back → Once back → HaveSets st next → Once next → ArePredecessors st ts places into → AreShownAt st into t x s1 es →
+    IsGained s1 (IsTakenBelow s1 ts places es (length es)) back next new all more → IsGained st (IsLedTo st ts t x) back next new all more
+taken_all st s1 new ts places into t x es back next all more g given sets once next_sets next_once pre shown m =
+    gained_before st s1 new (IsTakenBelow s1 ts places es (length es)) (IsLedTo st ts t x) back next all more g sets once next_sets next_once m on off
   where
-    below : k < length ts
-    below = omega (arith, place)
+    are : ArePlacesBelow ts (length ts) places
+    are = pre.places_are
 
-    on_at : (j : ℕ) (z : List ℕ) (u : ℕ) (h : List (ℕ × ℕ)) → j < length ts → GivesAny a (transitions_at ts j).outs z (sent_to h (u + 1)) → GivesAny st (transitions_at ts j).outs z (sent_to h (u + 1))
-    on_at j z u h l m = let es : List Given = (transitions_at ts j).outs in gives_on a st es 0 (length es) z (sent_to h (u + 1)) g1 (given j l) (omega arith) m
+    on : (i : ℕ) (z : List ℕ) → IsStorePacket st z → IsTakenBelow s1 ts places es (length es) i z → IsLedTo st ts t x i z
+    on i z w c =
+        let j : ℕ = c.0 in
+        let k = c.2 in
+        let n : ℕ = k.0 in
+        let at = place_is ts places n are k.1 in
+        let from : LeavesFrom st ts places n z = has_back st s1 (out_at ts (place_at places n)).packets z g (given (place_at places n).0 at.0 (place_at places n).1 at.1).packets.id k.4 in
+        let o : Out = (entry es j).out in
+        let y : List ℕ = made_by ts places n z in
+        let good : IsStorePacket st y = acts_in_range st.maxes 0 (out_at ts (place_at places n)).out.act z (given (place_at places n).0 at.0 (place_at places n).1 at.1).suits w in
+        let v = shown.goes y o good (j, omega arith, c.1, refl, k.5) in
+        let s = pre.goes t y o good v.1 in
+        let same : s.0 ≡ n = let a : o.target ≡ s.0 + 1 = ap (λ (r : Out). r.target) s.1 in let b = k.2 in omega (arith, a, b) in
+        let is : IsInto ts places n t = subst (λ (q : ℕ). IsInto ts places q t) same s.2 in
+        (y, led_by st ts places n i t z are is k.3 from, v.0)
 
-    back_at : (j : ℕ) (z : List ℕ) (u : ℕ) (h : List (ℕ × ℕ)) → j < length ts → GivesAny st (transitions_at ts j).outs z (sent_to h (u + 1)) → GivesAny a (transitions_at ts j).outs z (sent_to h (u + 1))
-    back_at j z u h l m = let es : List Given = (transitions_at ts j).outs in gives_back a st es 0 (length es) z (sent_to h (u + 1)) g1 (given j l) (omega arith) m
+    off : (i : ℕ) (z : List ℕ) → IsStorePacket st z → IsLedTo st ts t x i z → IsTakenBelow s1 ts places es (length es) i z
+    off i z w c =
+        let y : List ℕ = c.0 in
+        let k = number_led st ts places i t z y are c.1 in
+        let n : ℕ = k.0 in
+        let at = place_is ts places n are k.1.0 in
+        let good : IsStorePacket st (made_by ts places n z) = made_in_range st ts places n t z given are k.1 w k.3 in
+        let has : Has st x (made_by ts places n z) = subst (λ (r : List ℕ). Has st x r) (sym k.4) c.2 in
+        let v = shown.comes (made_by ts places n z) (numbered n) good has (pre.comes n t z w k.1 k.3) in
+        let to : n + 1 ≡ (entry es v.0).out.target = ap (λ (r : Out). r.target) (sym v.3) in
+        (v.0, v.2, (n, k.1.0, sym to, k.2, has_on st s1 (out_at ts (place_at places n)).packets z g (given (place_at places n).0 at.0 (place_at places n).1 at.1).packets.id k.3, v.4))
+
+-- an entry of the frontier more
+pub frontier_push : (a st new : StoreState) (ts : List Transitions) (done : List (ℕ × ℕ)) (p : ℕ × ℕ) (back next mid between all more : List (ℕ × ℕ)) → Grows a st → AreAllGiven a ts → IsSet a p.1 → IsGained a (IsLedInto a ts done) back next st mid between → IsGained st (IsLedTo st ts p.0 p.1) mid between new all more →
+    IsGained a (IsLedInto a ts (done ++ p ∷ [])) back next new all more
+frontier_push a st new ts done p back next mid between all more g given set first second =
+    gained_then a st new (IsLedInto a ts done) (IsLedTo st ts p.0 p.1) (IsLedInto a ts (done ++ p ∷ [])) back next mid between all more g first second parts
+    (λ i z w c. (c.0, c.1, c.2, under_left a done (p ∷ []) c.0 c.1 c.3)) right
+  where
+    parts : (i : ℕ) (z : List ℕ) → IsStorePacket a z → IsLedInto a ts (done ++ p ∷ []) i z → IsLedInto a ts done i z ⊎ IsLedTo st ts p.0 p.1 i z
+    parts i z w c = elim (under_append a done (p ∷ []) c.0 c.1 c.3) [
+      | inl was ↦ inl (c.0, c.1, c.2, was)
+      | inr now ↦ elim now [
+        | inl here ↦ inr (c.1, subst (λ (t : ℕ). IsLed st ts i z t c.1) (sym here.0) (led_on a st ts i z c.0 c.1 g given c.2), has_on a st p.1 c.1 g set.id here.1)
+        | inr none ↦ absurd none
+      ]
+    ]
+
+    right : (i : ℕ) (z : List ℕ) → IsStorePacket a z → IsLedTo st ts p.0 p.1 i z → IsLedInto a ts (done ++ p ∷ []) i z
+    right i z w c = (p.0, c.0, led_back a st ts i z p.0 c.0 g given c.1, under_right a done (p ∷ []) p.0 c.0 (inl (refl, has_back a st p.1 c.0 g set.id c.2)))
 
 -- ways to a goal, each place of which leads to another goal
 pub leads_on : (a st : StoreState) (ts : List Transitions) (Goal Next : ℕ → List ℕ → Type 0) → Grows a st → AreAllGiven a ts → ((i : ℕ) (z : List ℕ) → IsStorePacket a z → Goal i z → (n : ℕ) × LeadsInto a ts Next n i z) →
@@ -154,60 +155,118 @@ leads_on a st ts Goal Next g given f (suc m) i z w l =
     let rest = leads_on a st ts Goal Next g given f m l.0 l.1 (led_in_range a ts i z l.0 l.1 given w led) l.3 in
     (suc rest.0, (l.0, l.1, led, rest.1))
 
--- between two passes
-pub record IsPart (a : StoreState) (ts : List Transitions) (goal : List (ℕ × ℕ)) (st : StoreState) (back : List (ℕ × ℕ)) : Type 0 where
+-- ways as the store grows, to a goal that follows
+pub leads_grow : (a b : StoreState) (ts : List Transitions) (Goal Next : ℕ → List ℕ → Type 0) → Grows a b → AreAllGiven a ts → ((i : ℕ) (z : List ℕ) → IsStorePacket a z → Goal i z → Next i z) →
+    (n i : ℕ) (z : List ℕ) → IsStorePacket a z → LeadsInto a ts Goal n i z → LeadsInto b ts Next n i z
+leads_grow a b ts Goal Next g given f zero i z w l = f i z w l
+leads_grow a b ts Goal Next g given f (suc n) i z w l =
+    (l.0, l.1, led_on a b ts i z l.0 l.1 g given l.2, leads_grow a b ts Goal Next g given f n l.0 l.1 (led_in_range a ts i z l.0 l.1 given w l.2) l.3)
+
+-- Between two passes: all entries lead to the goal, and a transition into an entry leads from an entry, unless it leads into the
+-- frontier, which is not yet taken back.
+pub record IsPart (a : StoreState) (ts : List Transitions) (goal : List (ℕ × ℕ)) (st : StoreState) (back frontier : List (ℕ × ℕ)) : Type 0 where
   pub grows : Grows a st
   pub sound : (i : ℕ) (z : List ℕ) → IsStorePacket a z → Under st back i z → (n : ℕ) × LeadsInto a ts (Under a goal) n i z
   pub kept : (i : ℕ) (z : List ℕ) → IsStorePacket a z → Under a goal i z → Under st back i z
+  pub closed : (i : ℕ) (z : List ℕ) (t : ℕ) (y : List ℕ) → IsStorePacket a z → IsLed a ts i z t y → Under st back t y → Under st frontier t y ⊎ Under st back i z
   pub packets : HaveSets st back
   pub once : Once back
-
--- one pass more
-pub part_next : (a st new : StoreState) (ts : List Transitions) (goal back more : List (ℕ × ℕ)) (grew : Bool) → AreAllGiven a ts → IsPart a ts goal st back → Grows st new → ArePassed st ts (length ts) back new more grew → IsPart a ts goal new more
-part_next a st new ts goal back more grew given was g pass = record {
-  grows = grows_on a st new was.grows g;
-  sound = λ i z w u.
-      let l = pass.sound i z (packet_on a st z was.grows w) u in
-      leads_on a st ts (Under st back) (Under a goal) was.grows given was.sound l.0 i z w l.1;
-  kept = λ i z w u. pass.kept i z (packet_on a st z was.grows w) (was.kept i z w u);
-  packets = pass.packets;
-  once = pass.once;
-}
-
--- after a pass in which no packet came
-pub part_last : (a st new : StoreState) (ts : List Transitions) (goal back more : List (ℕ × ℕ)) (grew : Bool) → AreAllGiven a ts → IsPart a ts goal st back → Grows st new → ArePassed st ts (length ts) back new more grew → grew ≡ false → IsClosure a ts goal new more
-part_last a st new ts goal back more grew given was g pass none = record {
-  sound = next.sound;
-  full = closed;
-  packets = pass.packets;
-  once = pass.once;
-}
-  where
-    next : IsPart a ts goal new more
-    next = part_next a st new ts goal back more grew given was g pass
-
-    same : more ≡ back
-    same = pass.same none
-
-    closed : (n i : ℕ) (z : List ℕ) → IsStorePacket a z → LeadsInto a ts (Under a goal) n i z → Under new more i z
-    closed zero i z w l = next.kept i z w l
-    closed (suc n) i z w l =
-        let t : ℕ = l.0 in
-        let y : List ℕ = l.1 in
-        let led : IsLed st ts i z t y = led_on a st ts i z t y was.grows given l.2 in
-        let to : Under new more t y = closed n t y (led_in_range a ts i z t y given w l.2) l.3 in
-        let there : Under st back t y = under_back st new back t y g was.packets (subst (λ (ps : List (ℕ × ℕ)). Under new ps t y) same to) in
-        let moved : Under st back t (applied led.1 z) = subst (Under st back t) (sym led.5) there in
-        let from : Under st back (transitions_at ts led.0).source z = pass.closed none led.0 z t led.1 (omega arith) led.2 (packet_on a st z was.grows w) led.4 moved in
-        let here : Under st back i z = subst (λ j. Under st back j z) led.3 from in
-        subst (λ (ps : List (ℕ × ℕ)). Under new ps i z) (sym same) (under_on st new back i z g was.packets here)
+  pub frontier_packets : HaveSets st frontier
+  pub inside : (i : ℕ) (z : List ℕ) → IsStorePacket a z → Under st frontier i z → Under st back i z
 
 -- before the first pass
-pub part_start : (a : StoreState) (ts : List Transitions) (goal : List (ℕ × ℕ)) → Grows a a → HaveSets a goal → Once goal → IsPart a ts goal a goal
-part_start a ts goal g sets once = record {
+pub part_start : (a : StoreState) (ts : List Transitions) (goal frontier : List (ℕ × ℕ)) → Grows a a → HaveSets a goal → Once goal → AreAllGiven a ts → IsWholeFrontier a frontier goal → IsPart a ts goal a goal frontier
+part_start a ts goal frontier g sets once given f = record {
   grows = g;
   sound = λ i z w u. (0, u);
   kept = λ i z w u. u;
+  closed = λ i z t y w m u. inl (f.whole t y (led_in_range a ts i z t y given w m) u);
   packets = sets;
   once = once;
+  frontier_packets = f.packets;
+  inside = f.inside;
 }
+
+-- one pass more
+pub part_next : (a st new : StoreState) (ts : List Transitions) (goal back frontier all next : List (ℕ × ℕ)) → AreAllGiven a ts → IsPart a ts goal st back frontier → Grows st new → IsGained st (IsLedInto st ts frontier) back [] new all next → IsPart a ts goal new all next
+part_next a st new ts goal back frontier all next given was g m = record {
+  grows = grows_on a st new was.grows g;
+  sound = λ i z w u. elim (m.from i z (packet_on a st z was.grows w) u) [
+    | inl old ↦ was.sound i z w old
+    | inr came ↦
+        let led : IsLed a ts i z came.0 came.1 = led_back a st ts i z came.0 came.1 was.grows given came.2 in
+        let good : IsStorePacket a came.1 = led_in_range a ts i z came.0 came.1 given w led in
+        let rest = was.sound came.0 came.1 good (was.inside came.0 came.1 good came.3) in
+        (suc rest.0, (came.0, came.1, led, rest.1))
+  ];
+  kept = λ i z w u. m.kept i z (packet_on a st z was.grows w) (was.kept i z w u);
+  closed = λ i z t y w led u.
+      let good : IsStorePacket a y = led_in_range a ts i z t y given w led in
+      let good_now : IsStorePacket st y = packet_on a st y was.grows good in
+      elim (under_or_not st back t y) [
+        | inr none ↦ inl (m.next_new t y good_now u none)
+        | inl old ↦ elim (was.closed i z t y w led old) [
+          | inl ahead ↦ inr (m.every i z (packet_on a st z was.grows w) (t, y, led_on a st ts i z t y was.grows given led, ahead))
+          | inr here ↦ inr (m.kept i z (packet_on a st z was.grows w) here)
+        ]
+      ];
+  packets = m.packets;
+  once = m.once;
+  frontier_packets = m.next_packets;
+  inside = λ i z w u. elim (m.next_from i z (packet_on a st z was.grows w) u) [ inl none ↦ absurd none | inr came ↦ came.0 ];
+}
+
+-- after a pass in which no packet came
+pub part_last : (a st : StoreState) (ts : List Transitions) (goal back : List (ℕ × ℕ)) → AreAllGiven a ts → IsPart a ts goal st back [] → IsClosure a ts goal st back
+part_last a st ts goal back given was = record {
+  sound = was.sound;
+  full = full;
+  packets = was.packets;
+  once = was.once;
+}
+  where
+    full : (n i : ℕ) (z : List ℕ) → IsStorePacket a z → LeadsInto a ts (Under a goal) n i z → Under st back i z
+    full zero i z w l = was.kept i z w l
+    full (suc n) i z w l = elim (was.closed i z l.0 l.1 w l.2 (full n l.0 l.1 (led_in_range a ts i z l.0 l.1 given w l.2) l.3)) [
+      | inl none ↦ absurd none
+      | inr here ↦ here
+    ]
+
+-- nothing leads to a goal of no entries
+pub closure_none : (st : StoreState) (ts : List Transitions) → IsClosure st ts [] st []
+closure_none st ts = record {
+  sound = λ i z w u. absurd u;
+  full = full;
+  packets = tt;
+  once = tt;
+}
+  where
+    full : (n i : ℕ) (z : List ℕ) → IsStorePacket st z → LeadsInto st ts (Under st []) n i z → Under st [] i z
+    full zero i z w l = l
+    full (suc n) i z w l = absurd (none n l.0 l.1 l.3)
+      where
+        none : (n i : ℕ) (z : List ℕ) → LeadsInto st ts (Under st []) n i z → ⊥
+        none zero i z l = l
+        none (suc n) i z l = none n l.0 l.1 l.3
+
+-- the first frontier: all entries, each set once
+pub frontier_of : (st s1 s2 : StoreState) (goal back : List (ℕ × ℕ)) → Grows st s1 → Grows s1 s2 → HaveSets s1 goal → IsMerged s1 [] goal s2 back → IsWholeFrontier s2 goal back
+frontier_of st s1 s2 goal back g1 g2 sets m = record {
+  packets = sets_on s1 s2 goal g2 sets;
+  inside = λ i z w u. m.more i z (packet_back s1 s2 z g2 w) (under_back s1 s2 goal i z g2 sets u);
+  whole = λ i z w u. elim (m.either i z (packet_back s1 s2 z g2 w) u) [ inl none ↦ absurd none | inr there ↦ under_on s1 s2 goal i z g2 sets there ];
+}
+
+-- the closure of entries that were put together from a list is the list's
+pub closure_from : (st s1 s2 new : StoreState) (ts : List Transitions) (goal back all : List (ℕ × ℕ)) → Grows st s1 → Grows s1 s2 → AreAllGiven st ts → HaveSets st goal → IsMerged s1 [] goal s2 back → IsClosure s2 ts back new all → IsClosure st ts goal new all
+closure_from st s1 s2 new ts goal back all g1 g2 given sets m c = record {
+  sound = λ i z w u.
+      let l = c.sound i z (packet_on st s2 z g w) u in
+      leads_on st s2 ts (Under s2 back) (Under st goal) g given (λ j y p v. elim (m.either j y (packet_on st s1 y g1 p) v) [ inl none ↦ absurd none | inr there ↦ (0, under_back st s1 goal j y g1 sets there) ]) l.0 i z w l.1;
+  full = λ n i z w l. c.full n i z (packet_on st s2 z g w) (leads_grow st s2 ts (Under st goal) (Under s2 back) g given (λ j y p v. m.more j y (packet_on st s1 y g1 p) (under_on st s1 goal j y g1 sets v)) n i z w l);
+  packets = c.packets;
+  once = c.once;
+}
+  where
+    g : Grows st s2
+    g = grows_on st s1 s2 g1 g2

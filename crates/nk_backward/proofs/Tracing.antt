@@ -1,5 +1,5 @@
 -- Transitions, entry by entry, and as stores grow.
-use Rattle.std.proofs.Common.{◌≡◌, ℕ, ◌<◌, ◌≤◌, ◌+◌, ◌-◌, ◌⊎◌, inl, inr, refl, sym, ◌∙◌, ap, subst, arith, List, [], ◌∷◌, ◌++◌, length, length-append, get_or, Contains}
+use Rattle.std.proofs.Common.{◌≡◌, ℕ, ◌<◌, ◌+◌, ◌-◌, inl, inr, refl, sym, ◌∙◌, ap, subst, arith, List, [], ◌∷◌, ◌++◌, length, length-append, get_or, Contains}
 use Rattle.std.proofs.lemmas.Bool.Decides.{eqb_tells}
 use Rattle.std.proofs.lemmas.List.{get_or_append_left, get_or-append_right, get_or_default}
 use Rattle.nk_field.specs.Act.{applied}
@@ -9,11 +9,11 @@ use Rattle.nk_store.specs.StoreState.{StoreState, IsStorePacket, Grows, look}
 use Rattle.nk_store.proofs.Stores.{grows_on}
 use Rattle.nk_determ.specs.Sets.{SetsGrow}
 use Rattle.nk_outs.specs.declared.outs.Given.{Given}
-use Rattle.nk_determ.specs.Pairs.{Node, Under, Named, AreStates, AreLabelsBelow, IsPair, IsStep}
-use Rattle.nk_outs.specs.Outs.{entry, AreGiven, GivesAny, IsByOut}
+use Rattle.nk_determ.specs.Pairs.{AreStates, IsPair, IsStep}
+use Rattle.nk_outs.specs.Outs.{AreGiven, GivesAny, IsByOut}
 use Rattle.nk_outs.specs.Outs.{sent_to}
 use Rattle.nk_steps.specs.Local.{IsStateAt}
-use Rattle.nk_outs.proofs.Kept.{packet_on, packet_back, has_on, has_back}
+use Rattle.nk_outs.proofs.Kept.{packet_on, has_on}
 use Rattle.nk_goal.proofs.Growing.{sets_known, sets_same, under_named, step_on, step_back}
 use Rattle.nk_goal.proofs.Adding.{under_append, named_append}
 use Rattle.nk_outs.proofs.Givens.{given_on, gives_on, gives_back}

@@ -1,3 +1,4 @@
 pub mod Transitions
+pub mod Predecessors
 pub mod Closures
 pub mod Starts

@@ -1,79 +1,228 @@
 //! Entries with all packets from where transitions lead into them.
-ghost use Rattle.std.specs.Prelude.{◌≡◌, ◌||◌, IfOk, OnOk, length};
+ghost use Rattle.std.specs.Prelude.{◌≡◌, ◌&&◌, [], true, IfOk, OnOk, length};
+ghost use Rattle.nk_field.specs.Act.{applied};
 ghost use Rattle.nk_store.specs.StoreState.{Grows};
+ghost use Rattle.nk_sets.specs.PacketSets.{is_in, IsSet, IsPacketSetOf};
 ghost use Rattle.nk_determ.specs.Pairs.{Once};
 ghost use Rattle.nk_outs.specs.Outs.{AreGiven};
 ghost use Rattle.nk_goal.specs.Entries.{HaveSets};
 ghost use Rattle.nk_backward.specs.Transitions.{AreAllGiven};
-ghost use Rattle.nk_backward.specs.Closures.{IsTakenBack, ArePassed, IsClosure};
+ghost use Rattle.nk_backward.specs.Predecessors.{ArePlacesBelow, ArePredecessors};
+ghost use Rattle.nk_backward.specs.Closures.{IsTaken, IsTakenBelow, IsLedTo, IsLedInto, IsGained, IsClosure, IsWholeFrontier};
 
+use crate::predecessors::{Predecessors, outs_into, place_of, predecessors_of};
 use crate::transitions::Transitions;
+use indexmap::IndexMap;
+use nk_apply::both;
+use nk_determ::SetId;
 use nk_field::List;
-use nk_goal::Entries;
-use nk_sets::is_empty;
-use nk_store::Store;
-use nk_witness::pull_all;
-use std::alloc::AllocError;
+use nk_goal::{Entries, add, add_level, unmet};
+use nk_outs::Given;
+use nk_sets::{is_empty, preimage};
+use nk_store::{Id, Store};
+use std::alloc::{AllocError, Global};
 
-/// Adds all packets from where transitions lead into the entries, in any number: the least fixed point of preimages. Each pass
-/// goes from the last transitions to the first, since most lead on to later ones. The only error is that memory ran out.
+/// Entries with all packets from where transitions lead into the given ones, in any number: the least fixed point of preimages.
+/// The only error is that memory ran out.
 pub(crate) fn close_back(
     st: &mut Store,
     ts: &List<Transitions>,
-    back: &mut Entries,
+    goal: List<(SetId, Id)>,
+) -> Result<Entries, AllocError>
+    requires given { AreAllGiven st.old ts.now }
+    requires goal { HaveSets st.old goal }
+    ensures grows { Grows st.old st.new }
+    ensures ok { IfOk result (λ back. IsClosure st.old ts.now goal st.new back) }
+{
+    let mut back = IndexMap::new(st.alloc());
+    if goal.len() == 0 {
+        return Ok(Entries::new(back));
+    }
+    let pre = predecessors_of(st, ts)?;
+    add_level(st, &mut back, &goal)?;
+    take_all_back(st, ts, &pre, goal, &mut back)?;
+    Ok(Entries::new(back))
+}
+
+/// Adds all packets from where transitions lead into the entries. The frontier has what is not yet taken back, at first all of
+/// the entries. Each pass takes the frontier back, along the transitions into its sets alone; what comes new is the next one.
+fn take_all_back(
+    st: &mut Store,
+    ts: &List<Transitions>,
+    pre: &Predecessors,
+    all: List<(SetId, Id)>,
+    back: &mut IndexMap<SetId, Id>,
 ) -> Result<(), AllocError>
     requires given { AreAllGiven st.old ts.now }
-    requires back { HaveSets st.old back.old }
-    requires once { Once back.old }
+    requires pre { ArePredecessors st.old ts.now pre.now.places pre.now.into.entries }
+    requires frontier { IsWholeFrontier st.old all back.old.entries }
+    requires back { HaveSets st.old back.old.entries }
+    requires once { Once back.old.entries }
     ensures grows { Grows st.old st.new }
-    ensures ok { OnOk result (IsClosure st.old ts.now back.old st.new back.new) }
+    ensures ok { OnOk result (IsClosure st.old ts.now back.old.entries st.new back.new.entries) }
 {
+    let mut frontier = all;
     'passes: loop {
-        let grew = pass_back(st, ts, back)?;
-        if !grew {
+        let next = pass_back(st, ts, pre, &frontier, back)?;
+        if next.len() == 0 {
             return Ok(());
         }
+        frontier = next;
     }
 }
 
-/// Takes all transitions back once, the last first, and answers whether packets came.
-fn pass_back(st: &mut Store, ts: &List<Transitions>, back: &mut Entries) -> Result<bool, AllocError>
+/// Takes a frontier back, and answers the next one: the packets that came new, each set once.
+fn pass_back(
+    st: &mut Store,
+    ts: &List<Transitions>,
+    pre: &Predecessors,
+    frontier: &List<(SetId, Id)>,
+    back: &mut IndexMap<SetId, Id>,
+) -> Result<List<(SetId, Id)>, AllocError>
     requires given { AreAllGiven st.old ts.now }
-    requires back { HaveSets st.old back.old }
-    requires once { Once back.old }
+    requires pre { ArePredecessors st.old ts.now pre.now.places pre.now.into.entries }
+    requires frontier { HaveSets st.old frontier.now }
+    requires back { HaveSets st.old back.old.entries }
+    requires once { Once back.old.entries }
     ensures grows { Grows st.old st.new }
-    ensures ok { IfOk result (λ grew. ArePassed st.old ts.now (length ts.now) back.old st.new back.new grew) }
+    ensures ok { IfOk result (λ next. IsGained st.old (IsLedInto st.old ts.now frontier.now) back.old.entries [] st.new back.new.entries next) }
 {
-    let count = ts.len();
-    let mut grew = false;
+    let mut next = IndexMap::new(st.alloc());
+    let count = frontier.len();
     for k in 0..count {
-        let t = ts.at(count - 1 - k);
-        let more = take_back(st, t, back)?;
-        grew = either(grew, more);
+        let (t, x) = *frontier.at(k);
+        take_back(st, ts, pre, t, x, back, &mut next)?;
     }
-    Ok(grew)
+    let all = listed(st.alloc(), next)?;
+    Ok(all)
 }
 
-/// One of two tests.
-fn either(a: bool, b: bool) -> bool
-    ensures { result ≡ (a || b) }
-{
-    a || b
-}
-
-/// Adds the packets that one set's outs lead to packets of entries, and answers whether some came.
-fn take_back(st: &mut Store, t: &Transitions, back: &mut Entries) -> Result<bool, AllocError>
-    requires outs { AreGiven st.old t.now.outs }
-    requires back { HaveSets st.old back.old }
-    requires once { Once back.old }
+/// Takes packets under a set back, along the transitions that make them.
+fn take_back(
+    st: &mut Store,
+    ts: &List<Transitions>,
+    pre: &Predecessors,
+    t: SetId,
+    x: Id,
+    back: &mut IndexMap<SetId, Id>,
+    next: &mut IndexMap<SetId, Id>,
+) -> Result<(), AllocError>
+    requires given { AreAllGiven st.old ts.now }
+    requires pre { ArePredecessors st.old ts.now pre.now.places pre.now.into.entries }
+    requires packets { IsSet st.old x }
+    requires back { HaveSets st.old back.old.entries }
+    requires once { Once back.old.entries }
+    requires next { HaveSets st.old next.old.entries }
+    requires next_once { Once next.old.entries }
     ensures grows { Grows st.old st.new }
-    ensures ok { IfOk result (λ grew. IsTakenBack st.old t.now.source t.now.outs back.old st.new back.new grew) }
+    ensures ok { OnOk result (IsGained st.old (IsLedTo st.old ts.now t x) back.old.entries next.old.entries st.new back.new.entries next.new.entries) }
 {
-    let led = pull_all(st, &t.outs, back)?;
-    let rest = back.unmet(st, t.source, led)?;
-    if is_empty(st, rest) {
-        return Ok(false);
+    let outs = outs_into(st, pre, t, x)?;
+    take_outs(st, ts, &pre.places, &outs, back, next)?;
+    Ok(())
+}
+
+/// Takes the packets of outs back, each out along the transition that it stands for.
+fn take_outs(
+    st: &mut Store,
+    ts: &List<Transitions>,
+    places: &List<(usize, usize)>,
+    outs: &List<Given>,
+    back: &mut IndexMap<SetId, Id>,
+    next: &mut IndexMap<SetId, Id>,
+) -> Result<(), AllocError>
+    requires given { AreAllGiven st.old ts.now }
+    requires places { ArePlacesBelow ts.now (length ts.now) places.now }
+    requires outs { AreGiven st.old outs.now }
+    requires back { HaveSets st.old back.old.entries }
+    requires once { Once back.old.entries }
+    requires next { HaveSets st.old next.old.entries }
+    requires next_once { Once next.old.entries }
+    ensures grows { Grows st.old st.new }
+    ensures ok { OnOk result (IsGained st.old (IsTakenBelow st.old ts.now places.now outs.now (length outs.now)) back.old.entries next.old.entries st.new back.new.entries next.new.entries) }
+{
+    for i in 0..outs.len() {
+        take_out(st, ts, places, outs.at(i), back, next)?;
     }
-    back.add(st, t.source, rest)?;
-    Ok(true)
+    Ok(())
+}
+
+/// Takes the packets of an out back, along the transition that it stands for.
+fn take_out(
+    st: &mut Store,
+    ts: &List<Transitions>,
+    places: &List<(usize, usize)>,
+    q: &Given,
+    back: &mut IndexMap<SetId, Id>,
+    next: &mut IndexMap<SetId, Id>,
+) -> Result<(), AllocError>
+    requires given { AreAllGiven st.old ts.now }
+    requires places { ArePlacesBelow ts.now (length ts.now) places.now }
+    requires packets { IsSet st.old q.now.packets }
+    requires back { HaveSets st.old back.old.entries }
+    requires once { Once back.old.entries }
+    requires next { HaveSets st.old next.old.entries }
+    requires next_once { Once next.old.entries }
+    ensures grows { Grows st.old st.new }
+    ensures ok { OnOk result (IsGained st.old (IsTaken st.old ts.now places.now q.now) back.old.entries next.old.entries st.new back.new.entries next.new.entries) }
+{
+    let Some(place) = place_of(places, q.out.target) else {
+        return Ok(());
+    };
+    let t = ts.at(place.0);
+    let o = t.outs.at(place.1);
+    let led = led_to(st, o, q.packets)?;
+    put_new(st, t.source, led, back, next)?;
+    Ok(())
+}
+
+/// The packets that a transition leads to some of these.
+fn led_to(st: &mut Store, o: &Given, x: Id) -> Result<Id, AllocError>
+    requires from { IsSet st.old o.now.packets }
+    requires to { IsSet st.old x }
+    ensures grows { Grows st.old st.new }
+    ensures ok { IfOk result (λ r. IsPacketSetOf st.new r (λ pk. is_in st.old x (applied o.now.out.act pk) && is_in st.old o.now.packets pk)) }
+{
+    let before = preimage(st, &o.out.act, x)?;
+    let led = both(st, before, o.packets)?;
+    Ok(led)
+}
+
+/// Adds those of the packets that don't stand under a set yet, to all entries and to what came new.
+fn put_new(
+    st: &mut Store,
+    s: SetId,
+    y: Id,
+    back: &mut IndexMap<SetId, Id>,
+    next: &mut IndexMap<SetId, Id>,
+) -> Result<(), AllocError>
+    requires packets { IsSet st.old y }
+    requires back { HaveSets st.old back.old.entries }
+    requires once { Once back.old.entries }
+    requires next { HaveSets st.old next.old.entries }
+    requires next_once { Once next.old.entries }
+    ensures grows { Grows st.old st.new }
+    ensures ok { OnOk result (IsGained st.old (λ i z. (i ≡ s) × (is_in st.old y z ≡ true)) back.old.entries next.old.entries st.new back.new.entries next.new.entries) }
+{
+    let rest = unmet(st, back, s, y)?;
+    if is_empty(st, rest) {
+        return Ok(());
+    }
+    add(st, back, s, rest)?;
+    add(st, next, s, rest)?;
+    Ok(())
+}
+
+/// The entries in the order in which their sets came.
+pub(crate) fn listed(
+    alloc: Global,
+    pairs: IndexMap<SetId, Id>,
+) -> Result<List<(SetId, Id)>, AllocError>
+    ensures { IfOk result (λ ps. ps ≡ pairs.entries) }
+{
+    let mut all = List::new(alloc);
+    for pair in pairs {
+        all.push(pair)?;
+    }
+    Ok(all)
 }

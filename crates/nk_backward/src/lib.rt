@@ -5,6 +5,7 @@
 mod closure;
 mod entries;
 mod exploring;
+mod predecessors;
 mod starts;
 mod transitions;
 mod violations;

@@ -84,8 +84,8 @@ fn starts_of<G: Goal>(
     ensures labels { OnOk result (G.labels g.new ≡ G.labels g.old) }
     ensures same { OnOk result ((st : StoreState) (set pk : Items ℕ) → G.violations_of g.new st set pk ≡ G.violations_of g.old st set pk) }
 {
-    let mut back = violations(st, ss, &graph.entries, g, side)?;
-    close_back(st, &graph.transitions, &mut back)?;
+    let goal = violations(st, ss, &graph.entries, g, side)?;
+    let back = close_back(st, &graph.transitions, goal)?;
     let r = packets_under(st, &back, s, x)?;
     Ok(r)
 }

@@ -2,15 +2,17 @@
 ghost use Rattle.std.specs.Prelude.{◌≡◌, ◌<◌, ℕ, [], IfOk, OnOk, length, slice_index_or, List as Items};
 ghost use Rattle.nk_store.specs.StoreState.{StoreState, IsId, look, Grows, HasLeaves};
 ghost use Rattle.nk_sets.specs.PacketSets.{IsSet};
-ghost use Rattle.nk_determ.specs.Pairs.{AreLabelsBelow, EachPair, IsPair};
+ghost use Rattle.nk_determ.specs.Pairs.{AreLabelsBelow, EachPair, IsPair, Once};
+ghost use Rattle.nk_goal.specs.Entries.{HaveSets, IsAdded};
 ghost use Rattle.nk_witness.specs.Backs.{AreViolationsSoFar};
 ghost use Rattle.nk_backward.specs.Starts.{of_side};
 
+use crate::closure::listed;
 use indexmap::IndexMap;
 use nk_determ::{SetId, Sets, retarget};
 use nk_field::List;
-use nk_goal::{Entries, Goal};
-use nk_sets::at_packets;
+use nk_goal::{Goal, add};
+use nk_sets::{at_packets, is_empty};
 use nk_store::{Id, Store};
 use nk_witness::Side;
 use std::alloc::AllocError;
@@ -22,7 +24,7 @@ pub(crate) fn violations<G: Goal>(
     entries: &List<(SetId, Id)>,
     g: &mut G,
     side: Side,
-) -> Result<Entries, AllocError>
+) -> Result<List<(SetId, Id)>, AllocError>
     requires fits { G.fits g.old st.old }
     requires entries { EachPair (IsPair st.old ss.now (G.labels g.old)) entries.now }
     ensures grows { Grows st.old st.new }
@@ -31,14 +33,34 @@ pub(crate) fn violations<G: Goal>(
     ensures labels { OnOk result (G.labels g.new ≡ G.labels g.old) }
     ensures same { OnOk result ((st : StoreState) (set pk : Items ℕ) → G.violations_of g.new st set pk ≡ G.violations_of g.old st set pk) }
 {
-    let mut back = Entries::new(IndexMap::new(st.alloc()));
+    let mut back = IndexMap::new(st.alloc());
     for k in 0..entries.len() {
         let (s, x) = *entries.at(k);
         let d = side_violations(st, ss, s, g, side)?;
         let bad = at_packets(st, d, x)?;
-        back.add(st, s, bad)?;
+        add_some(st, &mut back, s, bad)?;
     }
-    Ok(back)
+    let all = listed(st.alloc(), back)?;
+    Ok(all)
+}
+
+/// Adds packets under a set, if there are any.
+fn add_some(
+    st: &mut Store,
+    back: &mut IndexMap<SetId, Id>,
+    s: SetId,
+    y: Id,
+) -> Result<(), AllocError>
+    requires back { HaveSets st.old back.old.entries }
+    requires once { Once back.old.entries }
+    requires packets { IsSet st.old y }
+    ensures grows { Grows st.old st.new }
+    ensures ok { OnOk result (IsAdded st.old back.old.entries s y st.new back.new.entries) }
+{
+    if is_empty(st, y) {
+        return Ok(());
+    }
+    add(st, back, s, y)
 }
 
 /// The diagram of one side's violations of a set.

@@ -1,30 +1,47 @@
-use Rattle.std.proofs.Common.{◌≡◌, ℕ, ◌<◌, ◌+◌, ◌-◌, length, sym, subst, arith}
-use Rattle.nk_store.proofs.Stores.{grows_on}
-use Rattle.nk_outs.specs.Outs.{AreGiven}
-use Rattle.nk_outs.proofs.Givens.{given_on}
-use Rattle.nk_backward.specs.declared.transitions.Transitions.{Transitions}
-use Rattle.nk_backward.specs.Transitions.{transitions_at}
-use Rattle.nk_backward.specs.Closures.{ArePassed}
-use Rattle.nk_backward.proofs.Tracing.{at_place}
-use Rattle.nk_backward.proofs.Taking.{passed_push}
+use Rattle.std.proofs.Common.{◌<◌, [], length, take, sym, subst, arith}
+use Rattle.nk_store.proofs.Stores.{grows_on, grows_same}
+use Rattle.nk_sets.specs.PacketSets.{IsSet}
+use Rattle.nk_sets.proofs.SetLemmas.{set_grows}
+use Rattle.nk_goal.proofs.Places.{each_at}
+use Rattle.nk_goal.proofs.Adding.{take_more, take_whole}
+use Rattle.nk_backward.specs.Closures.{IsLedInto, IsGained}
+use Rattle.nk_backward.proofs.Tracing.{all_given_on}
+use Rattle.nk_backward.proofs.Gaining.{gained_none}
+use Rattle.nk_backward.proofs.Preceding.{predecessors_on}
+use Rattle.nk_backward.proofs.Taking.{frontier_push}
 use Rattle.nk_backward.proofs.closure.pass_back.Goals as goal
 
-pub take_back-requires-clause-outs : goal.take_back-requires-clause-outs
-take_back-requires-clause-outs c =
-    let i : ℕ = c.len-count.result - 1 - c.loop-k.k in
-    let l : i < length c.args.ts.now = omega (arith, c.loop-k-test.true, c.len-count.ensures) in
-    let at : c.at-t.result.now ≡ transitions_at c.args.ts.now i = at_place c.args.ts.now i c.at-t.result.now l c.at-t.ensures in
-    given_on c.args.st.now c.loop-k.st c.at-t.result.now.outs c.loop-k.invariant.grows (subst (λ (q : Transitions). AreGiven c.args.st.now q.outs) (sym at) (c.requires.given i l))
+pub loop-k-init : goal.loop-k-init
+loop-k-init c = record {
+  grows = grows_same c.args.st.now;
+  gained = subst (λ ps. IsGained c.args.st.now (IsLedInto c.args.st.now c.args.ts.now []) c.args.back.now.entries [] c.args.st.now c.args.back.now.entries ps) (sym c.new-next.ensures.empty)
+      (gained_none c.args.st.now c.args.st.now (IsLedInto c.args.st.now c.args.ts.now []) c.args.back.now.entries [] (grows_same c.args.st.now) c.requires.back c.requires.once tt tt (λ i z w m. absurd m.3));
+}
+
+pub take_back-requires-clause-given : goal.take_back-requires-clause-given
+take_back-requires-clause-given c = all_given_on c.args.st.now c.loop-k.st c.args.ts.now c.loop-k.invariant.grows c.requires.given
+
+pub take_back-requires-clause-pre : goal.take_back-requires-clause-pre
+take_back-requires-clause-pre c = predecessors_on c.args.st.now c.loop-k.st c.args.ts.now c.args.pre.now.places c.args.pre.now.into.entries c.loop-k.invariant.grows c.requires.given c.requires.pre
+
+pub take_back-requires-clause-packets : goal.take_back-requires-clause-packets
+take_back-requires-clause-packets c =
+    let l : c.loop-k.k < length c.args.frontier.now = omega (arith, c.loop-k-test.true, c.len-count.ensures) in
+    set_grows c.args.st.now c.loop-k.st c.at.result.now.1 c.loop-k.invariant.grows (each_at (λ p. IsSet c.args.st.now p.1) c.args.frontier.now c.loop-k.k c.at.result.now c.requires.frontier l c.at.ensures)
 
 pub loop-k-preserved : goal.loop-k-preserved
 loop-k-preserved c =
-    let i : ℕ = c.len-count.result - 1 - c.loop-k.k in
-    let l : i < length c.args.ts.now = omega (arith, c.loop-k-test.true, c.len-count.ensures) in
-    let at : c.at-t.result.now ≡ transitions_at c.args.ts.now i = at_place c.args.ts.now i c.at-t.result.now l c.at-t.ensures in
-    let place : c.loop-k.k + i + 1 ≡ length c.args.ts.now = omega (arith, c.loop-k-test.true, c.len-count.ensures) in
+    let l : c.loop-k.k < length c.args.frontier.now = omega (arith, c.loop-k-test.true, c.len-count.ensures) in
+    let set = each_at (λ p. IsSet c.args.st.now p.1) c.args.frontier.now c.loop-k.k c.at.result.now c.requires.frontier l c.at.ensures in
     record {
       grows = grows_on _ _ _ c.loop-k.invariant.grows c.take_back.ensures.grows;
-      passed = subst (λ b. ArePassed c.args.st.now c.args.ts.now (c.loop-k.k + 1) c.args.back.now c.take_back.new.st c.take_back.new.back b) (sym c.either-grew.ensures)
-          (passed_push c.args.st.now c.loop-k.st c.take_back.new.st c.args.ts.now c.loop-k.k i c.at-t.result.now c.args.back.now c.loop-k.back c.take_back.new.back c.loop-k.grew c.in_ok-more.more
-          c.requires.given c.requires.back c.loop-k.invariant.grows c.take_back.ensures.grows place at c.loop-k.invariant.passed c.in_ok-more.ensures.ok);
+      gained = subst (λ ps. IsGained c.args.st.now (IsLedInto c.args.st.now c.args.ts.now ps) c.args.back.now.entries [] c.take_back.new.st c.take_back.new.back.entries c.take_back.new.next.entries) (sym (take_more c.args.frontier.now c.loop-k.k c.at.result.now l c.at.ensures))
+          (frontier_push c.args.st.now c.loop-k.st c.take_back.new.st c.args.ts.now (take c.loop-k.k c.args.frontier.now) c.at.result.now c.args.back.now.entries [] c.loop-k.back.entries c.loop-k.next.entries c.take_back.new.back.entries c.take_back.new.next.entries
+          c.loop-k.invariant.grows c.requires.given set c.loop-k.invariant.gained c.in_ok-take_back.ensures.ok);
     }
+
+pub returns-clause-ok : goal.returns-clause-ok
+returns-clause-ok c =
+    let all = take_whole c.args.frontier.now c.loop-k.k (omega (arith, c.loop-k-test.false, c.len-count.ensures)) in
+    subst (λ ps. IsGained c.args.st.now (IsLedInto c.args.st.now c.args.ts.now c.args.frontier.now) c.args.back.now.entries [] c.loop-k.st c.loop-k.back.entries ps) (sym c.in_ok-all.ensures)
+    (subst (λ ps. IsGained c.args.st.now (IsLedInto c.args.st.now c.args.ts.now ps) c.args.back.now.entries [] c.loop-k.st c.loop-k.back.entries c.loop-k.next.entries) all c.loop-k.invariant.gained)

@@ -1,9 +1,10 @@
+use Rattle.std.proofs.Common.{[], take}
 use Rattle.nk_store.specs.StoreState.{Grows}
-use Rattle.nk_backward.specs.Closures.{ArePassed}
+use Rattle.nk_backward.specs.Closures.{IsLedInto, IsGained}
 use Rattle.nk_backward.proofs.closure.pass_back.Given as goal
 
 abbrev pub invariant-loop-k : goal.invariant-loop-k
 invariant-loop-k l = record {
   grows : Grows l.fn.st l.st;
-  passed : ArePassed l.fn.st l.ts l.k l.fn.back l.st l.back l.grew;
+  gained : IsGained l.fn.st (IsLedInto l.fn.st l.ts (take l.k l.frontier)) l.fn.back.entries [] l.st l.back.entries l.next.entries;
 }

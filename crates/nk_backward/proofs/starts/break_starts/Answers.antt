@@ -1,11 +1,9 @@
-use Rattle.std.proofs.Common.{◌≡◌, ℕ, ◌∙◌, [], List, length, get_or, sym, subst, arith}
+use Rattle.std.proofs.Common.{ℕ, ◌∙◌, [], List, length, get_or, sym, subst, arith}
 use Rattle.nk_store.specs.StoreState.{StoreState}
 use Rattle.nk_store.proofs.Stores.{grows_on}
-use Rattle.nk_determ.proofs.Interned.{sets_on}
 use Rattle.nk_determ.specs.Pairs.{EachPair, IsPair}
 use Rattle.nk_witness.specs.Finds.{first_set, first_packets}
 use Rattle.nk_witness.specs.declared.found.Side.TheVariants.{Left, Right}
-use Rattle.nk_goal.proofs.Growing.{sets_refl}
 use Rattle.nk_backward.specs.declared.transitions.Transitions.{Transitions}
 use Rattle.nk_backward.specs.Starts.{LeadToSide}
 use Rattle.nk_backward.proofs.Tracing.{transitions_on}

@@ -5,9 +5,9 @@ use Rattle.nk_backward.proofs.starts.starts_of.Goals as goal
 pub returns-clause-ok : goal.returns-clause-ok
 returns-clause-ok g c =
     lead_to_side_of c.args.st.now c.violations.new.st c.close_back.new.st c.packets_under.new.st c.args.ss.now c.args.graph.now.transitions c.args.graph.now.entries
-    (g.G.Goal.violations_of c.args.g.now c.args.st.now) c.args.side c.args.s c.args.x c.in_ok-back.back c.close_back.new.back c.in_ok-r.r
-    c.violations.ensures.grows c.close_back.ensures.grows c.requires.packets.id c.requires.given c.in_ok-back.ensures.ok c.in_ok-close_back.ensures.ok c.in_ok-r.ensures.ok
+    (g.G.Goal.violations_of c.args.g.now c.args.st.now) c.args.side c.args.s c.args.x c.in_ok-goal.goal c.in_ok-back.back c.in_ok-r.r
+    c.violations.ensures.grows c.close_back.ensures.grows c.requires.packets.id c.requires.given c.in_ok-goal.ensures.ok c.in_ok-back.ensures.ok c.in_ok-r.ensures.ok
 
 pub returns-clause-fits : goal.returns-clause-fits
 returns-clause-fits g c =
-    g.met.G.Goal.fits_on c.violations.new.g c.violations.new.st c.packets_under.new.st c.in_ok-back.ensures.fits (grows_on _ _ _ c.close_back.ensures.grows c.packets_under.ensures.grows)
+    g.met.G.Goal.fits_on c.violations.new.g c.violations.new.st c.packets_under.new.st c.in_ok-goal.ensures.fits (grows_on _ _ _ c.close_back.ensures.grows c.packets_under.ensures.grows)

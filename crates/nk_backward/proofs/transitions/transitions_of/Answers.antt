@@ -1,11 +1,11 @@
-use Rattle.std.proofs.Common.{◌<◌, [], ◌∷◌, ◌++◌, ◌+◌, length, take, get_or, refl, sym, subst, arith}
+use Rattle.std.proofs.Common.{◌<◌, [], ◌∷◌, ◌++◌, ◌+◌, length, take, refl, sym, subst, arith}
 use Rattle.nk_store.proofs.Stores.{grows_on}
 use Rattle.nk_sets.proofs.SetLemmas.{set_grows}
 use Rattle.nk_determ.proofs.Interned.{sets_on}
 use Rattle.nk_determ.specs.Pairs.{AreLabelsBelow, IsPair}
 use Rattle.nk_goal.proofs.Places.{each_at}
 use Rattle.nk_goal.proofs.Growing.{sets_same, sets_known, states_grow}
-use Rattle.nk_goal.proofs.Adding.{take_more, take_whole}
+use Rattle.nk_goal.proofs.Adding.{take_more}
 use Rattle.nk_backward.specs.declared.transitions.Transitions.{Transitions}
 use Rattle.nk_backward.specs.Transitions.{AreTransitions}
 use Rattle.nk_backward.proofs.Tracing.{transitions_push}
