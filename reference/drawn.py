@@ -27,6 +27,9 @@ FORMS = {
     # What does the same as @, or nearly, % being the same predicate wherever it stands.
     "rewritten": "(@) + (@) | id;(@) | (@);id | (@) + drop | ~~id;(@) | (@) + drop;dup | (id + drop*)*;(@) | @ "
     "| ~(%)*;(@) | (@);(%)* + (@) | (@) + (@);% | %;(@) + ~(%);(@) | (@) + %;(@) | %;(@)",
+    # What does the same as @ on some packets, % being the same predicate wherever it stands.
+    "altered": "2× %;(@) | 2× (@) + %;(<compared>) | 3× ~(%);(@) + %;(<compared>) | (@);~(%) | (@);(% + <set>) "
+    "| %;(@);(% + dup)",
     "name": "30× p | x",
     "row": "row <positions> : id | 2× row <positions> : <predicate>",
     "positions": "6× 1 | 3× 2 | 3× 1 3 | 3× 2 4 | 0 1 | 2× 1 2 3 | 3 1 | 2× 5",
@@ -312,8 +315,12 @@ def spread_rows(draw, switch):
 def damaged(draw):
     """A case of another kind, with some bytes or lexemes taken out, doubled, changed or put in."""
     words, lines = draw.one(compiling, equating, checking, following, following, faring, asking)(draw)
+    return words, broken(draw, lines)
+
+
+def broken(draw, lines):
     pieces = re.findall(r"#[^\n]*|[A-Za-z_0-9]+|[ \t\r\n]+|:=|=>|->|\.\.|.", draw.shaped(lines))
-    return words, "".join(draw.damaged(pieces, "piece", draw.one(1, 1, 1, 2)))
+    return "".join(draw.damaged(pieces, "piece", draw.one(1, 1, 1, 2)))
 
 
 def declared(draw):
@@ -350,3 +357,15 @@ def case(random):
         except TooLarge:
             continue
         return kind.__name__, words, (text if isinstance(text, str) else draw.shaped(text)).encode()
+
+
+def pair(random):
+    """The words of `nk_impact`, after its name, and a text. Mostly two policies of which one is made from the other."""
+    draw = Draw(random)
+    left = draw.text("compared")
+    right = draw.text(draw.one("rewritten", "altered", "altered")).replace("@", left)
+    right = right.replace("%", draw.text("predicate"))
+    right = draw.one(right, right, right, right, draw.changed(left), draw.text("compared"))
+    lines, names = draw.program(left, right, tagged=0.7), draw.one("pq", "pq", "qp")
+    words = ["nk_impact", *names] if draw.chance(0.97) else ["nk_impact", *draw.one("p", "px", "xq", "pp", "pqp", "")]
+    return words, (broken(draw, lines) if draw.chance(0.03) else draw.shaped(lines)).encode()

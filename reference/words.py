@@ -50,12 +50,18 @@ def answer(words, text):
     """The status, and the bytes on standard output and on standard error."""
     try:
         how, arguments = command_of(words)
-        if len(text) > MOST_BYTES and words[0] not in ("gen", "job"):
-            return 8, b"", b"too long\n"
-        status, lines = how(text, *arguments)
-        return status, "".join(line + "\n" for line in lines).encode(), b""
     except Usage:
         return 2, b"", b"usage: nk COMMAND ARGUMENTS\n"
+    if len(text) > MOST_BYTES and words[0] not in ("gen", "job"):
+        return 8, b"", b"too long\n"
+    return replied(how, text, *arguments)
+
+
+def replied(how, text, *arguments):
+    """The same of a text of no more bytes."""
+    try:
+        status, lines = how(text, *arguments)
+        return status, "".join(line + "\n" for line in lines).encode(), b""
     except Fault as fault:
         return 3, b"", f"line {fault.line}: {fault.words}\n".encode()
     except Refused as refused:

@@ -5,9 +5,11 @@
 //!
 //!     ANSWER: nk WORD .. < INPUT
 //!     ANSWER: nk_draw WORD .. < INPUT
+//!     ANSWER: nk_impact WORD .. < INPUT
 #![tactic(auto)]
 
-use nk::run;
+use nk::{Status, run};
+use nk_change_impact::impact;
 use nk_io::{MemSink, PlainSource};
 use nk_picture::draw;
 use std::alloc::{AllocError, Global};
@@ -54,13 +56,12 @@ fn answers(
 ) -> Result<bool, AllocError> {
     let mut source = PlainSource::new(input);
     let (program, words) = parted(command);
-    if program == "nk" {
-        runs(alloc, words, &mut source, wanted)
-    } else if program == "nk_draw" {
-        draws(alloc, words, &mut source, wanted)
-    } else {
-        Ok(false)
-    }
+    let words = owned(alloc, words)?;
+    let mut out = sink(alloc)?;
+    let mut err = sink(alloc)?;
+    let status = ended(alloc, program, &words, &mut source, &mut out, &mut err);
+    let is_answer = status == Status::Done || status == Status::Differs;
+    Ok(is_wanted(is_answer, &out, &err, wanted))
 }
 
 /// The first word of a command, and the others.
@@ -71,55 +72,24 @@ fn parted(command: &str) -> (&str, &str) {
     }
 }
 
-/// The same of `nk` with these words.
-fn runs(
+/// How the program of this name ends with these words. Any other program than the three is a wrong use.
+fn ended(
     alloc: Global,
-    words: &str,
-    source: &mut PlainSource,
-    wanted: &[u8],
-) -> Result<bool, AllocError> {
-    let words = owned(alloc, words)?;
-    let mut out = sink(alloc)?;
-    let mut err = sink(alloc)?;
-    let is_answer = runs_to(alloc, &words, source, &mut out, &mut err);
-    Ok(is_wanted(is_answer, &out, &err, wanted))
-}
-
-/// Runs `nk`, and says whether it ended with an answer and not with a message.
-fn runs_to(
-    alloc: Global,
+    program: &str,
     words: &[String],
     source: &mut PlainSource,
     out: &mut MemSink,
     err: &mut MemSink,
-) -> bool {
-    let status = run(alloc, words, source, out, err);
-    status == nk::Status::Done || status == nk::Status::Differs
-}
-
-/// The same of `nk_draw` with these words.
-fn draws(
-    alloc: Global,
-    words: &str,
-    source: &mut PlainSource,
-    wanted: &[u8],
-) -> Result<bool, AllocError> {
-    let words = owned(alloc, words)?;
-    let mut out = sink(alloc)?;
-    let mut err = sink(alloc)?;
-    let is_answer = draws_to(alloc, &words, source, &mut out, &mut err);
-    Ok(is_wanted(is_answer, &out, &err, wanted))
-}
-
-/// Runs `nk_draw`, and says whether it ended with an answer and not with a message.
-fn draws_to(
-    alloc: Global,
-    words: &[String],
-    source: &mut PlainSource,
-    out: &mut MemSink,
-    err: &mut MemSink,
-) -> bool {
-    draw(alloc, words, source, out, err) == nk_picture::Status::Done
+) -> Status {
+    if program == "nk" {
+        run(alloc, words, source, out, err)
+    } else if program == "nk_draw" {
+        draw(alloc, words, source, out, err)
+    } else if program == "nk_impact" {
+        impact(alloc, words, source, out, err)
+    } else {
+        Status::Usage
+    }
 }
 
 /// Whether the sink of answers took what was wanted and that of messages nothing, or the other way round.

@@ -1,0 +1,34 @@
+//! Rows worked by hand: what `nk_impact` answers to words and texts, over sources and sinks in memory.
+//!
+//! The lines of the file:
+//!
+//!     # REMARK                why the next answer is right; the line is printed as it stands
+//!     text                    a text begins, which is empty so far; each call takes all its bytes, and none fails
+//!     |LINE                   the text goes on with this line and a line feed
+//!     calls SOURCE OUT ERR    how many bytes the source, `out` and `err` give or take at most in a call
+//!     fails SOURCE OUT ERR    which of their calls fails, counted from 1; 0 is none
+//!     $ WORD ..               asks for the answer to these words and this text
+//!
+//! The program prints each line `$ WORD ..`, the status, and in brackets what `out` and `err` took.
+#![tactic(auto)]
+
+mod asked;
+
+use crate::asked::Asked;
+use std::{fs, io};
+
+fn main(rt: HostRuntime) -> io::Result<()> {
+    let file = fs::read_to_string(&rt, "impact.rows")?;
+    let mut asked = Asked::new(rt.alloc());
+    for line in file.as_str().lines() {
+        if let Some(words) = line.strip_prefix("$") {
+            println!(rt; "{line}")?;
+            asked.ask(&rt, words)?;
+        } else if line.starts_with("#") {
+            println!(rt; "{line}")?;
+        } else {
+            asked.take(rt.alloc(), line)?;
+        }
+    }
+    Ok(())
+}
