@@ -1,14 +1,16 @@
-//! Runs each example in the folder `data`, draws some of them, and says whether the answers are the texts beside it.
+//! Runs each example in the folder `data`, draws some of them, translates addresses, and says whether the answers are the texts beside it.
 //!
 //! What is run stands in the file `runs` there, a line for each answer, with the file that has it, the program, its words, and
 //! the file that is its input:
 //!
 //!     ANSWER: nk WORD .. < INPUT
 //!     ANSWER: nk_draw WORD .. < INPUT
+//!     ANSWER: nk_address WORD .. < INPUT
 #![tactic(auto)]
 
 use nk::run;
 use nk_io::{MemSink, PlainSource};
+use nk_notation::translate_by_words;
 use nk_picture::draw;
 use std::alloc::{AllocError, Global};
 use std::{fs, io};
@@ -58,6 +60,8 @@ fn answers(
         runs(alloc, words, &mut source, wanted)
     } else if program == "nk_draw" {
         draws(alloc, words, &mut source, wanted)
+    } else if program == "nk_address" {
+        translates(alloc, words, &mut source, wanted)
     } else {
         Ok(false)
     }
@@ -120,6 +124,31 @@ fn draws_to(
     err: &mut MemSink,
 ) -> bool {
     draw(alloc, words, source, out, err) == nk_picture::Status::Done
+}
+
+/// The same of `nk_address` with these words.
+fn translates(
+    alloc: Global,
+    words: &str,
+    source: &mut PlainSource,
+    wanted: &[u8],
+) -> Result<bool, AllocError> {
+    let words = owned(alloc, words)?;
+    let mut out = sink(alloc)?;
+    let mut err = sink(alloc)?;
+    let is_answer = translates_to(alloc, &words, source, &mut out, &mut err);
+    Ok(is_wanted(is_answer, &out, &err, wanted))
+}
+
+/// Runs `nk_address`, and says whether it ended with an answer and not with a message.
+fn translates_to(
+    alloc: Global,
+    words: &[String],
+    source: &mut PlainSource,
+    out: &mut MemSink,
+    err: &mut MemSink,
+) -> bool {
+    translate_by_words(alloc, words, source, out, err) == nk::Status::Done
 }
 
 /// Whether the sink of answers took what was wanted and that of messages nothing, or the other way round.
