@@ -1,6 +1,6 @@
 //! Rows worked by hand: what `nk_address` answers to words and texts, over sources and sinks in memory.
 //!
-//! The lines of the file:
+//! The lines of the files:
 //!
 //!     # REMARK                nothing
 //!     text                    a text begins, which is empty so far; each call takes all its bytes, and none fails
@@ -19,12 +19,18 @@ use crate::asked::Asked;
 use std::{fs, io};
 
 fn main(rt: HostRuntime) -> io::Result<()> {
-    let file = fs::read_to_string(&rt, "addresses.rows")?;
+    answer(&rt, "addresses.rows")?;
+    answer(&rt, "guide.rows")
+}
+
+/// Prints the answers to the rows of a file.
+fn answer(rt: &HostRuntime, name: &str) -> io::Result<()> {
+    let file = fs::read_to_string(rt, name)?;
     let mut asked = Asked::new(rt.alloc());
     for line in file.as_str().lines() {
         if let Some(words) = line.strip_prefix("$") {
             println!(rt; "{line}")?;
-            asked.ask(&rt, words)?;
+            asked.ask(rt, words)?;
         } else {
             asked.take(rt.alloc(), line)?;
         }

@@ -1,4 +1,4 @@
-//! Runs each example in the folder `data`, draws some of them, and says whether the answers are the texts beside it.
+//! Runs each example in the folder `data`, draws some of them, translates addresses, and says whether the answers are the texts beside it.
 //!
 //! What is run stands in the file `runs` there, a line for each answer, with the file that has it, the program, its words, and
 //! the file that is its input:
@@ -6,11 +6,13 @@
 //!     ANSWER: nk WORD .. < INPUT
 //!     ANSWER: nk_draw WORD .. < INPUT
 //!     ANSWER: nk_impact WORD .. < INPUT
+//!     ANSWER: nk_address WORD .. < INPUT
 #![tactic(auto)]
 
 use nk::{Status, run};
 use nk_change_impact::impact;
 use nk_io::{MemSink, PlainSource};
+use nk_notation::translate_by_words;
 use nk_picture::draw;
 use std::alloc::{AllocError, Global};
 use std::{fs, io};
@@ -72,7 +74,7 @@ fn parted(command: &str) -> (&str, &str) {
     }
 }
 
-/// How the program of this name ends with these words. Any other program than the three is a wrong use.
+/// How the program of this name ends with these words. Any other program than the four is a wrong use.
 fn ended(
     alloc: Global,
     program: &str,
@@ -87,6 +89,8 @@ fn ended(
         draw(alloc, words, source, out, err)
     } else if program == "nk_impact" {
         impact(alloc, words, source, out, err)
+    } else if program == "nk_address" {
+        translate_by_words(alloc, words, source, out, err)
     } else {
         Status::Usage
     }

@@ -2,8 +2,10 @@ pub mod Addresses
 pub mod Cuts
 pub mod Fields
 pub mod Kept
+pub mod Plain
 pub mod ReadBack
 pub mod SoFar
+pub mod WholeWords
 pub mod WrittenBytes
 pub mod WrittenForms
 pub mod WrittenHardware

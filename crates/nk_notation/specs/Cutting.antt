@@ -1,5 +1,6 @@
 -- A text that is cut byte by byte: what is held, and the lexemes that are left.
-use Rattle.std.specs.Prelude.{ℕ, Bool, true, false, ◌&&◌, List, [], ◌∷◌, ◌++◌, length, flat_map, if◌then◌else◌, nat_le}
+use Rattle.std.specs.Prelude.{ℕ, Bool, true, false, ◌&&◌, List, [], ◌∷◌, ◌++◌, length, flat_map, if◌then◌else◌, nat_le, Ok, Err}
+use Rattle.std.specs.declared.result.Result.{Result}
 use Rattle.std.specs.List.{list_all}
 use Rattle.nk_notation.specs.declared.cutter.Open.{Open}
 use Rattle.nk_notation.specs.declared.cutter.Open.TheVariants as is_open
@@ -30,3 +31,8 @@ has_no_bytes (b ∷ bs) = false
 abbrev pub is_held : Open → List ℕ → Bool
 is_held is_open.Word held = is_word_front held && nat_le (length held) longest_word
 is_held o held = has_no_bytes held
+
+-- how many bytes were taken; where the translation ended, nothing is left and it doesn't matter
+abbrev pub count_taken : {E : Type 0} → Result ℕ E → ℕ
+count_taken (Ok n) = n
+count_taken (Err e) = 0

@@ -1,13 +1,13 @@
 //! A text that is cut into lexemes byte by byte.
-ghost use Rattle.std.specs.Prelude.{◌≡◌, ◌<◌, ◌∷◌, ◌++◌, [], List, ℕ, true, length, map, IfErr, OnOk};
+ghost use Rattle.std.specs.Prelude.{◌≡◌, ◌<◌, ◌≤◌, ◌∷◌, ◌++◌, [], List, ℕ, true, drop, length, map, take, take_while, IfErr, IfOk, OnOk};
 ghost use Rattle.nk_lex.specs.Classes.{is_name_byte, is_name_start};
-ghost use Rattle.nk_notation.specs.Cutting.{is_held, lexemes_left};
+ghost use Rattle.nk_notation.specs.Cutting.{count_taken, is_held, lexemes_left};
 ghost use Rattle.nk_notation.specs.Lexemes.{Byte, TextLexeme, Word, begins_word, is_run_byte, lexemes_of, longest_word};
 ghost use Rattle.nk_notation.specs.Translation.{TranslationGoesOn, nothing};
 
 use crate::Notation;
 use nk_number_forms::{Stop, is_digit};
-use std::alloc::Global;
+use std::alloc::{AllocFailed, Global};
 
 /// How many bytes a word has at most.
 const LONGEST_WORD: usize = 64;
@@ -49,8 +49,80 @@ impl<N: Notation> Cutter<N> {
 }
 
 impl<N: Notation> Cutter<N> {
+    /// Takes the front of the bytes that come next, and says how many they are: a word that stands whole at the front, else one byte.
+    /// What they complete goes to `out`.
+    #[inline(always)]
+    pub(crate) fn take_front(&mut self, out: &mut Vec<u8>, bytes: &[u8]) -> Result<usize, Stop>
+        requires some { 0 < length bytes.now }
+        ensures some { IfOk result (λ n. 0 < n) }
+        ensures within { IfOk result (λ n. n ≤ length bytes.now) }
+        ensures goes_on { (more : List ℕ) → TranslationGoesOn result
+            (N.made self.old.notation (lexemes_left self.old.state self.old.held.items (bytes.now ++ more)))
+            (N.made self.new.notation (lexemes_left self.new.state self.new.held.items (drop (count_taken result) bytes.now ++ more)))
+            out.old.items out.new.items }
+    {
+        match self.state {
+            Open::Between => self.take_lexeme(out, bytes),
+            _ => self.take_first(out, bytes),
+        }
+    }
+
+    /// The same where nothing is open.
+    #[inline(always)]
+    fn take_lexeme(&mut self, out: &mut Vec<u8>, bytes: &[u8]) -> Result<usize, Stop>
+        requires some { 0 < length bytes.now }
+        requires between { self.old.state ≡ Open.Between }
+        ensures some { IfOk result (λ n. 0 < n) }
+        ensures within { IfOk result (λ n. n ≤ length bytes.now) }
+        ensures goes_on { (more : List ℕ) → TranslationGoesOn result (N.made self.old.notation (lexemes_of (bytes.now ++ more)))
+            (N.made self.new.notation (lexemes_left self.new.state self.new.held.items (drop (count_taken result) bytes.now ++ more)))
+            out.old.items out.new.items }
+    {
+        let count = word_length(bytes);
+        if count == 0 {
+            return self.begin_first(out, bytes);
+        }
+        match self.notation.word(out, &bytes[..count]) {
+            Ok(()) => Ok(count),
+            Err(stop) => Err(stop),
+        }
+    }
+
+    /// Takes the first byte where nothing is open.
+    #[inline(always)]
+    fn begin_first(&mut self, out: &mut Vec<u8>, bytes: &[u8]) -> Result<usize, Stop>
+        requires some { 0 < length bytes.now }
+        requires between { self.old.state ≡ Open.Between }
+        ensures some { IfOk result (λ n. 0 < n) }
+        ensures within { IfOk result (λ n. n ≤ length bytes.now) }
+        ensures goes_on { (more : List ℕ) → TranslationGoesOn result (N.made self.old.notation (lexemes_of (bytes.now ++ more)))
+            (N.made self.new.notation (lexemes_left self.new.state self.new.held.items (drop (count_taken result) bytes.now ++ more)))
+            out.old.items out.new.items }
+    {
+        match self.begin(out, bytes[0]) {
+            Ok(()) => Ok(1),
+            Err(stop) => Err(stop),
+        }
+    }
+
+    /// Takes the first byte.
+    fn take_first(&mut self, out: &mut Vec<u8>, bytes: &[u8]) -> Result<usize, Stop>
+        requires some { 0 < length bytes.now }
+        ensures some { IfOk result (λ n. 0 < n) }
+        ensures within { IfOk result (λ n. n ≤ length bytes.now) }
+        ensures goes_on { (more : List ℕ) → TranslationGoesOn result
+            (N.made self.old.notation (lexemes_left self.old.state self.old.held.items (bytes.now ++ more)))
+            (N.made self.new.notation (lexemes_left self.new.state self.new.held.items (drop (count_taken result) bytes.now ++ more)))
+            out.old.items out.new.items }
+    {
+        match self.take(out, bytes[0]) {
+            Ok(()) => Ok(1),
+            Err(stop) => Err(stop),
+        }
+    }
+
     /// Takes the next byte of the text. What it completes goes to `out`.
-    pub(crate) fn take(&mut self, out: &mut Vec<u8>, byte: u8) -> Result<(), Stop>
+    fn take(&mut self, out: &mut Vec<u8>, byte: u8) -> Result<(), Stop>
         ensures { (more : List ℕ) → TranslationGoesOn result
             (N.made self.old.notation (lexemes_left self.old.state self.old.held.items (byte ∷ more)))
             (N.made self.new.notation (lexemes_left self.new.state self.new.held.items more)) out.old.items out.new.items }
@@ -72,6 +144,7 @@ impl<N: Notation> Cutter<N> {
     }
 
     /// The same where nothing is open.
+    #[inline(always)]
     fn begin(&mut self, out: &mut Vec<u8>, byte: u8) -> Result<(), Stop>
         requires between { self.old.state ≡ Open.Between }
         ensures { (more : List ℕ) → TranslationGoesOn result (N.made self.old.notation (lexemes_of (byte ∷ more)))
@@ -100,7 +173,7 @@ impl<N: Notation> Cutter<N> {
                 self.state = Open::Word;
                 Ok(())
             }
-            Err(_) => Err(Stop::NoMemory),
+            Err(AllocFailed { .. }) => Err(Stop::NoMemory),
         }
     }
 
@@ -137,7 +210,7 @@ impl<N: Notation> Cutter<N> {
     {
         match self.held.push(byte) {
             Ok(()) => Ok(()),
-            Err(_) => Err(Stop::NoMemory),
+            Err(AllocFailed { .. }) => Err(Stop::NoMemory),
         }
     }
 
@@ -200,6 +273,36 @@ fn bytes<N: Notation>(notation: &mut N, out: &mut Vec<u8>, text: &[u8]) -> Resul
         notation.byte(out, *byte)?;
     }
     Ok(())
+}
+
+/// How many bytes the word has that begins the bytes and ends before the last of them; 0 where there is none, or a longer one than a
+/// word may be.
+#[inline(always)]
+fn word_length(bytes: &[u8]) -> usize
+    ensures within { result ≤ length bytes.now }
+    ensures word { 0 < result → (more : List ℕ) →
+        lexemes_of (bytes.now ++ more) ≡ Word (take result bytes.now) ∷ lexemes_of (drop result bytes.now ++ more) }
+{
+    match bytes {
+        [first, rest @ ..] if begins_word(*first) => {
+            let count = run_length(rest) + 1;
+            if count < bytes.len() && count <= LONGEST_WORD {
+                count
+            } else {
+                0
+            }
+        }
+        _ => 0,
+    }
+}
+
+/// How many bytes of a run begin the bytes.
+#[inline(always)]
+fn run_length(bytes: &[u8]) -> usize
+    ensures length { result ≡ length (take_while is_run_byte bytes.now) }
+    ensures within { result ≤ length bytes.now }
+{
+    bytes.iter().take_while(|b| is_run_byte(**b)).count()
 }
 
 /// Whether the byte belongs to a run.

@@ -1,5 +1,6 @@
 //! Addresses become numbers.
-ghost use Rattle.std.specs.Prelude.{◌≡◌, ◌+◌, ◌-◌, ◌<◌, ◌≤◌, ◌^◌, ◌++◌, ◌==◌, codes, length, decimal, take, drop, not, Ok, Err, Option, IfErr, OnOk};
+ghost use Rattle.std.specs.Prelude.{◌≡◌, ◌+◌, ◌-◌, ◌<◌, ◌≤◌, ◌^◌, ◌++◌, ◌==◌, ◌&&◌, codes, count_by, nat_lt, length, decimal, take, drop, not, Ok, Err, Option, IfErr, OnOk};
+ghost use Rattle.std.specs.List.{list_all};
 ghost use Rattle.nk_number_forms.specs.Forms.{address_of, has_dots, has_ones_after, place_of_dots};
 ghost use Rattle.nk_notation.specs.Inward.{after_byte, after_word, both_atoms, inward, is_tables, kind_after, kind_beyond, place_after, plain_in, prefix_in, prefix_with, range_in, run_in, size_at, size_of_kind, slash_in, small_size, spelled, text_start, word_in};
 ghost use Rattle.nk_number_forms.specs.Numbers.{number_within};
@@ -8,9 +9,10 @@ ghost use Rattle.nk_notation.specs.Translation.{Puts};
 use crate::Notation;
 use crate::context::TextKind;
 use nk_number_forms::{
-    Atom, Cause, Fault, Stop, WordStop, address_of, atom_of, block_size, dropped, first_of,
+    Atom, Cause, Fault, Stop, WordStop, address_of, atom_of, block_size, colons, dropped, first_of,
     is_dotted, is_white, last_of, number_within, parted, place_of, place_of_dots, put, put_number,
 };
+use std::alloc::{AllocError, AllocFailed};
 
 /// What is known of the text before a lexeme.
 #[derive(Clone, Copy)]
@@ -63,26 +65,27 @@ impl Notation for Inward {
                 };
                 match put(out, text) {
                     Ok(()) => Err(Stop::Refused(fault)),
-                    Err(_) => Err(Stop::NoMemory),
+                    Err(AllocError) => Err(Stop::NoMemory),
                 }
             }
         }
     }
 
+    #[inline(always)]
     fn byte(&mut self, out: &mut Vec<u8>, byte: u8) -> Result<(), Stop> {
         match out.push(byte) {
             Ok(()) => {
                 self.pass_byte(byte);
                 Ok(())
             }
-            Err(_) => Err(Stop::NoMemory),
+            Err(AllocFailed { .. }) => Err(Stop::NoMemory),
         }
     }
 
     fn note(&mut self, out: &mut Vec<u8>, byte: u8) -> Result<(), Stop> {
         match out.push(byte) {
             Ok(()) => Ok(()),
-            Err(_) => Err(Stop::NoMemory),
+            Err(AllocFailed { .. }) => Err(Stop::NoMemory),
         }
     }
 
@@ -123,14 +126,24 @@ impl Inward {
         ensures { Puts result (word_in self.now text.now) out.old.items out.new.items }
     {
         match size_at(self.place, text) {
-            Some(size) => put_number(out, size),
+            Some(size) => put_decimal(out, size),
             None => self.put_plain(out, text),
         }
     }
 
     /// The same where no size is due.
-    #[tactic(auto, unfolding(crate::specs::Inward::plain_in, nk_number_forms::specs::Forms::first_byte))]
     fn put_plain(&self, out: &mut Vec<u8>, text: &[u8]) -> Result<(), WordStop>
+        ensures { Puts result (plain_in self.now text.now) out.old.items out.new.items }
+    {
+        if is_plain(text) {
+            return put_bytes(out, text);
+        }
+        self.put_formed(out, text)
+    }
+
+    /// The same of a word that may have a form.
+    #[tactic(auto, unfolding(crate::specs::Inward::plain_in, nk_number_forms::specs::Forms::first_byte))]
+    fn put_formed(&self, out: &mut Vec<u8>, text: &[u8]) -> Result<(), WordStop>
         ensures { Puts result (plain_in self.now text.now) out.old.items out.new.items }
     {
         let tables = is_tables(self.kind);
@@ -263,8 +276,8 @@ fn put_range(out: &mut Vec<u8>, lead: &[u8], run: &[u8], dots: usize) -> Result<
     let low = &run[..dots];
     let high = dropped(run, dots + 2);
     if place_of_dots(high) < high.len() {
-        put(out, lead)?;
-        return put(out, run);
+        put_bytes(out, lead)?;
+        return put_bytes(out, run);
     }
     put_both(out, lead, atom_of(low), low, b"..", atom_of(high), high)
 }
@@ -313,18 +326,18 @@ fn put_prefix(
         return Err(WordStop::Refused(Cause::Ones));
     }
     if tables {
-        put(out, lead)?;
-        put_number(out, address)?;
-        put(out, b"/")?;
-        return put(out, length);
+        put_bytes(out, lead)?;
+        put_decimal(out, address)?;
+        put_bytes(out, b"/")?;
+        return put_bytes(out, length);
     }
     if !tests {
         return Err(WordStop::Refused(Cause::Untested));
     }
-    put(out, b" in ")?;
-    put_number(out, address)?;
-    put(out, b"..")?;
-    put_number(out, address + (size - 1))
+    put_bytes(out, b" in ")?;
+    put_decimal(out, address)?;
+    put_bytes(out, b"..")?;
+    put_decimal(out, address + (size - 1))
 }
 
 /// Puts two atoms at the end, with these bytes before them and between them.
@@ -346,9 +359,9 @@ fn put_both(
     if let Atom::Faulty(cause) = second {
         return Err(WordStop::Refused(cause));
     }
-    put(out, lead)?;
+    put_bytes(out, lead)?;
     put_atom(out, first, first_text)?;
-    put(out, between)?;
+    put_bytes(out, between)?;
     put_atom(out, second, second_text)
 }
 
@@ -359,7 +372,46 @@ fn put_atom(out: &mut Vec<u8>, atom: Atom, text: &[u8]) -> Result<(), WordStop>
     ensures err { IfErr result (λ e. e ≡ WordStop.NoMemory) }
 {
     match atom {
-        Atom::Number(number) => put_number(out, number),
-        _ => put(out, text),
+        Atom::Number(number) => put_decimal(out, number),
+        _ => put_bytes(out, text),
     }
+}
+
+/// Puts the bytes at the end.
+fn put_bytes(out: &mut Vec<u8>, bytes: &[u8]) -> Result<(), WordStop>
+    ensures ok { OnOk result (out.new.items ≡ out.old.items ++ bytes.now) }
+    ensures err { IfErr result (λ e. e ≡ WordStop.NoMemory) }
+{
+    match put(out, bytes) {
+        Ok(()) => Ok(()),
+        Err(AllocError) => Err(WordStop::NoMemory),
+    }
+}
+
+/// Puts a number at the end in decimal digits.
+fn put_decimal(out: &mut Vec<u8>, number: u64) -> Result<(), WordStop>
+    ensures ok { OnOk result (out.new.items ≡ out.old.items ++ decimal number) }
+    ensures err { IfErr result (λ e. e ≡ WordStop.NoMemory) }
+{
+    match put_number(out, number) {
+        Ok(()) => Ok(()),
+        Err(AllocError) => Err(WordStop::NoMemory),
+    }
+}
+
+/// Whether the word has none of the bytes that each form has: the `.` of IPv4 addresses and ranges, the `/` of prefixes, the two `:` of
+/// hardware addresses and the `x` of hexadecimal numbers. Such a word is kept, whatever stands before it.
+fn is_plain(text: &[u8]) -> bool
+    ensures { result ≡ (list_all (λ b. not (b == 46) && not (b == 47) && not (b == 120)) text.now
+        && nat_lt (count_by (λ b. b == 58) text.now) 2) }
+{
+    has_plain_bytes(text) && colons(text) < 2
+}
+
+/// Whether the word has no `.`, `/` and `x`.
+#[inline(always)]
+fn has_plain_bytes(text: &[u8]) -> bool
+    ensures { result ≡ list_all (λ b. not (b == 46) && not (b == 47) && not (b == 120)) text.now }
+{
+    text.iter().all(|b| *b != b'.' && *b != b'/' && *b != b'x')
 }

@@ -10,9 +10,10 @@ use crate::context::TextKind;
 use crate::inward::{is_tables, kind_after, kind_beyond};
 use nk_lex::LARGEST;
 use nk_number_forms::{
-    Stop, WordStop, block_size, dropped, first_of, last_of, number_within, parted, place_of,
-    place_of_dots, put, put_address, put_hardware, put_hexadecimal, put_number,
+    Stop, block_size, dropped, first_of, last_of, number_within, parted, place_of, place_of_dots,
+    put, put_address, put_hardware, put_hexadecimal, put_number,
 };
+use std::alloc::AllocError;
 
 /// The form in which the values of a field are written.
 #[derive(Clone, Copy)]
@@ -84,10 +85,11 @@ impl Notation for Outward {
                 self.kind = kind_after(self.kind, text);
                 Ok(())
             }
-            Err(_) => Err(Stop::NoMemory),
+            Err(AllocError) => Err(Stop::NoMemory),
         }
     }
 
+    #[inline(always)]
     fn byte(&mut self, out: &mut Vec<u8>, byte: u8) -> Result<(), Stop> {
         match put_byte(out, self.spot, byte) {
             Ok(()) => {
@@ -95,24 +97,24 @@ impl Notation for Outward {
                 self.kind = kind_beyond(self.kind, byte);
                 Ok(())
             }
-            Err(_) => Err(Stop::NoMemory),
+            Err(AllocError) => Err(Stop::NoMemory),
         }
     }
 
     fn note(&mut self, out: &mut Vec<u8>, byte: u8) -> Result<(), Stop> {
-        match put_held(out, self.spot, &[byte]) {
+        match put_single(out, self.spot, byte) {
             Ok(()) => {
                 self.spot = Spot::Nothing;
                 Ok(())
             }
-            Err(_) => Err(Stop::NoMemory),
+            Err(AllocError) => Err(Stop::NoMemory),
         }
     }
 
     fn end(&mut self, out: &mut Vec<u8>) -> Result<(), Stop> {
         match put(out, held(self.spot)) {
             Ok(()) => Ok(()),
-            Err(_) => Err(Stop::NoMemory),
+            Err(AllocError) => Err(Stop::NoMemory),
         }
     }
 }
@@ -196,27 +198,38 @@ fn held(spot: Spot) -> &'static [u8]
 }
 
 /// Puts the bytes that are held at the end, and then these.
-fn put_held(out: &mut Vec<u8>, spot: Spot, bytes: &[u8]) -> Result<(), WordStop>
+fn put_held(out: &mut Vec<u8>, spot: Spot, bytes: &[u8]) -> Result<(), AllocError>
     ensures { OnOk result (out.new.items ≡ out.old.items ++ (held spot ++ bytes.now)) }
 {
     put(out, held(spot))?;
     put(out, bytes)
 }
 
+/// The same of a single byte.
+#[tactic(auto, unfolding(crate::specs::Outward::held))]
+fn put_single(out: &mut Vec<u8>, spot: Spot, byte: u8) -> Result<(), AllocError>
+    ensures { OnOk result (out.new.items ≡ out.old.items ++ (held spot ++ byte ∷ [])) }
+{
+    match spot {
+        Spot::Nothing => Ok(out.push(byte)?),
+        _ => put_held(out, spot, &[byte]),
+    }
+}
+
 /// Puts a byte outside words at the end, with the bytes that were held before it.
 #[tactic(auto, unfolding(crate::specs::Outward::byte_out, crate::specs::Outward::held))]
-fn put_byte(out: &mut Vec<u8>, spot: Spot, byte: u8) -> Result<(), WordStop>
+fn put_byte(out: &mut Vec<u8>, spot: Spot, byte: u8) -> Result<(), AllocError>
     ensures { OnOk result (out.new.items ≡ out.old.items ++ byte_out spot byte) }
 {
     match spot {
         Spot::Name(_) | Spot::In(_) if byte == b' ' => Ok(()),
-        _ => put_held(out, spot, &[byte]),
+        _ => put_single(out, spot, byte),
     }
 }
 
 /// Puts a word at the end, with the bytes that were held before it.
 #[tactic(auto, unfolding(crate::specs::Outward::word_out, crate::specs::Outward::held))]
-fn put_word(out: &mut Vec<u8>, tables: bool, spot: Spot, text: &[u8]) -> Result<(), WordStop>
+fn put_word(out: &mut Vec<u8>, tables: bool, spot: Spot, text: &[u8]) -> Result<(), AllocError>
     ensures { OnOk result (out.new.items ≡ out.old.items ++ word_out tables spot text.now) }
 {
     match spot {
@@ -229,12 +242,13 @@ fn put_word(out: &mut Vec<u8>, tables: bool, spot: Spot, text: &[u8]) -> Result<
         Spot::Assigned(form) if first_of(text) == b'=' => put_assigned(out, form, dropped(text, 1)),
         Spot::Blank(_) if text == b"in".as_slice() => Ok(()),
         Spot::Range(form) => put_range(out, tables, form, text),
+        Spot::Nothing => put(out, text),
         _ => put_held(out, spot, text),
     }
 }
 
 /// Puts an `=` at the end, and a value that is assigned.
-fn put_assigned(out: &mut Vec<u8>, form: Form, text: &[u8]) -> Result<(), WordStop>
+fn put_assigned(out: &mut Vec<u8>, form: Form, text: &[u8]) -> Result<(), AllocError>
     ensures { OnOk result (out.new.items ≡ out.old.items ++ (codes "=" ++ number_out form text.now)) }
 {
     put(out, b"=")?;
@@ -243,7 +257,7 @@ fn put_assigned(out: &mut Vec<u8>, form: Form, text: &[u8]) -> Result<(), WordSt
 
 /// Puts an `=` at the end, and a value that is tested for.
 #[tactic(auto, unfolding(crate::specs::Outward::value_out))]
-fn put_value(out: &mut Vec<u8>, tables: bool, form: Form, text: &[u8]) -> Result<(), WordStop>
+fn put_value(out: &mut Vec<u8>, tables: bool, form: Form, text: &[u8]) -> Result<(), AllocError>
     ensures { OnOk result (out.new.items ≡ out.old.items ++ (codes "=" ++ value_out tables form text.now)) }
 {
     put(out, b"=")?;
@@ -258,7 +272,7 @@ fn put_value(out: &mut Vec<u8>, tables: bool, form: Form, text: &[u8]) -> Result
 
 /// Puts a number at the end in a form, where the form writes it.
 #[tactic(auto, unfolding(crate::specs::Outward::number_out, crate::specs::Outward::text_or))]
-fn put_form(out: &mut Vec<u8>, form: Form, text: &[u8]) -> Result<(), WordStop>
+fn put_form(out: &mut Vec<u8>, form: Form, text: &[u8]) -> Result<(), AllocError>
     ensures { OnOk result (out.new.items ≡ out.old.items ++ number_out form text.now) }
 {
     match number_within(largest_of(form), text) {
@@ -283,7 +297,7 @@ fn largest_of(form: Form) -> u64
 
 /// Puts a number at the end in a form.
 #[tactic(auto, unfolding(crate::specs::Outward::form_text, crate::specs::Outward::largest_in_form))]
-fn put_number_as(out: &mut Vec<u8>, form: Form, number: u64) -> Result<(), WordStop>
+fn put_number_as(out: &mut Vec<u8>, form: Form, number: u64) -> Result<(), AllocError>
     requires { number ≤ largest_in_form form }
     ensures { OnOk result (out.new.items ≡ out.old.items ++ form_text form number) }
 {
@@ -297,7 +311,7 @@ fn put_number_as(out: &mut Vec<u8>, form: Form, number: u64) -> Result<(), WordS
 
 /// Puts the number before the `/` of a table text's prefix at the end.
 #[tactic(auto, unfolding(crate::specs::Outward::prefix_out))]
-fn put_prefix(out: &mut Vec<u8>, form: Form, value: &[u8], length: &[u8]) -> Result<(), WordStop>
+fn put_prefix(out: &mut Vec<u8>, form: Form, value: &[u8], length: &[u8]) -> Result<(), AllocError>
     ensures { OnOk result (out.new.items ≡ out.old.items ++ prefix_out form value.now length.now) }
 {
     match form {
@@ -308,7 +322,7 @@ fn put_prefix(out: &mut Vec<u8>, form: Form, value: &[u8], length: &[u8]) -> Res
 
 /// Puts the address of a prefix with a length at the end.
 #[tactic(auto, unfolding(crate::specs::Outward::address_out))]
-fn put_address_of(out: &mut Vec<u8>, value: &[u8], length: &[u8]) -> Result<(), WordStop>
+fn put_address_of(out: &mut Vec<u8>, value: &[u8], length: &[u8]) -> Result<(), AllocError>
     ensures { OnOk result (out.new.items ≡ out.old.items
         ++ address_out value.now (number_within 4294967295 value.now) (number_within 32 length.now)) }
 {
@@ -325,7 +339,7 @@ fn put_address_of(out: &mut Vec<u8>, value: &[u8], length: &[u8]) -> Result<(), 
 
 /// Puts what stands after ` in ` and a field's name at the end, with the ` in `.
 #[tactic(auto, unfolding(crate::specs::Outward::range_out))]
-fn put_range(out: &mut Vec<u8>, tables: bool, form: Form, text: &[u8]) -> Result<(), WordStop>
+fn put_range(out: &mut Vec<u8>, tables: bool, form: Form, text: &[u8]) -> Result<(), AllocError>
     ensures { OnOk result (out.new.items ≡ out.old.items ++ range_out tables form text.now) }
 {
     let dots = place_of_dots(text);
@@ -344,7 +358,7 @@ fn put_ends(
     form: Form,
     text: &[u8],
     dots: usize,
-) -> Result<(), WordStop>
+) -> Result<(), AllocError>
     requires { dots ≤ length text.now }
     ensures { OnOk result (out.new.items ≡ out.old.items ++ ends_out tables form text.now
         (number_within (largest_in_form form) (take dots text.now)) (number_within (largest_in_form form) (drop (dots + 2) text.now))) }
@@ -370,7 +384,7 @@ fn put_interval(
     form: Form,
     low: u64,
     high: u64,
-) -> Result<(), WordStop>
+) -> Result<(), AllocError>
     requires low { low ≤ largest_in_form form }
     requires high { high ≤ largest_in_form form }
     ensures { OnOk result (out.new.items ≡ out.old.items ++ interval_out form low high (length_of tables form low high)) }

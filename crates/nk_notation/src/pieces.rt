@@ -8,7 +8,7 @@ ghost use Rattle.nk_reply.specs.Use.{use_of};
 
 use crate::Notation;
 use crate::cutter::Cutter;
-use nk_io::{PieceError, Sink, Source, Taken, next_piece, write_all};
+use nk_io::{PieceError, Sink, Source, Taken, WriteFault, next_piece, write_all};
 use nk_number_forms::{Fault, Stop};
 use std::alloc::Global;
 
@@ -93,7 +93,7 @@ fn pass_piece<N: Notation, O: Sink>(
         Err(Stop::NoMemory) => Err(Ending::NoMemory),
         Err(Stop::Refused(fault)) => match write_all(out, written) {
             Ok(()) => Err(Ending::Refused(fault)),
-            Err(_) => Err(Ending::WriteFault),
+            Err(WriteFault) => Err(Ending::WriteFault),
         },
     }
 }
@@ -108,7 +108,7 @@ fn write_piece<O: Sink>(written: &mut Vec<u8>, out: &mut O) -> Result<(), Ending
             written.clear();
             Ok(())
         }
-        Err(_) => Err(Ending::WriteFault),
+        Err(WriteFault) => Err(Ending::WriteFault),
     }
 }
 
@@ -122,9 +122,10 @@ fn take_piece<N: Notation>(
         (N.made cutter.old.notation (lexemes_left cutter.old.state cutter.old.held.items (piece.now ++ more)))
         (N.made cutter.new.notation (lexemes_left cutter.new.state cutter.new.held.items more)) written.old.items written.new.items }
 {
-    for byte in piece {
-        match cutter.take(written, *byte) {
-            Ok(()) => {}
+    let mut at = 0;
+    'lexemes: while at < piece.len() {
+        match cutter.take_front(written, &piece[at..]) {
+            Ok(count) => at += count,
             Err(stop) => return Err(stop),
         }
     }
@@ -144,12 +145,12 @@ fn finish<N: Notation, O: Sink>(
     match cutter.end(written) {
         Ok(()) => match write_all(out, written) {
             Ok(()) => Ending::Done,
-            Err(_) => Ending::WriteFault,
+            Err(WriteFault) => Ending::WriteFault,
         },
         Err(Stop::NoMemory) => Ending::NoMemory,
         Err(Stop::Refused(fault)) => match write_all(out, written) {
             Ok(()) => Ending::Refused(fault),
-            Err(_) => Ending::WriteFault,
+            Err(WriteFault) => Ending::WriteFault,
         },
     }
 }

@@ -158,7 +158,7 @@ fn all_hex_and_colons(text: &[u8]) -> bool
 }
 
 /// How many colons stand in it.
-fn colons(text: &[u8]) -> usize
+pub fn colons(text: &[u8]) -> usize
     ensures { result ≡ count_by (λ b. b == 58) text.now }
 {
     text.iter().filter(|b| **b == b':').count()

@@ -4,13 +4,13 @@ ghost use Rattle.nk_lex.specs.Lex.{largest};
 ghost use Rattle.nk_number_forms.specs.Forms.{address_text, hardware_text, hexadecimal_text};
 ghost use Rattle.nk_number_forms.specs.Numbers.{pair_text};
 
-use crate::fault::WordStop;
 use crate::numbers::hex_digit;
 use crate::writing::{put, put_number};
+use std::alloc::AllocError;
 
 /// Puts a byte at the end in two hexadecimal digits.
 #[tactic(auto, unfolding(crate::specs::Numbers::pair_text))]
-fn put_pair(out: &mut Vec<u8>, value: u64) -> Result<(), WordStop>
+fn put_pair(out: &mut Vec<u8>, value: u64) -> Result<(), AllocError>
     requires { value < 256 }
     ensures { OnOk result (out.new.items ≡ out.old.items ++ pair_text value) }
 {
@@ -18,7 +18,7 @@ fn put_pair(out: &mut Vec<u8>, value: u64) -> Result<(), WordStop>
 }
 
 /// Puts three bytes at the end as pairs with colons between them.
-fn put_pairs(out: &mut Vec<u8>, first: u64, second: u64, third: u64) -> Result<(), WordStop>
+fn put_pairs(out: &mut Vec<u8>, first: u64, second: u64, third: u64) -> Result<(), AllocError>
     requires first { first < 256 }
     requires second { second < 256 }
     requires third { third < 256 }
@@ -32,7 +32,7 @@ fn put_pairs(out: &mut Vec<u8>, first: u64, second: u64, third: u64) -> Result<(
 }
 
 /// Puts a number at the end as a hardware address.
-pub fn put_hardware(out: &mut Vec<u8>, number: u64) -> Result<(), WordStop>
+pub fn put_hardware(out: &mut Vec<u8>, number: u64) -> Result<(), AllocError>
     requires { number ≤ largest }
     ensures { OnOk result (out.new.items ≡ out.old.items ++ hardware_text number) }
 {
@@ -47,7 +47,7 @@ pub fn put_hardware(out: &mut Vec<u8>, number: u64) -> Result<(), WordStop>
 }
 
 /// Puts two numbers at the end with a dot between them.
-fn put_dotted(out: &mut Vec<u8>, first: u64, second: u64) -> Result<(), WordStop>
+fn put_dotted(out: &mut Vec<u8>, first: u64, second: u64) -> Result<(), AllocError>
     ensures { OnOk result (out.new.items ≡ out.old.items ++ (decimal first ++ 46 ∷ decimal second)) }
 {
     put_number(out, first)?;
@@ -56,7 +56,7 @@ fn put_dotted(out: &mut Vec<u8>, first: u64, second: u64) -> Result<(), WordStop
 }
 
 /// Puts a number at the end as an IPv4 address.
-pub fn put_address(out: &mut Vec<u8>, number: u64) -> Result<(), WordStop>
+pub fn put_address(out: &mut Vec<u8>, number: u64) -> Result<(), AllocError>
     ensures { OnOk result (out.new.items ≡ out.old.items ++ address_text number) }
 {
     put_dotted(out, number / 16_777_216, number / 65_536 % 256)?;
@@ -65,7 +65,7 @@ pub fn put_address(out: &mut Vec<u8>, number: u64) -> Result<(), WordStop>
 }
 
 /// Puts a number at the end in four hexadecimal digits.
-pub fn put_hexadecimal(out: &mut Vec<u8>, number: u64) -> Result<(), WordStop>
+pub fn put_hexadecimal(out: &mut Vec<u8>, number: u64) -> Result<(), AllocError>
     requires { number < 2 ^ 16 }
     ensures { OnOk result (out.new.items ≡ out.old.items ++ hexadecimal_text number) }
 {

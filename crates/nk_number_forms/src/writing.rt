@@ -1,24 +1,19 @@
 //! What is put at the end of the bytes that are written.
-ghost use Rattle.std.specs.Prelude.{◌≡◌, ◌++◌, IfErr, OnOk, decimal};
+ghost use Rattle.std.specs.Prelude.{◌≡◌, ◌++◌, OnOk, decimal};
 
-use crate::fault::WordStop;
 use itoa::Buffer;
+use std::alloc::AllocError;
 
 /// Puts the bytes at the end. The only error is that memory ran out.
-pub fn put(out: &mut Vec<u8>, bytes: &[u8]) -> Result<(), WordStop>
-    ensures ok { OnOk result (out.new.items ≡ out.old.items ++ bytes.now) }
-    ensures err { IfErr result (λ e. e ≡ WordStop.NoMemory) }
+pub fn put(out: &mut Vec<u8>, bytes: &[u8]) -> Result<(), AllocError>
+    ensures { OnOk result (out.new.items ≡ out.old.items ++ bytes.now) }
 {
-    match out.extend_from_slice(bytes) {
-        Ok(()) => Ok(()),
-        Err(_) => Err(WordStop::NoMemory),
-    }
+    out.extend_from_slice(bytes)
 }
 
 /// Puts a number at the end in decimal digits. The only error is that memory ran out.
-pub fn put_number(out: &mut Vec<u8>, number: u64) -> Result<(), WordStop>
-    ensures ok { OnOk result (out.new.items ≡ out.old.items ++ decimal number) }
-    ensures err { IfErr result (λ e. e ≡ WordStop.NoMemory) }
+pub fn put_number(out: &mut Vec<u8>, number: u64) -> Result<(), AllocError>
+    ensures { OnOk result (out.new.items ≡ out.old.items ++ decimal number) }
 {
     let mut buffer = Buffer::new();
     put(out, buffer.format(number).as_bytes())
