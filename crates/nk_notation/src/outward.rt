@@ -53,7 +53,7 @@ pub(crate) enum Spot {
 
 /// What is known of the text before a lexeme.
 #[derive(Drop)]
-pub(crate) struct Outward {
+pub struct Outward {
     fields: Vec<NamedField>,
     kind: TextKind,
     spot: Spot,
