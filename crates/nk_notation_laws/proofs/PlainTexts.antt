@@ -23,13 +23,13 @@ use Rattle.nk_notation_laws.specs.Laws.{IsLeftByIn}
 use Rattle.nk_notation_laws.specs.PlainLexemes.{ArePlain, EndsRun, ends, blank, ended, mark, named, number, interval, port, assigned, tested, prefixed, divided, equals, linked, is_mark, joins}
 use Rattle.nk_notation_laws.proofs.Places.{after_long, after_other, differ, equals_nameless, no_field, no_size}
 use Rattle.nk_notation_laws.proofs.ReadsWords.{Reads, reads_byte, reads_long, reads_nothing, reads_word}
-use Rattle.nk_notation_laws.proofs.RunsAgain.{all_two, decimal_run, decimal_still, number_nameless, number_slashed, range_still}
+use Rattle.nk_notation_laws.proofs.RunsAgain.{all_two, decimal_run, decimal_still, is_nameless, number_nameless, number_slashed, range_still}
 use Rattle.nk_notation_laws.proofs.Shapes.{IsStill, run_alone}
 use Rattle.nk_notation_laws.proofs.ValuesBack.{plain_length}
 use Rattle.nk_notation_laws.proofs.WordsAgain.{decimal_short, equals_kept, nameless_front, plain_word, range_runs, run_kept}
 
 -- no size is due
-abbrev Bare : Inward → Type 0
+abbrev pub Bare : Inward → Type 0
 Bare r = r.place ≡ place.Elsewhere
 
 -- a run with none of the bytes `.` and `/`, that is no form
@@ -75,7 +75,7 @@ unfolding is_hexadecimal
 name_hex [] h v = absurd h
 name_hex (b ∷ w) h v = ap (λ t. t && (get_or (b ∷ w ++ v) 1 0 == 120)) (not_that is_name_start 48 b refl h.0)
 
-name_still : (w : List ℕ) → IsWord w → IsStill w
+pub name_still : (w : List ℕ) → IsWord w → IsStill w
 name_still w h =
     let all = word_bytes w h in
     alone_still w (name_other 46 refl w all) (name_other 47 refl w all) (not_coloned w (name_other 58 refl w all)) (subst (λ v. is_hexadecimal v ≡ false) (append-nil w) (name_hex w h []))
@@ -102,7 +102,7 @@ colon_still : IsStill (58 ∷ [])
 unfolding is_hexadecimal
 colon_still = alone_still (58 ∷ []) refl refl (colon_last []) refl
 
-nothing_still : IsStill []
+pub nothing_still : IsStill []
 unfolding is_coloned is_hexadecimal first_byte last_byte is_hex
 nothing_still = alone_still [] refl refl refl refl
 
@@ -113,7 +113,7 @@ count_past (b ∷ v) w h =
     let parts = both_pass (is_other 58 b) (list_all (is_other 58) v) h in
     other_counts b (v ++ w) (un_not (b == 58) parts.0) ∙ count_past v w parts.1
 
-abbrev port_run : (a b : ℕ) → List ℕ
+abbrev pub port_run : (a b : ℕ) → List ℕ
 port_run a b = decimal a ++ 58 ∷ decimal b
 
 port_coloned : (a b : ℕ) → a ≤ largest → b ≤ largest → is_coloned (port_run a b) ≡ false
@@ -130,7 +130,7 @@ unfolding is_hexadecimal
 digits_hex d [] v h = and_false (d == 48) false refl
 digits_hex d (e ∷ ds) v h = and_false (d == 48) (e == 120) (not_that is_digit 120 e refl (both_pass (is_digit e) (list_all is_digit ds) h).0)
 
-port_still : (a b : ℕ) → a ≤ largest → b ≤ largest → IsStill (port_run a b)
+pub port_still : (a b : ℕ) → a ≤ largest → b ≤ largest → IsStill (port_run a b)
 port_still a b la lb =
     let others : (c : ℕ) → is_digit c ≡ false → (n : ℕ) → n ≤ largest → list_all (is_other c) (decimal n) ≡ true = λ c fails n le. decimal_all (is_other c) (λ x digit. digit_other c x fails digit) n le in
     let d = digits_of a la in
@@ -207,10 +207,23 @@ left_decimal n rest le stops next =
     subst (λ v. Left (v ++ rest)) (append-nil (decimal n))
     (left_number n [] rest le (all_two is_run_byte (decimal n) [] (decimal_run n le) refl) (subst IsStill (sym (append-nil (decimal n))) (decimal_still n le)) stops next)
 
+pub word_run : (w : List ℕ) → IsWord w → list_all is_run_byte w ≡ true
+word_run w h = names_run w (word_bytes w h)
+
+pub word_front : (w : List ℕ) → IsWord w → IsWordFront w
+word_front w h = subst IsWordFront (append-nil w) (run_front w h [] refl)
+
+-- a number
+pub decimal_odd : (n : ℕ) → n ≤ largest → is_nameless (decimal n) ≡ true
+decimal_odd n le = subst (λ v. is_nameless v ≡ true) (append-nil (decimal n)) (number_nameless n le [])
+
+pub decimal_front : (n : ℕ) → n ≤ largest → IsWordFront (decimal n)
+decimal_front n le = nameless_front (decimal n) (decimal_run n le) (decimal_odd n le)
+
 -- a name
 pub left_name : (w rest : List ℕ) → IsWord w → bytes_eq w (codes "field") ≡ false → StopsAt is_run_byte rest → Left rest → Left (w ++ rest)
 left_name w rest h other stops next =
-    left_run w rest (subst IsWordFront (append-nil w) (run_front w h [] refl)) (names_run w (word_bytes w h)) other (name_still w h) stops next
+    left_run w rest (word_front w h) (word_run w h) other (name_still w h) stops next
 
 pub left_nothing : Left []
 left_nothing = reads_nothing false Bare
@@ -265,10 +278,25 @@ left_mark dots rest h next = absurd (false≢true h)
 left_mark open_bracket rest h next = left_byte 91 rest refl refl next
 left_mark close_bracket rest h next = left_byte 93 rest refl refl next
 
-left_pair : (a b c : ℕ) (rest : List ℕ) → a ≤ largest → b ≤ largest → is_run_byte c ≡ true → IsStill (decimal a ++ c ∷ decimal b) → StopsAt is_run_byte rest → Left rest
+pub left_pair : (a b c : ℕ) (rest : List ℕ) → a ≤ largest → b ≤ largest → is_run_byte c ≡ true → IsStill (decimal a ++ c ∷ decimal b) → StopsAt is_run_byte rest → Left rest
     → Left (decimal a ++ c ∷ (decimal b ++ rest))
 left_pair a b c rest la lb run still stops next =
     subst Left (append_assoc (decimal a) (c ∷ decimal b) rest) (left_number a (c ∷ decimal b) rest la (pair_runs a b c la lb run) still stops next)
+
+-- an assignment, a prefix and `:`
+pub left_assigned : (w : List ℕ) (n : ℕ) (rest : List ℕ) → IsWord w → n ≤ largest → StopsAt is_run_byte rest → Left rest → Left (w ++ 58 ∷ 61 ∷ (decimal n ++ rest))
+left_assigned w n rest h le stops next =
+    subst Left (append_assoc w (58 ∷ []) (61 ∷ decimal n ++ rest))
+    (left_run (w ++ 58 ∷ []) (61 ∷ decimal n ++ rest) (run_front w h (58 ∷ []) refl) (all_two is_run_byte w (58 ∷ []) (word_run w h) refl) (colon_field w) (assigned_still w h) refl
+    (left_equals (decimal n) rest (decimal_run n le) (decimal_still n le) stops next))
+
+pub left_prefix : (a b : ℕ) (rest : List ℕ) → a ≤ largest → b ≤ largest → StopsAt is_run_byte rest → Left rest → Left (61 ∷ (decimal a ++ 47 ∷ (decimal b ++ rest)))
+left_prefix a b rest la lb stops next =
+    subst (λ v. Left (61 ∷ v)) (append_assoc (decimal a) (47 ∷ decimal b) rest)
+    (left_equals (prefix_run a b) rest (pair_runs a b 47 la lb refl) (prefix_still a b la lb) stops next)
+
+pub left_colon : (rest : List ℕ) → StopsAt is_run_byte rest → Left rest → Left (58 ∷ rest)
+left_colon rest stops next = left_run (58 ∷ []) rest (refl, refl) refl refl colon_still stops next
 
 -- the text of lexemes with plain numbers
 left_text : (xs : List Lexeme) → ArePlain xs → Left (text_of xs)
@@ -283,15 +311,10 @@ left_text xs (interval a b ys la lb e p) =
     subst Left (append_assoc (decimal a) (46 ∷ 46 ∷ decimal b) (text_of ys))
     (left_number a (46 ∷ 46 ∷ decimal b) (text_of ys) la (range_runs a b la lb) (range_still a b la lb) (run_stops ys e) (left_text ys p))
 left_text xs (port a b ys la lb e p) = left_pair a b 58 (text_of ys) la lb refl (port_still a b la lb) (run_stops ys e) (left_text ys p)
-left_text xs (assigned w n ys h le e p) =
-    subst Left (append_assoc w (58 ∷ []) (61 ∷ decimal n ++ text_of ys))
-    (left_run (w ++ 58 ∷ []) (61 ∷ decimal n ++ text_of ys) (run_front w h (58 ∷ []) refl) (all_two is_run_byte w (58 ∷ []) (names_run w (word_bytes w h)) refl) (colon_field w) (assigned_still w h) refl
-    (left_equals (decimal n) (text_of ys) (decimal_run n le) (decimal_still n le) (run_stops ys e) (left_text ys p)))
+left_text xs (assigned w n ys h le e p) = left_assigned w n (text_of ys) h le (run_stops ys e) (left_text ys p)
 left_text xs (tested n ys le e p) = left_equals (decimal n) (text_of ys) (decimal_run n le) (decimal_still n le) (run_stops ys e) (left_text ys p)
-left_text xs (prefixed a b ys la lb e p) =
-    subst (λ v. Left (61 ∷ v)) (append_assoc (decimal a) (47 ∷ decimal b) (text_of ys))
-    (left_equals (prefix_run a b) (text_of ys) (pair_runs a b 47 la lb refl) (prefix_still a b la lb) (run_stops ys e) (left_text ys p))
-left_text xs (divided ys e p) = left_run (58 ∷ []) (text_of ys) (refl, refl) refl refl colon_still (run_stops ys e) (left_text ys p)
+left_text xs (prefixed a b ys la lb e p) = left_prefix a b (text_of ys) la lb (run_stops ys e) (left_text ys p)
+left_text xs (divided ys e p) = left_colon (text_of ys) (run_stops ys e) (left_text ys p)
 left_text xs (equals ys e p) = left_equals [] (text_of ys) refl nothing_still (run_stops ys e) (left_text ys p)
 left_text xs (linked ys p) = left_equals [] (62 ∷ text_of ys) refl nothing_still refl (left_byte 62 (text_of ys) refl refl (left_text ys p))
 

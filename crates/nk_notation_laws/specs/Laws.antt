@@ -3,6 +3,9 @@ use Rattle.std.specs.Prelude.{◌≡◌, ◌≤◌, ◌↔◌, All, ℕ, List, [
 use Rattle.nk_field.specs.declared.history.History.{History}
 use Rattle.nk_field.specs.declared.packet.Packet.{Packet}
 use Rattle.nk_field.specs.Packet.{FieldTable, IsPacket}
+use Rattle.nk_table.specs.declared.Tables.{Tables}
+use Rattle.nk_tabtext.specs.ReadBack.{ArePrintableTables}
+use Rattle.nk_tabtext.specs.Text.{table_bytes}
 use Rattle.nk_reply.specs.Messages.{way_lines}
 use Rattle.nk_lex.specs.declared.ident.Ident.{Ident}
 use Rattle.nk_lex.specs.Lex.{largest}
@@ -55,3 +58,7 @@ CertificatesAreLeft = (p : Pol) (ws : List WrittenRow) → IsPolOn 2 p → AreRo
 abbrev pub HistoriesAreLeft : Type 0
 HistoriesAreLeft = (fields : FieldTable) → All IsName fields.names → All (λ m. m ≤ largest) fields.maxima
     → (start : Packet) (h : History) → IsPacket fields start → All (IsPacket fields) (h.records ++ h.last ∷ []) → IsLeftByIn (way_lines fields start h)
+
+-- so is the text of tables
+abbrev pub TablesAreLeft : Type 0
+TablesAreLeft = (t : Tables) → ArePrintableTables t → IsLeftByIn (table_bytes t)

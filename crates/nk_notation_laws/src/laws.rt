@@ -1,5 +1,5 @@
 //! What holds of every text with addresses.
-ghost use Rattle.nk_notation_laws.specs.Laws.{CertificatesAreLeft, HistoriesAreLeft, InGivesBack, InIsIdempotent, OutRefusesNothing, PlainTextsAreLeft, PoliciesAreLeft};
+ghost use Rattle.nk_notation_laws.specs.Laws.{CertificatesAreLeft, HistoriesAreLeft, InGivesBack, InIsIdempotent, OutRefusesNothing, PlainTextsAreLeft, PoliciesAreLeft, TablesAreLeft};
 
 /// What `in` makes of a text, it leaves as it is, where it refuses nothing in the text.
 pub fn in_is_idempotent()
@@ -35,4 +35,9 @@ pub fn certificates_are_left()
 /// So are the lines of a history and of the packet that it starts at.
 pub fn histories_are_left()
     ensures { HistoriesAreLeft }
+{}
+
+/// So is the text of tables.
+pub fn tables_are_left()
+    ensures { TablesAreLeft }
 {}
