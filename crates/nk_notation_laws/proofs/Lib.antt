@@ -8,6 +8,7 @@ pub mod Places
 pub mod Pieces
 pub mod PlainTexts
 pub mod Printed
+pub mod PrintedPolicies
 pub mod PrintedTables
 pub mod ReadAgain
 pub mod ReadsWords

@@ -196,7 +196,7 @@ left_equals w rest runs still stops next =
     (λ r c. plain_word r (61 ∷ w) (61 ∷ w) (no_size r.place (61 ∷ w) (equals_nameless w)) (equals_kept w still r)) stops next
 
 -- a run that begins with a number
-left_number : (n : ℕ) (v rest : List ℕ) → n ≤ largest → list_all is_run_byte (decimal n ++ v) ≡ true → IsStill (decimal n ++ v) → StopsAt is_run_byte rest → Left rest
+pub left_number : (n : ℕ) (v rest : List ℕ) → n ≤ largest → list_all is_run_byte (decimal n ++ v) ≡ true → IsStill (decimal n ++ v) → StopsAt is_run_byte rest → Left rest
     → Left ((decimal n ++ v) ++ rest)
 left_number n v rest le runs still stops next =
     let odd = number_nameless n le v in

@@ -1,11 +1,11 @@
 -- The texts of tables have plain numbers.
-use Rattle.std.proofs.Common.{◌≡◌, ◌<◌, ◌≤◌, ◌+◌, ◌^◌, ◌==◌, ◌&&◌, ◌||◌, ◌⊎◌, inl, inr, ℕ, zero, suc, Bool, true, false, cond, List, [], ◌∷◌, ◌++◌, length, drop, decimal, refl, sym, ap, subst, ◌∙◌, arith, append_assoc, append-nil}
+use Rattle.std.proofs.Common.{◌≡◌, ◌<◌, ◌≤◌, ◌==◌, ◌&&◌, ◌||◌, ◌⊎◌, inl, inr, ℕ, zero, suc, Bool, true, false, cond, List, [], ◌∷◌, ◌++◌, length, drop, decimal, refl, sym, ap, subst, ◌∙◌, arith, append_assoc, append-nil}
 use Rattle.std.proofs.lemmas.Bool.{eqb-true, ltb-false, ltb-true}
 use Rattle.std.proofs.lemmas.List.Elements.{All-cons, All-head, All-nil, All-tail}
-use Rattle.std.specs.Prelude.{All, Contains, Option, None, Some, Ok, bytes_eq, codes, nat_lt, slice_index, slice_index_or}
+use Rattle.std.specs.Prelude.{All, Contains, Option, None, Some, Ok, codes, nat_lt, slice_index, slice_index_or}
 use Rattle.std.specs.List.{flat_map, list_any}
 use Rattle.nk_lex.specs.Lex.{largest}
-use Rattle.nk_lex.specs.Spelling.{IsName, IsWord}
+use Rattle.nk_lex.specs.Spelling.{IsName}
 use Rattle.nk_lex.proofs.Digits.{StopsAt, both_pass}
 use Rattle.nk_field.specs.Packet.{FieldTable, IsFieldTable, IsValue}
 use Rattle.nk_field.specs.Texts.{is_tag, name_of}
@@ -24,7 +24,7 @@ use Rattle.nk_table.specs.Rules.{groups_at_switch, rows_of}
 use Rattle.nk_tabtext.proofs.Lines.{left5}
 use Rattle.nk_tabtext.specs.ReadBack.{ArePrintableTables, IsExit, IsPrintableBucket, IsPrintableGroup, IsPrintableMatch, IsPrintableRow, IsPrintableTable, IsPrintableTarget}
 use Rattle.nk_tabtext.specs.Text.{bucket_text, exit_text, field_text, fields_text, group_text, have_prefix, is_exact, length_text, link_text, match_text, matches_text, ports_text, row_text, rules_text, section_text, set_text, sets_text, switch_text, table_bytes, table_field_lines, tag_line, tag_text, target_text, topology_text, version_of, version_text, where_same}
-use Rattle.nk_topo.specs.Topology.{IsTopology, Link, SwitchPorts, Topology, is_port}
+use Rattle.nk_topo.specs.Topology.{IsTopology, Link, SwitchPorts, Topology}
 use Rattle.nk_notation.specs.declared.inward.Inward.{Inward}
 use Rattle.nk_notation.specs.declared.inward.Place.TheVariants as place
 use Rattle.nk_notation.specs.Inward.{after_byte, after_word, name_place, place_after, size_at, text_start, word_in}
@@ -39,45 +39,48 @@ use Rattle.nk_notation_laws.proofs.RunsAgain.{decimal_run, decimal_still}
 use Rattle.nk_notation_laws.proofs.WordsAgain.{decimal_short, field_still, plain_word, run_apart, run_kept}
 
 -- pieces that `in` leaves: before any text, and before a text that ends a run
-abbrev Free : List ℕ → Type 0
+abbrev pub Free : List ℕ → Type 0
 Free w = (rest : List ℕ) → Left rest → Left (w ++ rest)
 
-abbrev Runs : List ℕ → Type 0
+abbrev pub Runs : List ℕ → Type 0
 Runs w = (rest : List ℕ) → StopsAt is_run_byte rest → Left rest → Left (w ++ rest)
 
 -- a piece that ends the run before it
-abbrev Gap : List ℕ → Type 0
+abbrev pub Gap : List ℕ → Type 0
 Gap w = Free w × ((rest : List ℕ) → StopsAt is_run_byte (w ++ rest))
 
-free_free : (v w : List ℕ) → Free v → Free w → Free (v ++ w)
+pub free_free : (v w : List ℕ) → Free v → Free w → Free (v ++ w)
 free_free v w f g = λ rest next. subst Left (sym (append_assoc v w rest)) (f (w ++ rest) (g rest next))
 
-free_runs : (v w : List ℕ) → Free v → Runs w → Runs (v ++ w)
+pub free_runs : (v w : List ℕ) → Free v → Runs w → Runs (v ++ w)
 free_runs v w f g = λ rest stops next. subst Left (sym (append_assoc v w rest)) (f (w ++ rest) (g rest stops next))
 
-runs_gap : (v w : List ℕ) → Runs v → Gap w → Free (v ++ w)
+pub runs_gap : (v w : List ℕ) → Runs v → Gap w → Free (v ++ w)
 runs_gap v w f g = λ rest next. subst Left (sym (append_assoc v w rest)) (f (w ++ rest) (g.1 rest) (g.0 rest next))
 
 free_nothing : Free []
 free_nothing = λ rest next. next
 
-free_each : {A : Type 0} (P : A → Type 0) (f : A → List ℕ) → ((x : A) → P x → Free (f x)) → (xs : List A) → All P xs → Free (flat_map f xs)
+pub free_each : {A : Type 0} (P : A → Type 0) (f : A → List ℕ) → ((x : A) → P x → Free (f x)) → (xs : List A) → All P xs → Free (flat_map f xs)
 free_each P f g [] h = free_nothing
 free_each P f g (x ∷ xs) h = free_free (f x) (flat_map f xs) (g x (All-head P x xs h)) (free_each P f g xs (All-tail P x xs h))
 
-free_byte : (b : ℕ) → (b == 35) ≡ false → begins_word b ≡ false → Free (b ∷ [])
+pub free_byte : (b : ℕ) → (b == 35) ≡ false → begins_word b ≡ false → Free (b ∷ [])
 free_byte b hash begins = λ rest next. left_byte b rest hash begins next
 
 gap_space : Gap (codes " ")
 gap_space = (free_byte 32 refl refl, λ rest. refl)
 
-gap_end : Gap (codes "\n")
+pub gap_end : Gap (codes "\n")
 gap_end = (free_byte 10 refl refl, λ rest. refl)
+
+pub gap_colon : Gap (codes " : ")
+gap_colon = ((λ rest next. left_byte 32 (58 ∷ 32 ∷ rest) refl refl (left_colon (32 ∷ rest) refl (left_byte 32 rest refl refl next))), λ rest. refl)
 
 runs_number : (n : ℕ) → n ≤ largest → Runs (decimal n)
 runs_number n le = λ rest stops next. left_decimal n rest le stops next
 
-runs_name : (w : List ℕ) → IsName w → Runs w
+pub runs_name : (w : List ℕ) → IsName w → Runs w
 runs_name w h = λ rest stops next. left_name w rest h.0 (no_keyword w h.1) stops next
 
 -- the line of a declared field
@@ -186,10 +189,10 @@ switch_free s h =
 abbrev IsSmallLink : Link → Type 0
 IsSmallLink l = (l.from_switch ≤ 65535) × (l.from_port ≤ 65535) × (l.to_switch ≤ 65535) × (l.to_port ≤ 65535)
 
-runs_end : (a b : ℕ) → a ≤ 65535 → b ≤ 65535 → Runs (decimal a ++ codes ":" ++ decimal b)
+pub runs_end : (a b : ℕ) → a ≤ largest → b ≤ largest → Runs (decimal a ++ codes ":" ++ decimal b)
 runs_end a b la lb = λ rest stops next.
     subst Left (sym (append_assoc (decimal a ++ codes ":") (decimal b) rest ∙ append_assoc (decimal a) (codes ":") (decimal b ++ rest)))
-    (left_pair a b 58 rest (small_number a la) (small_number b lb) refl (port_still a b (small_number a la) (small_number b lb)) stops next)
+    (left_pair a b 58 rest la lb refl (port_still a b la lb) stops next)
 
 gap_arrow : Gap (codes " -> ")
 gap_arrow = ((λ rest next. left_byte 32 (45 ∷ 62 ∷ 32 ∷ rest) refl refl (left_byte 45 (62 ∷ 32 ∷ rest) refl refl (left_byte 62 (32 ∷ rest) refl refl (left_byte 32 rest refl refl next)))), λ rest. refl)
@@ -198,9 +201,9 @@ link_free : (l : Link) → IsSmallLink l → Free (link_text l)
 link_free l h =
     let x = decimal l.from_switch ++ codes ":" ++ decimal l.from_port in
     let y = decimal l.to_switch ++ codes ":" ++ decimal l.to_port in
-    let a = free_runs (codes "link ") x (left_word (codes "link") (refl, refl) refl) (runs_end l.from_switch l.from_port h.0 h.1) in
+    let a = free_runs (codes "link ") x (left_word (codes "link") (refl, refl) refl) (runs_end l.from_switch l.from_port (small_number l.from_switch h.0) (small_number l.from_port h.1)) in
     let b = runs_gap (codes "link " ++ x) (codes " -> ") a gap_arrow in
-    let c = free_runs (codes "link " ++ x ++ codes " -> ") y b (runs_end l.to_switch l.to_port h.2 h.3) in
+    let c = free_runs (codes "link " ++ x ++ codes " -> ") y b (runs_end l.to_switch l.to_port (small_number l.to_switch h.2) (small_number l.to_port h.3)) in
     let all = runs_gap (codes "link " ++ x ++ codes " -> " ++ y) (codes "\n") c gap_end in
     let first : codes "link " ++ x ≡ codes "link " ++ decimal l.from_switch ++ codes ":" ++ decimal l.from_port =
     sym (append_assoc (codes "link " ++ decimal l.from_switch) (codes ":") (decimal l.from_port) ∙ append_assoc (codes "link ") (decimal l.from_switch) (codes ":" ++ decimal l.from_port)
@@ -244,16 +247,16 @@ name_there (n ∷ names) zero lt h = All-head IsName n names h
 name_there (n ∷ names) (suc f) lt h = name_there names f (omega (arith, lt)) (All-tail IsName n names h)
 
 -- what is known of the fields of tables
-record AreFine (fs : FieldTable) : Type 0 where
-  table : IsFieldTable fs
-  names : All IsName fs.names
-  maxima : All (λ m. m ≤ largest) fs.maxima
+pub record AreFine (fs : FieldTable) : Type 0 where
+  pub table : IsFieldTable fs
+  pub names : All IsName fs.names
+  pub maxima : All (λ m. m ≤ largest) fs.maxima
 
 module _ (fs : FieldTable) (fine : AreFine fs) where
-  named_field : (f n : ℕ) → IsValue fs f n → IsName (name_of fs f)
+  pub named_field : (f n : ℕ) → IsValue fs f n → IsName (name_of fs f)
   named_field f n h = name_there fs.names f (let same = fine.table.named in let lt = h.0 in omega (arith, same, lt)) fine.names
 
-  value_small : (f n : ℕ) → IsValue fs f n → n ≤ largest
+  pub value_small : (f n : ℕ) → IsValue fs f n → n ≤ largest
   value_small f n h = let a = h.1 in let b = most fs.maxima f fine.maxima in omega (arith, a, b)
 
   -- matches
@@ -327,13 +330,13 @@ module _ (fs : FieldTable) (fine : AreFine fs) where
       let bs = flat_map (λ b. codes " " ++ bucket_text fs b) g.buckets in
       let a = free_runs (codes "group ") n (left_word (codes "group") (refl, refl) refl) (runs_number g.number h.high) in
       λ rest next.
-          let all = free_free bs (codes "\n") (free_each (IsPrintableBucket fs) (λ b. codes " " ++ bucket_text fs b) (λ b x. free_free (codes " ") (bucket_text fs b) gap_space.0 (bucket_free b x)) g.buckets h.buckets) gap_end.0 in
-          subst Left (sym (append_assoc (codes "group " ++ n ++ codes " =" ++ bs) (codes "\n") rest ∙ append_assoc (codes "group " ++ n ++ codes " =") bs (10 ∷ rest)
-          ∙ append_assoc (codes "group " ++ n) (codes " =") (bs ++ 10 ∷ rest)))
-          (a (32 ∷ 61 ∷ (bs ++ 10 ∷ rest)) refl
-          (left_byte 32 (61 ∷ (bs ++ 10 ∷ rest)) refl refl
-          (left_equals [] (bs ++ 10 ∷ rest) refl nothing_still (buckets_stop g.buckets rest)
-          (subst Left (append_assoc bs (codes "\n") rest) (all rest next)))))
+      let all = free_free bs (codes "\n") (free_each (IsPrintableBucket fs) (λ b. codes " " ++ bucket_text fs b) (λ b x. free_free (codes " ") (bucket_text fs b) gap_space.0 (bucket_free b x)) g.buckets h.buckets) gap_end.0 in
+      subst Left (sym (append_assoc (codes "group " ++ n ++ codes " =" ++ bs) (codes "\n") rest ∙ append_assoc (codes "group " ++ n ++ codes " =") bs (10 ∷ rest)
+      ∙ append_assoc (codes "group " ++ n) (codes " =") (bs ++ 10 ∷ rest)))
+      (a (32 ∷ 61 ∷ (bs ++ 10 ∷ rest)) refl
+      (left_byte 32 (61 ∷ (bs ++ 10 ∷ rest)) refl refl
+      (left_equals [] (bs ++ 10 ∷ rest) refl nothing_still (buckets_stop g.buckets rest)
+      (subst Left (append_assoc bs (codes "\n") rest) (all rest next)))))
 
   -- rows
   group_number : (gs : List Group) (n : ℕ) → All (IsPrintableGroup fs) gs → list_any (λ g. g.number == n) gs ≡ true → n ≤ largest
@@ -348,9 +351,6 @@ module _ (fs : FieldTable) (fine : AreFine fs) where
   runs_target gs (does.Bucket b) hg h = λ rest stops next. bucket_free b h rest next
   runs_target gs (does.Group n) hg h = free_runs (codes "group ") (decimal n) (left_word (codes "group") (refl, refl) refl) (runs_number n (group_number gs n hg h))
   runs_target gs does.Discard hg h = λ rest stops next. left_name (codes "drop") rest (refl, refl) refl stops next
-
-  gap_colon : Gap (codes " : ")
-  gap_colon = ((λ rest next. left_byte 32 (58 ∷ 32 ∷ rest) refl refl (left_colon (32 ∷ rest) refl (left_byte 32 rest refl refl next))), λ rest. refl)
 
   free_arrow : Free (codes "-> ")
   free_arrow = λ rest next. left_byte 45 (62 ∷ 32 ∷ rest) refl refl (left_byte 62 (32 ∷ rest) refl refl (left_byte 32 rest refl refl next))
@@ -411,9 +411,9 @@ topology_free : (t : Topology) → IsTopology t → All IsSmallSwitch t.switches
 topology_free t h small =
     free_free (flat_map switch_text t.switches) (flat_map link_text t.links) (free_each IsSmallSwitch switch_text switch_free t.switches small)
     (links_free t.links (λ l c.
-        let from = port_small t.switches l.from_switch l.from_port small (h.links.from_port l c) in
-        let to = port_small t.switches l.to_switch l.to_port small (h.links.declared l c) in
-        (from.0, from.1, to.0, to.1)))
+    let from = port_small t.switches l.from_switch l.from_port small (h.links.from_port l c) in
+    let to = port_small t.switches l.to_switch l.to_port small (h.links.declared l c) in
+    (from.0, from.1, to.0, to.1)))
 
 tables_free : (t : Tables) → ArePrintableTables t → Free (table_bytes t)
 tables_free t h =

@@ -3,6 +3,13 @@ use Rattle.std.specs.Prelude.{◌≡◌, ◌≤◌, ◌↔◌, All, ℕ, List, [
 use Rattle.nk_field.specs.declared.history.History.{History}
 use Rattle.nk_field.specs.declared.packet.Packet.{Packet}
 use Rattle.nk_field.specs.Packet.{FieldTable, IsPacket}
+use Rattle.nk_cert.specs.Certificates.{CertificateValue}
+use Rattle.nk_certtext.specs.ReadBack.{IsPrintableCertificate}
+use Rattle.nk_certtext.specs.Text.{cert_bytes}
+use Rattle.nk_declare.specs.Kept.{IsWritable}
+use Rattle.nk_policy.specs.Policy.{Policy}
+use Rattle.nk_policy.specs.Ranges.{IsOverFields}
+use Rattle.nk_policy.specs.Text.{pol_bytes}
 use Rattle.nk_table.specs.declared.Tables.{Tables}
 use Rattle.nk_tabtext.specs.ReadBack.{ArePrintableTables}
 use Rattle.nk_tabtext.specs.Text.{table_bytes}
@@ -62,3 +69,10 @@ HistoriesAreLeft = (fields : FieldTable) → All IsName fields.names → All (λ
 -- so is the text of tables
 abbrev pub TablesAreLeft : Type 0
 TablesAreLeft = (t : Tables) → ArePrintableTables t → IsLeftByIn (table_bytes t)
+
+-- so are the text of a policy and the text of a certificate, as they are printed
+abbrev pub PrintedPoliciesAreLeft : Type 0
+PrintedPoliciesAreLeft = (fields : FieldTable) → IsWritable fields → (p : Policy) → IsOverFields fields p → IsLeftByIn (pol_bytes fields p)
+
+abbrev pub PrintedCertificatesAreLeft : Type 0
+PrintedCertificatesAreLeft = (fields : FieldTable) → IsWritable fields → (c : CertificateValue) → IsPrintableCertificate fields c → IsLeftByIn (cert_bytes fields c)

@@ -1,5 +1,5 @@
 //! What holds of every text with addresses.
-ghost use Rattle.nk_notation_laws.specs.Laws.{CertificatesAreLeft, HistoriesAreLeft, InGivesBack, InIsIdempotent, OutRefusesNothing, PlainTextsAreLeft, PoliciesAreLeft, TablesAreLeft};
+ghost use Rattle.nk_notation_laws.specs.Laws.{CertificatesAreLeft, HistoriesAreLeft, InGivesBack, InIsIdempotent, OutRefusesNothing, PlainTextsAreLeft, PoliciesAreLeft, PrintedCertificatesAreLeft, PrintedPoliciesAreLeft, TablesAreLeft};
 
 /// What `in` makes of a text, it leaves as it is, where it refuses nothing in the text.
 pub fn in_is_idempotent()
@@ -40,4 +40,14 @@ pub fn histories_are_left()
 /// So is the text of tables.
 pub fn tables_are_left()
     ensures { TablesAreLeft }
+{}
+
+/// So is the text of a policy, as it is printed.
+pub fn printed_policies_are_left()
+    ensures { PrintedPoliciesAreLeft }
+{}
+
+/// So is the text of a certificate, as it is printed.
+pub fn printed_certificates_are_left()
+    ensures { PrintedCertificatesAreLeft }
 {}
