@@ -122,7 +122,7 @@ short_word w ls le =
     ap (λ t. cond t (map Byte w) (Word w ∷ []) ++ flat_map without_long ls) e
 
 -- a longer one is its bytes
-long_word : (w : List ℕ) (ls : List TextLexeme) → longest_word < length w → flat_map without_long (Word w ∷ ls) ≡ map Byte w ++ flat_map without_long ls
+pub long_word : (w : List ℕ) (ls : List TextLexeme) → longest_word < length w → flat_map without_long (Word w ∷ ls) ≡ map Byte w ++ flat_map without_long ls
 long_word w ls lt =
     let e : nat_lt longest_word (length w) ≡ true = grind (arith, nat_tests) in
     ap (λ t. cond t (map Byte w) (Word w ∷ []) ++ flat_map without_long ls) e

@@ -19,7 +19,7 @@ bytes_joined b (Word (c ∷ w) ∷ ls) =
 bytes_joined b (Byte c ∷ ls) = refl
 bytes_joined b (Note c ∷ ls) = refl
 
-bytes_cut : (noted : Bool) (bs : List ℕ) → lexeme_bytes (cut_text noted bs) ≡ bs
+pub bytes_cut : (noted : Bool) (bs : List ℕ) → lexeme_bytes (cut_text noted bs) ≡ bs
 bytes_cut noted [] = refl
 bytes_cut true (b ∷ bs) =
     elim (b == 10) as (λ t. lexeme_bytes (cond t (Byte b ∷ cut_text false bs) (Note b ∷ cut_text true bs)) ≡ b ∷ bs) [

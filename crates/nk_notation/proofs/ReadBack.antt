@@ -45,7 +45,7 @@ text_back w n t tables tests lead =
     ∙ ap (λ h. cond h (slash_in tables tests lead w) rest) (no_place 47 w t.no_slash)
     ∙ spelled_is w n t.is lead
 
-text_of : (f : Form) (n : ℕ) → n ≤ largest_in_form f → IsText (form_text f n) n
+pub text_of : (f : Form) (n : ℕ) → n ≤ largest_in_form f → IsText (form_text f n) n
 unfolding largest_in_form form_text
 text_of form.Address n le = record {
   passes = address_passes n (omega arith);
@@ -88,10 +88,10 @@ both_are w v n m (in_digits e c) (in_digits f d) lead between =
     ∙ ap (λ t. Ok (lead ++ t ++ between ++ v)) c ∙ ap (λ t. Ok (lead ++ decimal n ++ between ++ t)) d
 
 -- the place of `..` between two texts, and what stands before and after it
-dots_between : (w v : List ℕ) → Passes w → place_of_dots (w ++ 46 ∷ 46 ∷ v) ≡ length w
+pub dots_between : (w v : List ℕ) → Passes w → place_of_dots (w ++ 46 ∷ 46 ∷ v) ≡ length w
 dots_between w v p = p (46 ∷ 46 ∷ v) ∙ ap (λ k. length w + k) (place_dots v) ∙ omega arith
 
-drop_more : (w : List ℕ) (a b : ℕ) (v : List ℕ) → drop (length w + 2) (w ++ a ∷ b ∷ v) ≡ v
+pub drop_more : (w : List ℕ) (a b : ℕ) (v : List ℕ) → drop (length w + 2) (w ++ a ∷ b ∷ v) ≡ v
 drop_more [] a b v = refl
 drop_more (x ∷ w) a b v =
     let e : suc (length w) + 2 ≡ suc (length w + 2) = omega arith in
@@ -120,15 +120,15 @@ ranges_back f x y lx ly tables tests lead =
     ∙ range_back (form_text f x) (form_text f y) x y (text_of f x lx) (text_of f y ly) tables tests lead
 
 -- the place of `/` after an address, and what stands before and after it
-slash_place : (w l : List ℕ) → list_all (is_other 47) w ≡ true → first_place 47 (w ++ 47 ∷ l) ≡ length w
+pub slash_place : (w l : List ℕ) → list_all (is_other 47) w ≡ true → first_place 47 (w ++ 47 ∷ l) ≡ length w
 unfolding first_place
 slash_place w l h = ap length (run_is (is_other 47) w (47 ∷ l) h refl)
 
-before_slash : (w l : List ℕ) → list_all (is_other 47) w ≡ true → before_first 47 (w ++ 47 ∷ l) ≡ w
+pub before_slash : (w l : List ℕ) → list_all (is_other 47) w ≡ true → before_first 47 (w ++ 47 ∷ l) ≡ w
 unfolding before_first
 before_slash w l h = ap (λ k. take k (w ++ 47 ∷ l)) (slash_place w l h) ∙ take_all w (47 ∷ l)
 
-after_slash : (w l : List ℕ) → list_all (is_other 47) w ≡ true → after_first 47 (w ++ 47 ∷ l) ≡ l
+pub after_slash : (w l : List ℕ) → list_all (is_other 47) w ≡ true → after_first 47 (w ++ 47 ∷ l) ≡ l
 unfolding after_first
 after_slash w l h = ap (λ k. drop (k + 1) (w ++ 47 ∷ l)) (slash_place w l h) ∙ drop_past w 47 l
 
@@ -185,7 +185,7 @@ within_by most w n true e s =
 within_by most w n false e s = absurd cc
 
 -- what is read as a number is its decimal text
-within_is : (most : ℕ) (w : List ℕ) (n : ℕ) → number_within most w ≡ Some n → (w ≡ decimal n) × (n ≤ most)
+pub within_is : (most : ℕ) (w : List ℕ) (n : ℕ) → number_within most w ≡ Some n → (w ≡ decimal n) × (n ≤ most)
 unfolding number_within
 within_is most w n s = within_by most w n (nat_le (value_of w) most && bytes_eq w (decimal (value_of w))) refl s
 

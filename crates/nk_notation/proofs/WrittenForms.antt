@@ -27,7 +27,7 @@ or_true : (t : Bool) → (t || true) ≡ true
 or_true true = refl
 or_true false = refl
 
-and_false : (t u : Bool) → u ≡ false → (t && u) ≡ false
+pub and_false : (t u : Bool) → u ≡ false → (t && u) ≡ false
 and_false true u h = h
 and_false false u h = refl
 
@@ -220,7 +220,7 @@ unfolding is_dotted
 not_dotted w h =
     ap (λ t. t && is_digit (first_byte w) && is_digit (last_byte w)) (and_false (list_all is_digit_or_dot w) (list_any (λ b. b == 46) w) (none_of is_digit 46 w h))
 
-none_counted : (c : ℕ) (w : List ℕ) → list_all (is_other c) w ≡ true → count_by (λ b. b == c) w ≡ 0
+pub none_counted : (c : ℕ) (w : List ℕ) → list_all (is_other c) w ≡ true → count_by (λ b. b == c) w ≡ 0
 none_counted c [] h = refl
 none_counted c (b ∷ w) h =
     let parts = both_pass (is_other c b) (list_all (is_other c) w) h in

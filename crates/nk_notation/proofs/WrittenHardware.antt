@@ -118,10 +118,10 @@ hardware_all q imp colon n le =
     (more_all q imp colon e (omega arith) wf (last_pair q imp f (omega arith))))))
 
 -- its colons
-colon_counts : (b : ℕ) (w : List ℕ) → (b == 58) ≡ true → count_by (λ x. x == 58) (b ∷ w) ≡ count_by (λ x. x == 58) w + 1
+pub colon_counts : (b : ℕ) (w : List ℕ) → (b == 58) ≡ true → count_by (λ x. x == 58) (b ∷ w) ≡ count_by (λ x. x == 58) w + 1
 colon_counts b w e = sum_by-cons (λ x. cond (x == 58) 1 0) b w ∙ ap (λ t. cond t 1 0 + count_by (λ x. x == 58) w) e ∙ omega arith
 
-other_counts : (b : ℕ) (w : List ℕ) → (b == 58) ≡ false → count_by (λ x. x == 58) (b ∷ w) ≡ count_by (λ x. x == 58) w
+pub other_counts : (b : ℕ) (w : List ℕ) → (b == 58) ≡ false → count_by (λ x. x == 58) (b ∷ w) ≡ count_by (λ x. x == 58) w
 other_counts b w e = grind (arith, e)
 
 pair_counts : (m : ℕ) (w : List ℕ) → m < 256 → count_by (λ b. b == 58) (pair_text m ++ 58 ∷ w) ≡ count_by (λ b. b == 58) w + 1

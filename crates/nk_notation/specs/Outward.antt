@@ -52,10 +52,15 @@ unfoldable pub address_out : (a : List ℕ) → Option ℕ → Option ℕ → Li
 address_out a (Some n) (Some k) = if has_ones_after n k then a else address_text n
 address_out a n k = a
 
--- the number before the `/` of a table text's prefix
+-- The number of a prefix with a length. Without a length it stays.
+unfoldable pub measured_out : Form → (a : List ℕ) → Option ℕ → List ℕ
+measured_out f a None = a
+measured_out f a (Some k) = number_out f a
+
+-- The number before the `/` of a table text's prefix. A field has at most 48 binary digits.
 unfoldable pub prefix_out : Form → (a l : List ℕ) → List ℕ
 prefix_out form.Address a l = address_out a (number_within 4294967295 a) (number_within 32 l)
-prefix_out f a l = number_out f a
+prefix_out f a l = measured_out f a (number_within 48 l)
 
 -- a value that is tested for
 unfoldable pub value_out : (tables : Bool) → Form → List ℕ → List ℕ

@@ -18,4 +18,5 @@ pub use laws::{
     ranges_are_read_back, texts_without_forms_stay, values_are_read_back,
 };
 pub use notation::Notation;
+pub use outward::Outward;
 pub use top::translate_by_words;

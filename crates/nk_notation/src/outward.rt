@@ -3,7 +3,7 @@ ghost use Rattle.std.specs.Prelude.{◌≡◌, ◌≤◌, ◌<◌, ◌+◌, ◌-
 ghost use Rattle.nk_lex.specs.Lex.{largest};
 ghost use Rattle.nk_number_forms.specs.Forms.{address_block_size, has_ones_after, place_of_dots};
 ghost use Rattle.nk_number_forms.specs.Numbers.{number_within};
-ghost use Rattle.nk_notation.specs.Outward.{address_out, byte_out, ends_out, form_of, form_text, held, interval_out, is_block, largest_in_form, length_below, length_of, named_form, named_spot, number_out, outward, prefix_out, range_out, spot_after, spot_beyond, value_out, word_out};
+ghost use Rattle.nk_notation.specs.Outward.{address_out, byte_out, ends_out, form_of, form_text, held, interval_out, is_block, largest_in_form, length_below, length_of, measured_out, named_form, named_spot, number_out, outward, prefix_out, range_out, spot_after, spot_beyond, value_out, word_out};
 
 use crate::Notation;
 use crate::context::TextKind;
@@ -54,7 +54,7 @@ pub(crate) enum Spot {
 
 /// What is known of the text before a lexeme.
 #[derive(Drop)]
-pub(crate) struct Outward {
+pub struct Outward {
     fields: Vec<NamedField>,
     kind: TextKind,
     spot: Spot,
@@ -316,7 +316,18 @@ fn put_prefix(out: &mut Vec<u8>, form: Form, value: &[u8], length: &[u8]) -> Res
 {
     match form {
         Form::Address => put_address_of(out, value, length),
-        _ => put_form(out, form, value),
+        _ => put_measured(out, form, value, length),
+    }
+}
+
+/// Puts the number of a prefix with a length at the end in a form.
+#[tactic(auto, unfolding(crate::specs::Outward::measured_out))]
+fn put_measured(out: &mut Vec<u8>, form: Form, value: &[u8], length: &[u8]) -> Result<(), WordStop>
+    ensures { OnOk result (out.new.items ≡ out.old.items ++ measured_out form value.now (number_within 48 length.now)) }
+{
+    match number_within(48, length) {
+        Some(_) => put_form(out, form, value),
+        None => put(out, value),
     }
 }
 
