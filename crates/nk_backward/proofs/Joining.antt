@@ -11,7 +11,7 @@ use Rattle.nk_apply.specs.Leaves.{merged}
 use Rattle.nk_apply.specs.Unions.{AreIds, unions}
 use Rattle.nk_apply.proofs.Members.{merged_members}
 use Rattle.nk_outs.proofs.Kept.{get_or_same}
-use Rattle.nk_backward.specs.Predecessors.{diagram_at, HaveDiagrams, ShowsBelow, Shows, FindDiagrams, IsRunOfSet, IsWithFound, IsSetJoined, AreJoined}
+use Rattle.nk_backward.specs.Predecessors.{diagram_at, HaveDiagrams, ShowsBelow, Shows, FindDiagrams, IsRunOfSet, IsWithFound, IsSetJoined, AreSetsJoined}
 
 -- an out of all leaves is one of a leaf's
 pub in_unions : (st : StoreState) (ds : List ℕ) (from n : ℕ) (y : List ℕ) (o : Out) → Contains (unions st ds from n y) o → (i : ℕ) × (from ≤ i) × (i < from + n) × Contains (look st (get_or ds i 0) y) o
@@ -152,7 +152,7 @@ pub run_ids : (st : StoreState) (ds : List (ℕ × ℕ)) (from to : ℕ) (all : 
 run_ids st ds from to all ids run i l = subst (IsId st) (sym (run.items i l)) (ids (from + i) (omega (arith, l, run.count, run.within)))
 
 -- no diagram yet
-pub joined_start : (st : StoreState) (ds : List (ℕ × ℕ)) → AreJoined st ds 0 st []
+pub joined_start : (st : StoreState) (ds : List (ℕ × ℕ)) → AreSetsJoined st ds 0 st []
 joined_start st ds = record {
   ids = λ t d is. absurd cc;
   goes = λ t y o w s. let no = s.1 in absurd cc;
@@ -161,7 +161,7 @@ joined_start st ds = record {
 
 -- one run more
 pub joined_push : (a st mid new : StoreState) (ds : List (ℕ × ℕ)) (from to t d : ℕ) (run : List ℕ) (into all : List (ℕ × ℕ)) → Grows a st → Grows st mid → HaveDiagrams a ds → t ≡ (diagram_at ds from).0 → IsRunOfSet ds from to run → HasLeaves mid d (λ pk. unions st run 0 (length run) pk) →
-    AreJoined a ds from st into → IsSetJoined mid into t d new all → AreJoined a ds to new all
+    AreSetsJoined a ds from st into → IsSetJoined mid into t d new all → AreSetsJoined a ds to new all
 joined_push a st mid new ds from to t d run into all g1 g2 ids set r h was one = record {
   ids = one.ids;
   goes = λ s y o w c. elim (one.from s y o w c) [

@@ -17,7 +17,7 @@ use Rattle.nk_outs.proofs.Givens.{entry_at}
 use Rattle.nk_steps.proofs.Locals.{acts_in_range}
 use Rattle.nk_backward.specs.declared.transitions.Transitions.{Transitions}
 use Rattle.nk_backward.specs.Transitions.{transitions_at, AreAllGiven}
-use Rattle.nk_backward.specs.Predecessors.{out_at, ArePlacesBelow, place_at, numbered, made_by, diagram_at, HaveDiagrams, ShowsBelow, IsMarked, AreMarked}
+use Rattle.nk_backward.specs.Predecessors.{out_at, ArePlacesBelow, place_at, numbered, packet_made, diagram_at, HaveDiagrams, ShowsBelow, IsMarked, AreMarked}
 use Rattle.nk_backward.proofs.Tracing.{at_place}
 
 -- the only item of a list
@@ -218,13 +218,13 @@ marked_push a st new ts places k q ds all g given are l is was one = record {
     | inr now ↦ (k, now.0, (l, subst (λ (e : Given). e.out.target ≡ t + 1) is now.1))
   ];
   comes = λ n t z m w i h. elim (eqb_tells n k) [
-    | inr other ↦ one.kept t (made_by ts places n z) (numbered n) (was.comes n t z (omega (arith, m, other.1)) w i h)
+    | inr other ↦ one.kept t (packet_made ts places n z) (numbered n) (was.comes n t z (omega (arith, m, other.1)) w i h)
     | inl same ↦
         let e : q ≡ out_at ts (place_at places n) = is ∙ ap (λ (j : ℕ). out_at ts (place_at places j)) (sym same.1) in
         let at = place_is ts places n are i.0 in
         let has : is_in st (out_at ts (place_at places n)).packets z ≡ true = has_on a st (out_at ts (place_at places n)).packets z g (given (place_at places n).0 at.0 (place_at places n).1 at.1).packets.id h in
         let shown = one.comes t z (packet_on a st z g w) (subst (λ (p : Given). p.out.target ≡ t + 1) (sym e) i.1) (subst (λ (p : Given). is_in st p.packets z ≡ true) (sym e) has) in
-        subst (λ (j : ℕ). ShowsBelow new all (length all) t (made_by ts places n z) (numbered j)) (sym same.1)
+        subst (λ (j : ℕ). ShowsBelow new all (length all) t (packet_made ts places n z) (numbered j)) (sym same.1)
         (subst (λ (p : Given). ShowsBelow new all (length all) t (applied p.out.act z) (numbered k)) e shown)
   ];
 }

@@ -15,20 +15,20 @@ use Rattle.nk_outs.proofs.Kept.{packet_on, packet_back, has_back}
 use Rattle.nk_witness.proofs.Pulling.{out_is}
 use Rattle.nk_backward.specs.declared.transitions.Transitions.{Transitions}
 use Rattle.nk_backward.specs.Transitions.{transitions_at, AreAllGiven, IsLed}
-use Rattle.nk_backward.specs.Predecessors.{out_at, ArePlacesBelow, place_at, numbered, IsInto, LeavesFrom, made_by, ShowsBelow, AreMarked, AreJoined, ArePredecessors, AreShownAt}
+use Rattle.nk_backward.specs.Predecessors.{out_at, ArePlacesBelow, place_at, numbered, IsInto, LeavesFrom, packet_made, ShowsBelow, AreMarked, AreSetsJoined, ArePredecessors, AreShownAt}
 use Rattle.nk_backward.proofs.Tracing.{given_in_range}
 use Rattle.nk_backward.proofs.Marking.{place_is, number_of, guarded_in, guarded_has, guarded_some}
 use Rattle.nk_backward.proofs.Joining.{shows_moved, shown_on, shown_back}
 
 -- the transition of a number leads from packets in range to packets in range
-pub made_in_range : (st : StoreState) (ts : List Transitions) (places : List (ℕ × ℕ)) (n t : ℕ) (z : List ℕ) → AreAllGiven st ts → ArePlacesBelow ts (length ts) places → IsInto ts places n t → IsStorePacket st z → LeavesFrom st ts places n z → IsStorePacket st (made_by ts places n z)
+pub made_in_range : (st : StoreState) (ts : List Transitions) (places : List (ℕ × ℕ)) (n t : ℕ) (z : List ℕ) → AreAllGiven st ts → ArePlacesBelow ts (length ts) places → IsInto ts places n t → IsStorePacket st z → LeavesFrom st ts places n z → IsStorePacket st (packet_made ts places n z)
 made_in_range st ts places n t z given are i w h =
     let p : ℕ × ℕ = place_at places n in
     let at = place_is ts places n are i.0 in
     given_in_range st (transitions_at ts p.0).outs z (out_at ts p).out.act t (given p.0 at.0) w (p.1, omega arith, at.1, out_is (out_at ts p).out t (sym i.1), h)
 
 -- the transition of a number is one
-pub led_by : (st : StoreState) (ts : List Transitions) (places : List (ℕ × ℕ)) (n i t : ℕ) (z : List ℕ) → ArePlacesBelow ts (length ts) places → IsInto ts places n t → (transitions_at ts (place_at places n).0).source ≡ i → LeavesFrom st ts places n z → IsLed st ts i z t (made_by ts places n z)
+pub led_by : (st : StoreState) (ts : List Transitions) (places : List (ℕ × ℕ)) (n i t : ℕ) (z : List ℕ) → ArePlacesBelow ts (length ts) places → IsInto ts places n t → (transitions_at ts (place_at places n).0).source ≡ i → LeavesFrom st ts places n z → IsLed st ts i z t (packet_made ts places n z)
 led_by st ts places n i t z are k source h =
     let p : ℕ × ℕ = place_at places n in
     let at = place_is ts places n are k.0 in
@@ -36,7 +36,7 @@ led_by st ts places n i t z are k source h =
 
 -- each transition has a number
 pub number_led : (st : StoreState) (ts : List Transitions) (places : List (ℕ × ℕ)) (i t : ℕ) (z y : List ℕ) → ArePlacesBelow ts (length ts) places → IsLed st ts i z t y →
-    (n : ℕ) × IsInto ts places n t × ((transitions_at ts (place_at places n).0).source ≡ i) × LeavesFrom st ts places n z × (made_by ts places n z ≡ y)
+    (n : ℕ) × IsInto ts places n t × ((transitions_at ts (place_at places n).0).source ≡ i) × LeavesFrom st ts places n z × (packet_made ts places n z ≡ y)
 number_led st ts places i t z y are m =
     let g = m.4 in
     let p : ℕ × ℕ = (m.0, g.0) in
@@ -60,11 +60,11 @@ predecessors_on a b ts places into g given pre = record {
   comes = λ n t z w i h.
       let at = place_is ts places n pre.places_are i.0 in
       let has : LeavesFrom a ts places n z = has_back a b (out_at ts (place_at places n)).packets z g (given (place_at places n).0 at.0 (place_at places n).1 at.1).packets.id h in
-      shown_on a b into t (made_by ts places n z) (numbered n) g pre.ids (pre.comes n t z (packet_back a b z g w) i has);
+      shown_on a b into t (packet_made ts places n z) (numbered n) g pre.ids (pre.comes n t z (packet_back a b z g w) i has);
 }
 
 -- the diagrams of all transitions, put together by set
-pub predecessors_made : (st s1 new : StoreState) (ts : List Transitions) (places ds all into : List (ℕ × ℕ)) → Grows st s1 → Grows s1 new → AreAllGiven st ts → ArePlacesBelow ts (length ts) places → AreMarked st ts places (length places) s1 ds → IsPermutation ds all → AreJoined s1 all (length all) new into → ArePredecessors new ts places into
+pub predecessors_made : (st s1 new : StoreState) (ts : List Transitions) (places ds all into : List (ℕ × ℕ)) → Grows st s1 → Grows s1 new → AreAllGiven st ts → ArePlacesBelow ts (length ts) places → AreMarked st ts places (length places) s1 ds → IsPermutation ds all → AreSetsJoined s1 all (length all) new into → ArePredecessors new ts places into
 predecessors_made st s1 new ts places ds all into g1 g2 given are marked moved joined = record {
   places_are = are;
   ids = joined.ids;
@@ -75,8 +75,8 @@ predecessors_made st s1 new ts places ds all into g1 g2 given are marked moved j
       let at = place_is ts places n are i.0 in
       let good : IsStorePacket st z = packet_back st new z g w in
       let from : LeavesFrom st ts places n z = has_back st new (out_at ts (place_at places n)).packets z g (given (place_at places n).0 at.0 (place_at places n).1 at.1).packets.id h in
-      let y : IsStorePacket st (made_by ts places n z) = made_in_range st ts places n t z given are i good from in
-      joined.comes t (made_by ts places n z) (numbered n) y.0 (shows_moved s1 ds all t (made_by ts places n z) (numbered n) moved (marked.comes n t z i.0 good i from));
+      let y : IsStorePacket st (packet_made ts places n z) = made_in_range st ts places n t z given are i good from in
+      joined.comes t (packet_made ts places n z) (numbered n) y.0 (shows_moved s1 ds all t (packet_made ts places n z) (numbered n) moved (marked.comes n t z i.0 good i from));
 }
   where
     g : Grows st new

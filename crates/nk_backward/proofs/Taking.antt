@@ -17,8 +17,8 @@ use Rattle.nk_goal.proofs.Adding.{under_append, under_left, under_right}
 use Rattle.nk_steps.proofs.Locals.{acts_in_range}
 use Rattle.nk_backward.specs.declared.transitions.Transitions.{Transitions}
 use Rattle.nk_backward.specs.Transitions.{transitions_at, AreAllGiven, IsLed, LeadsInto}
-use Rattle.nk_backward.specs.Predecessors.{out_at, ArePlacesBelow, place_at, numbered, IsInto, LeavesFrom, made_by, ArePredecessors, AreShownAt}
-use Rattle.nk_backward.specs.Closures.{IsTaken, IsTakenBelow, IsLedTo, IsLedInto, IsGained, IsClosure, IsWholeFrontier}
+use Rattle.nk_backward.specs.Predecessors.{out_at, ArePlacesBelow, place_at, numbered, IsInto, LeavesFrom, packet_made, ArePredecessors, AreShownAt}
+use Rattle.nk_backward.specs.Closures.{IsTaken, IsTakenBelow, LeadsToSet, IsLedInto, IsGained, IsClosure, IsWholeFrontier}
 use Rattle.nk_backward.proofs.Listing.{under_or_not}
 use Rattle.nk_backward.proofs.Tracing.{led_in_range, led_on, led_back}
 use Rattle.nk_backward.proofs.Marking.{place_is}
@@ -59,7 +59,7 @@ taken_one st s1 new ts places q p t o led back next all more g sets once next_se
         let e : c.0 ≡ n = let a = c.2 in let b = k.2 in omega (arith, a, b) in
         let source : (transitions_at ts (place_at places n).0).source ≡ i = subst (λ (j : ℕ). (transitions_at ts (place_at places j).0).source ≡ i) e c.3 in
         let from : is_in st (out_at ts (place_at places n)).packets z ≡ true = subst (λ (j : ℕ). LeavesFrom st ts places j z) e c.4 in
-        let to : is_in st q.packets (applied (out_at ts (place_at places n)).out.act z) ≡ true = subst (λ (j : ℕ). is_in st q.packets (made_by ts places j z) ≡ true) e c.5 in (
+        let to : is_in st q.packets (applied (out_at ts (place_at places n)).out.act z) ≡ true = subst (λ (j : ℕ). is_in st q.packets (packet_made ts places j z) ≡ true) e c.5 in (
           sym source ∙ ap (λ (u : Transitions). u.source) (sym t_is),
           is.at z w.0 ∙ pass_both (is_in st q.packets (applied o.out.act z)) (is_in st o.packets z) (subst (λ (e : Given). is_in st q.packets (applied e.out.act z) ≡ true) (sym o_is) to) (subst (λ (e : Given). is_in st e.packets z ≡ true) (sym o_is) from),
         )
@@ -80,26 +80,26 @@ taken_push a st new ts places es k q back next mid between all more g given are 
           let m : IsTaken a ts places q i z = subst (λ (e : Given). IsTaken a ts places e i z) (ap (λ (j : ℕ). entry es j) same.1 ∙ sym is) c.2 in
           let n : ℕ = m.0 in
           let at = place_is ts places n are m.1 in
-          inr (n, m.1, m.2, m.3, has_on a st (out_at ts (place_at places n)).packets z g (given (place_at places n).0 at.0 (place_at places n).1 at.1).packets.id m.4, has_on a st q.packets (made_by ts places n z) g set.id m.5)
+          inr (n, m.1, m.2, m.3, has_on a st (out_at ts (place_at places n)).packets z g (given (place_at places n).0 at.0 (place_at places n).1 at.1).packets.id m.4, has_on a st q.packets (packet_made ts places n z) g set.id m.5)
     ]
 
     right : (i : ℕ) (z : List ℕ) → IsStorePacket a z → IsTaken st ts places q i z → IsTakenBelow a ts places es (k + 1) i z
     right i z w m =
         let n : ℕ = m.0 in
         let at = place_is ts places n are m.1 in
-        let back : IsTaken a ts places q i z = (n, m.1, m.2, m.3, has_back a st (out_at ts (place_at places n)).packets z g (given (place_at places n).0 at.0 (place_at places n).1 at.1).packets.id m.4, has_back a st q.packets (made_by ts places n z) g set.id m.5) in
+        let back : IsTaken a ts places q i z = (n, m.1, m.2, m.3, has_back a st (out_at ts (place_at places n)).packets z g (given (place_at places n).0 at.0 (place_at places n).1 at.1).packets.id m.4, has_back a st q.packets (packet_made ts places n z) g set.id m.5) in
         (k, omega arith, subst (λ (e : Given). IsTaken a ts places e i z) is back)
 
 -- all outs that stand for transitions into the set at the packets of x
 pub taken_all : (st s1 new : StoreState) (ts : List Transitions) (places into : List (ℕ × ℕ)) (t x : ℕ) (es : List Given) (back next all more : List (ℕ × ℕ)) → Grows st s1 → AreAllGiven st ts → HaveSets st back → Once back → HaveSets st next → Once next → ArePredecessors st ts places into → AreShownAt st into t x s1 es →
-    IsGained s1 (IsTakenBelow s1 ts places es (length es)) back next new all more → IsGained st (IsLedTo st ts t x) back next new all more
+    IsGained s1 (IsTakenBelow s1 ts places es (length es)) back next new all more → IsGained st (LeadsToSet st ts t x) back next new all more
 taken_all st s1 new ts places into t x es back next all more g given sets once next_sets next_once pre shown m =
-    gained_before st s1 new (IsTakenBelow s1 ts places es (length es)) (IsLedTo st ts t x) back next all more g sets once next_sets next_once m on off
+    gained_before st s1 new (IsTakenBelow s1 ts places es (length es)) (LeadsToSet st ts t x) back next all more g sets once next_sets next_once m on off
   where
     are : ArePlacesBelow ts (length ts) places
     are = pre.places_are
 
-    on : (i : ℕ) (z : List ℕ) → IsStorePacket st z → IsTakenBelow s1 ts places es (length es) i z → IsLedTo st ts t x i z
+    on : (i : ℕ) (z : List ℕ) → IsStorePacket st z → IsTakenBelow s1 ts places es (length es) i z → LeadsToSet st ts t x i z
     on i z w c =
         let j : ℕ = c.0 in
         let k = c.2 in
@@ -107,7 +107,7 @@ taken_all st s1 new ts places into t x es back next all more g given sets once n
         let at = place_is ts places n are k.1 in
         let from : LeavesFrom st ts places n z = has_back st s1 (out_at ts (place_at places n)).packets z g (given (place_at places n).0 at.0 (place_at places n).1 at.1).packets.id k.4 in
         let o : Out = (entry es j).out in
-        let y : List ℕ = made_by ts places n z in
+        let y : List ℕ = packet_made ts places n z in
         let good : IsStorePacket st y = acts_in_range st.maxes 0 (out_at ts (place_at places n)).out.act z (given (place_at places n).0 at.0 (place_at places n).1 at.1).suits w in
         let v = shown.goes y o good (j, omega arith, c.1, refl, k.5) in
         let s = pre.goes t y o good v.1 in
@@ -115,26 +115,26 @@ taken_all st s1 new ts places into t x es back next all more g given sets once n
         let is : IsInto ts places n t = subst (λ (q : ℕ). IsInto ts places q t) same s.2 in
         (y, led_by st ts places n i t z are is k.3 from, v.0)
 
-    off : (i : ℕ) (z : List ℕ) → IsStorePacket st z → IsLedTo st ts t x i z → IsTakenBelow s1 ts places es (length es) i z
+    off : (i : ℕ) (z : List ℕ) → IsStorePacket st z → LeadsToSet st ts t x i z → IsTakenBelow s1 ts places es (length es) i z
     off i z w c =
         let y : List ℕ = c.0 in
         let k = number_led st ts places i t z y are c.1 in
         let n : ℕ = k.0 in
         let at = place_is ts places n are k.1.0 in
-        let good : IsStorePacket st (made_by ts places n z) = made_in_range st ts places n t z given are k.1 w k.3 in
-        let has : Has st x (made_by ts places n z) = subst (λ (r : List ℕ). Has st x r) (sym k.4) c.2 in
-        let v = shown.comes (made_by ts places n z) (numbered n) good has (pre.comes n t z w k.1 k.3) in
+        let good : IsStorePacket st (packet_made ts places n z) = made_in_range st ts places n t z given are k.1 w k.3 in
+        let has : Has st x (packet_made ts places n z) = subst (λ (r : List ℕ). Has st x r) (sym k.4) c.2 in
+        let v = shown.comes (packet_made ts places n z) (numbered n) good has (pre.comes n t z w k.1 k.3) in
         let to : n + 1 ≡ (entry es v.0).out.target = ap (λ (r : Out). r.target) (sym v.3) in
         (v.0, v.2, (n, k.1.0, sym to, k.2, has_on st s1 (out_at ts (place_at places n)).packets z g (given (place_at places n).0 at.0 (place_at places n).1 at.1).packets.id k.3, v.4))
 
 -- an entry of the frontier more
-pub frontier_push : (a st new : StoreState) (ts : List Transitions) (done : List (ℕ × ℕ)) (p : ℕ × ℕ) (back next mid between all more : List (ℕ × ℕ)) → Grows a st → AreAllGiven a ts → IsSet a p.1 → IsGained a (IsLedInto a ts done) back next st mid between → IsGained st (IsLedTo st ts p.0 p.1) mid between new all more →
+pub frontier_push : (a st new : StoreState) (ts : List Transitions) (done : List (ℕ × ℕ)) (p : ℕ × ℕ) (back next mid between all more : List (ℕ × ℕ)) → Grows a st → AreAllGiven a ts → IsSet a p.1 → IsGained a (IsLedInto a ts done) back next st mid between → IsGained st (LeadsToSet st ts p.0 p.1) mid between new all more →
     IsGained a (IsLedInto a ts (done ++ p ∷ [])) back next new all more
 frontier_push a st new ts done p back next mid between all more g given set first second =
-    gained_then a st new (IsLedInto a ts done) (IsLedTo st ts p.0 p.1) (IsLedInto a ts (done ++ p ∷ [])) back next mid between all more g first second parts
+    gained_then a st new (IsLedInto a ts done) (LeadsToSet st ts p.0 p.1) (IsLedInto a ts (done ++ p ∷ [])) back next mid between all more g first second parts
     (λ i z w c. (c.0, c.1, c.2, under_left a done (p ∷ []) c.0 c.1 c.3)) right
   where
-    parts : (i : ℕ) (z : List ℕ) → IsStorePacket a z → IsLedInto a ts (done ++ p ∷ []) i z → IsLedInto a ts done i z ⊎ IsLedTo st ts p.0 p.1 i z
+    parts : (i : ℕ) (z : List ℕ) → IsStorePacket a z → IsLedInto a ts (done ++ p ∷ []) i z → IsLedInto a ts done i z ⊎ LeadsToSet st ts p.0 p.1 i z
     parts i z w c = elim (under_append a done (p ∷ []) c.0 c.1 c.3) [
       | inl was ↦ inl (c.0, c.1, c.2, was)
       | inr now ↦ elim now [
@@ -143,7 +143,7 @@ frontier_push a st new ts done p back next mid between all more g given set firs
       ]
     ]
 
-    right : (i : ℕ) (z : List ℕ) → IsStorePacket a z → IsLedTo st ts p.0 p.1 i z → IsLedInto a ts (done ++ p ∷ []) i z
+    right : (i : ℕ) (z : List ℕ) → IsStorePacket a z → LeadsToSet st ts p.0 p.1 i z → IsLedInto a ts (done ++ p ∷ []) i z
     right i z w c = (p.0, c.0, led_back a st ts i z p.0 c.0 g given c.1, under_right a done (p ∷ []) p.0 c.0 (inl (refl, has_back a st p.1 c.0 g set.id c.2)))
 
 -- ways to a goal, each place of which leads to another goal

@@ -36,8 +36,8 @@ abbrev pub LeavesFrom : StoreState → List Transitions → List (ℕ × ℕ) �
 LeavesFrom st ts places n z = is_in st (out_at ts (place_at places n)).packets z ≡ true
 
 -- the packet that the transition of this number makes
-abbrev pub made_by : List Transitions → List (ℕ × ℕ) → ℕ → List ℕ → List ℕ
-made_by ts places n z = applied (out_at ts (place_at places n)).out.act z
+abbrev pub packet_made : List Transitions → List (ℕ × ℕ) → ℕ → List ℕ → List ℕ
+packet_made ts places n z = applied (out_at ts (place_at places n)).out.act z
 
 -- a set with a diagram, at a place
 abbrev pub diagram_at : List (ℕ × ℕ) → ℕ → ℕ × ℕ
@@ -70,7 +70,7 @@ pub record IsMarked (st : StoreState) (q : Given) (n : ℕ) (old : List (ℕ × 
 pub record AreMarked (st : StoreState) (ts : List Transitions) (places : List (ℕ × ℕ)) (k : ℕ) (new : StoreState) (ds : List (ℕ × ℕ)) : Type 0 where
   pub ids : HaveDiagrams new ds
   pub goes : (t : ℕ) (y : List ℕ) (o : Out) → IsStorePacket st y → ShowsBelow new ds (length ds) t y o → (n : ℕ) × (o ≡ numbered n) × IsInto ts places n t
-  pub comes : (n t : ℕ) (z : List ℕ) → n < k → IsStorePacket st z → IsInto ts places n t → LeavesFrom st ts places n z → ShowsBelow new ds (length ds) t (made_by ts places n z) (numbered n)
+  pub comes : (n t : ℕ) (z : List ℕ) → n < k → IsStorePacket st z → IsInto ts places n t → LeavesFrom st ts places n z → ShowsBelow new ds (length ds) t (packet_made ts places n z) (numbered n)
 
 -- the diagrams at these places are of one set, and these are they
 pub record IsRunOfSet (ds : List (ℕ × ℕ)) (from to : ℕ) (all : List ℕ) : Type 0 where
@@ -95,7 +95,7 @@ pub record IsSetJoined (st : StoreState) (into : List (ℕ × ℕ)) (t d : ℕ) 
   pub comes : (y : List ℕ) (o : Out) → IsWhole y → Contains (look st d y) o → Shows new all t y o
 
 -- each set's diagram has the outs of those of the first k that are its own
-pub record AreJoined (st : StoreState) (ds : List (ℕ × ℕ)) (k : ℕ) (new : StoreState) (into : List (ℕ × ℕ)) : Type 0 where
+pub record AreSetsJoined (st : StoreState) (ds : List (ℕ × ℕ)) (k : ℕ) (new : StoreState) (into : List (ℕ × ℕ)) : Type 0 where
   pub ids : FindDiagrams new into
   pub goes : (t : ℕ) (y : List ℕ) (o : Out) → IsWhole y → Shows new into t y o → ShowsBelow st ds k t y o
   pub comes : (t : ℕ) (y : List ℕ) (o : Out) → IsWhole y → ShowsBelow st ds k t y o → Shows new into t y o
@@ -105,7 +105,7 @@ pub record ArePredecessors (st : StoreState) (ts : List Transitions) (places int
   pub places_are : ArePlacesBelow ts (length ts) places
   pub ids : FindDiagrams st into
   pub goes : (t : ℕ) (y : List ℕ) (o : Out) → IsStorePacket st y → Shows st into t y o → (n : ℕ) × (o ≡ numbered n) × IsInto ts places n t
-  pub comes : (n t : ℕ) (z : List ℕ) → IsStorePacket st z → IsInto ts places n t → LeavesFrom st ts places n z → Shows st into t (made_by ts places n z) (numbered n)
+  pub comes : (n t : ℕ) (z : List ℕ) → IsStorePacket st z → IsInto ts places n t → LeavesFrom st ts places n z → Shows st into t (packet_made ts places n z) (numbered n)
 
 -- what the set's diagram has at the packets of x
 pub record AreShownAt (st : StoreState) (into : List (ℕ × ℕ)) (t x : ℕ) (new : StoreState) (es : List Given) : Type 0 where

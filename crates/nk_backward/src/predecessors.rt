@@ -5,7 +5,7 @@ ghost use Rattle.nk_store.specs.StoreState.{IsId, Grows, HasLeaves};
 ghost use Rattle.nk_sets.specs.PacketSets.{IsSet};
 ghost use Rattle.nk_outs.specs.Outs.{IsGiven};
 ghost use Rattle.nk_backward.specs.Transitions.{AreAllGiven};
-ghost use Rattle.nk_backward.specs.Predecessors.{ArePlacesBelow, place_at, numbered, diagram_at, HaveDiagrams, FindDiagrams, IsMarked, AreMarked, IsRunOfSet, IsWithFound, IsSetJoined, AreJoined, ArePredecessors, AreShownAt};
+ghost use Rattle.nk_backward.specs.Predecessors.{ArePlacesBelow, place_at, numbered, diagram_at, HaveDiagrams, FindDiagrams, IsMarked, AreMarked, IsRunOfSet, IsWithFound, IsSetJoined, AreSetsJoined, ArePredecessors, AreShownAt};
 
 use crate::transitions::Transitions;
 use nk_apply::{union, union_all};
@@ -140,7 +140,7 @@ fn in_order(ds: List<(SetId, Id)>) -> List<(SetId, Id)>
 fn joined_all(st: &mut Store, ds: &[(SetId, Id)]) -> Result<HashMap<SetId, Id>, AllocError>
     requires ids { HaveDiagrams st.old ds.now }
     ensures grows { Grows st.old st.new }
-    ensures ok { IfOk result (λ into. AreJoined st.old ds.now (length ds.now) st.new into.entries) }
+    ensures ok { IfOk result (λ into. AreSetsJoined st.old ds.now (length ds.now) st.new into.entries) }
 {
     let mut into = HashMap::new(st.alloc());
     let mut from = 0;

@@ -2,7 +2,7 @@ use Rattle.std.proofs.Common.{◌≡◌, ℕ, length, sym, subst, arith}
 use Rattle.nk_store.proofs.Stores.{grows_on}
 use Rattle.nk_store.specs.StoreState.{HasLeaves}
 use Rattle.nk_apply.specs.Unions.{AreIds, unions}
-use Rattle.nk_backward.specs.Predecessors.{AreJoined}
+use Rattle.nk_backward.specs.Predecessors.{AreSetsJoined}
 use Rattle.nk_backward.proofs.Marking.{diagrams_on}
 use Rattle.nk_backward.proofs.Joining.{run_ids, joined_push}
 use Rattle.nk_backward.proofs.predecessors.joined_all.Goals as goal
@@ -24,4 +24,4 @@ loop-from-preserved c = record {
 pub returns-clause-ok : goal.returns-clause-ok
 returns-clause-ok c =
     let e : c.loop-from.from ≡ length c.args.ds.now = omega (arith, c.loop-from-test.false, c.loop-from.invariant.within) in
-    subst (λ (n : ℕ). AreJoined c.args.st.now c.args.ds.now n c.loop-from.st c.loop-from.into.entries) e c.loop-from.invariant.made
+    subst (λ (n : ℕ). AreSetsJoined c.args.st.now c.args.ds.now n c.loop-from.st c.loop-from.into.entries) e c.loop-from.invariant.made
