@@ -48,12 +48,14 @@ pub fn there_is_one_answer()
 /// sources with the same bytes left, have one answer fixed.
 pub fn an_impact_has_one_answer()
     ensures policies { (fields : FieldTable) (p q a b c d : Policy) → IsFieldTable fields
-        → AreTheirPredicates fields p q a b → AreTheirPredicates fields p q c d → (a ≡ c) × (b ≡ d) }
+        → AreTheirPredicates fields p q a b → AreTheirPredicates fields p q c d
+        → (a ≡ c) × (b ≡ d) }
     ensures words { (words : List (List ℕ)) (bytes : List ℕ) (a b : Answer)
         → IsImpactAnswerTo words bytes a → IsImpactAnswerTo words bytes b → a ≡ b }
     ensures runs { (words : List (List ℕ)) (source other : Use) (bytes : List ℕ) (a b : Answer)
         → source.old ≡ Some bytes → other.old ≡ Some bytes
-        → IsImpactFixedBy (names_in words) source a → IsImpactFixedBy (names_in words) other b → a ≡ b }
+        → IsImpactFixedBy (names_in words) source a → IsImpactFixedBy (names_in words) other b
+        → a ≡ b }
 {
     declared_fields_are_writable();
 }
@@ -63,17 +65,22 @@ pub fn an_impact_has_one_answer()
 /// from which a history of one policy alone takes the fewest records, and of those that take as few the least.
 pub fn equal_starts_at_the_first_packet_of_an_impact()
     ensures statuses { (left right bytes : List ℕ) (a b : Outcome)
-        → IsEqualAnswer left right bytes a → IsImpactAnswer left right bytes b → (answer_of a).status ≡ (answer_of b).status }
+        → IsEqualAnswer left right bytes a → IsImpactAnswer left right bytes b
+        → (answer_of a).status ≡ (answer_of b).status }
     ensures texts { (left right bytes text lines : List ℕ)
-        → IsEqualAnswer left right bytes (differs text) → IsImpactAnswer left right bytes (differs lines)
+        → IsEqualAnswer left right bytes (differs text)
+        → IsImpactAnswer left right bytes (differs lines)
         → ShowsFirstKept left right bytes text lines }
-    ensures kept { (fields : FieldTable) (p q left right : Policy) → AreTheirPredicates fields p q left right
+    ensures kept { (fields : FieldTable) (p q left right : Policy)
+        → AreTheirPredicates fields p q left right
         → (side : Side) (found : Found) → IsLeastDifference fields p q side found
         → KeepsPacket (side_predicate side left right) found.start }
-    ensures first { (fields : FieldTable) (p q left right : Policy) → AreTheirPredicates fields p q left right
+    ensures first { (fields : FieldTable) (p q left right : Policy)
+        → AreTheirPredicates fields p q left right
         → (side : Side) (found : Found) → IsLeastDifference fields p q side found
         → IsFirstKept fields p q left right found.start }
-    ensures only { (fields : FieldTable) (p q left right : Policy) → AreTheirPredicates fields p q left right
+    ensures only { (fields : FieldTable) (p q left right : Policy)
+        → AreTheirPredicates fields p q left right
         → (side : Side) (found : Found) → IsLeastDifference fields p q side found
         → (pk : Packet) → IsFirstKept fields p q left right pk → pk ≡ found.start }
 {}
