@@ -2,7 +2,7 @@
 use Rattle.std.proofs.Common.{List, ℕ, ◌∙◌, sym, subst}
 use Rattle.nk_names.specs.ProgramOf.{program_by}
 use Rattle.nk_compact.proofs.CompactReasons.{never_refused_compact}
-use Rattle.nk_compile_commands.specs.Compacting.{IsCompactAnswer}
+use Rattle.nk_compact_command.specs.Compacting.{IsCompactAnswer}
 use Rattle.nk_reply.specs.Outcome.{Outcome, done, differs, text_refused, policy_refused}
 use Rattle.nk_input.specs.ProgramText.{Declares}
 use Rattle.nk.specs.Succeeding.{AcceptsMerged}

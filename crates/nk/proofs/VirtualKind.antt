@@ -21,7 +21,7 @@ use Rattle.nk_virtual.proofs.OneReason.{none_some, number_is, no_first, none_ove
 use Rattle.nk_reply.specs.Outcome.{Outcome, done, differs, text_refused, policy_refused}
 use Rattle.nk_input.specs.ProgramText.{Declares}
 use Rattle.nk.specs.Succeeding.{AcceptsVirtual}
-use Rattle.nk_compile_commands.specs.Virtualizing.{LacksPhysical, IsPhysicalRefusal, IsVirtualizeAnswer}
+use Rattle.nk_virtual_command.specs.Virtualizing.{LacksPhysical, IsPhysicalRefusal, IsVirtualizeAnswer}
 use Rattle.nk.proofs.ByKind.{Kind}
 use Rattle.nk.proofs.OneText.{declares_once, no_fault}
 

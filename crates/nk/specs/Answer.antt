@@ -10,7 +10,7 @@ use Rattle.nk_reply.specs.Outcome.{Outcome}
 use Rattle.nk_reply.specs.Reply.{IsReplyOf}
 use Rattle.nk_verify_commands.specs.Asking.{IsAskAnswer}
 use Rattle.nk_verify_commands.specs.Checking.{IsCheckAnswer}
-use Rattle.nk_compile_commands.specs.Compacting.{IsCompactAnswer}
+use Rattle.nk_compact_command.specs.Compacting.{IsCompactAnswer}
 use Rattle.nk_compile_commands.specs.Compiling.{IsCompileAnswer}
 use Rattle.nk_verify_commands.specs.Comparing.{IsEqualAnswer}
 use Rattle.nk_trace_commands.specs.Flying.{IsFlyAnswer}
@@ -18,7 +18,7 @@ use Rattle.nk.specs.Generating.{IsGenAnswer, IsJobAnswer}
 use Rattle.nk_verify_commands.specs.Judging.{IsJudgeAnswer}
 use Rattle.nk_trace_commands.specs.Tracing.{IsTraceAnswer}
 use Rattle.nk_compile_commands.specs.Updating.{IsUpdateAnswer}
-use Rattle.nk_compile_commands.specs.Virtualizing.{IsVirtualizeAnswer}
+use Rattle.nk_virtual_command.specs.Virtualizing.{IsVirtualizeAnswer}
 
 -- whether a command reads the input
 abbrev pub reads : Command → Bool

@@ -1,5 +1,5 @@
 //! The answers of `gen SIZE SEED` and `job SIZE SEED`.
-ghost use Rattle.std.specs.Prelude.{◌≡◌, ◌≤◌, IfOk, List, ℕ, length};
+ghost use Rattle.std.specs.Prelude.{◌≡◌, ◌≤◌, ◌++◌, IfOk, OnOk, List, ℕ, codes, decimal, length};
 ghost use Rattle.std.specs.List.{sum_by};
 ghost use Rattle.nk_names.specs.ProgramOf.{program_by};
 ghost use Rattle.nk_names.specs.ProgramValue.{IsProgram};
@@ -135,27 +135,38 @@ fn tables_message(alloc: Global, name: &str, counted: &Counted) -> Result<Vec<u8
     ensures { IfOk result (λ v. v.items ≡ tables_line name.now counted.now.tag_sets counted.now.tables.tables) }
 {
     let tables = counted.tables.tables.as_slice();
-    let mut buffer = Buffer::new();
-    let mut line = Vec::new(alloc);
-    line.extend_from_slice(name.as_bytes())?;
-    line.extend_from_slice(b" tags ")?;
-    line.extend_from_slice(buffer.format(counted.tag_sets).as_bytes())?;
-    line.extend_from_slice(b" rows ")?;
-    line.extend_from_slice(buffer.format(rows_in(tables)).as_bytes())?;
-    line.extend_from_slice(b" groups ")?;
-    line.extend_from_slice(buffer.format(groups_in(tables)).as_bytes())?;
-    line.extend_from_slice(b"\n")?;
+    let mut line = Vec::from_slice(alloc, name.as_bytes())?;
+    push_counts(&mut line, counted.tag_sets, tables)?;
     Ok(line)
+}
+
+/// Appends the numbers of tag sets, of rows and of groups, each after its word, and a line feed.
+fn push_counts(line: &mut Vec<u8>, tag_sets: u64, tables: &[Table]) -> Result<(), AllocError>
+    ensures { OnOk result (line.new.items ≡ line.old.items ++ codes " tags " ++ decimal tag_sets
+        ++ codes " rows " ++ decimal (sum_by (λ t. length t.rows) tables.now)
+        ++ codes " groups " ++ decimal (sum_by (λ t. length t.groups) tables.now) ++ codes "\n") }
+{
+    push_count(line, b" tags ", tag_sets as u128)?;
+    push_count(line, b" rows ", rows_in(tables))?;
+    push_count(line, b" groups ", groups_in(tables))?;
+    line.extend_from_slice(b"\n")
+}
+
+/// Appends a word and a number.
+fn push_count(line: &mut Vec<u8>, word: &[u8], count: u128) -> Result<(), AllocError>
+    ensures { OnOk result (line.new.items ≡ line.old.items ++ word.now ++ decimal count) }
+{
+    let mut buffer = Buffer::new();
+    line.extend_from_slice(word)?;
+    line.extend_from_slice(buffer.format(count).as_bytes())
 }
 
 /// The line of a certificate with so many rows after the start row.
 fn rows_message(alloc: Global, rows: usize) -> Result<Vec<u8>, AllocError>
     ensures { IfOk result (λ v. v.items ≡ rows_line rows) }
 {
-    let mut buffer = Buffer::new();
     let mut line = Vec::new(alloc);
-    line.extend_from_slice(b"equal rows ")?;
-    line.extend_from_slice(buffer.format(1 + rows as u128).as_bytes())?;
+    push_count(&mut line, b"equal rows ", 1 + rows as u128)?;
     line.extend_from_slice(b"\n")?;
     Ok(line)
 }

@@ -9,7 +9,8 @@ ghost use Rattle.nk_reply.specs.Reply.{answer_in, outcome_of};
 ghost use Rattle.nk.specs.Succeeding.{Succeeds};
 
 use crate::generating::{gen_answer, job_answer};
-use nk_compile_commands::{compact_answer, compile_answer, update_answer, virtual_answer};
+use nk_compact_command::compact_answer;
+use nk_compile_commands::{compile_answer, update_answer};
 use nk_io::{LONGEST, Sink, Source, read_all};
 use nk_reply::{CommandAnswer, Reply, Status, deliver};
 use nk_trace_commands::{fly_reply, trace_reply};
@@ -17,6 +18,7 @@ use nk_verify_commands::{
     apart_query, ask_answer, check_apart_reply, check_reply, check_waypoint_reply, equal_answer,
     waypoint_query,
 };
+use nk_virtual_command::virtual_answer;
 use nk_words::{Command, WordsError, read_words};
 use std::alloc::{AllocError, Global};
 

@@ -1,12 +1,7 @@
 pub mod Climbs
-pub mod Comments
-pub mod CompactLines
 pub mod Matched
-pub mod PlainLines
 pub mod Printing
 pub mod Readable
-pub mod ReadableClasses
 pub mod ResultBuckets
 pub mod SoundRows
 pub mod TableGroups
-pub mod VirtualText

@@ -1,8 +1,5 @@
-pub mod CommentLines
-pub mod Compacting
 pub mod Compiling
 pub mod Handed
 pub mod Messages
 pub mod TextTables
 pub mod Updating
-pub mod Virtualizing

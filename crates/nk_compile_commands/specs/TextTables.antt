@@ -11,8 +11,6 @@ use Rattle.nk_table.specs.declared.Tables.{Tables}
 use Rattle.nk_tabtext.specs.InOrder.{AreInOrder}
 use Rattle.nk_tabtext.specs.ReadBack.{ArePrintableTables}
 use Rattle.nk_compile.specs.Headline.{IsCompiled, IsCompiledPolicy}
-use Rattle.nk_compact.specs.declared.compact.Compact.{Compact}
-use Rattle.nk_compact.specs.Compacted.{IsCompacted}
 
 -- no switch has more groups than a text has numbers
 abbrev pub HasFewGroups : Tables → Type 0
@@ -41,14 +39,3 @@ abbrev pub PoliciesInOrder : Type 0
 PoliciesInOrder = (program : Program) (p : Policy) (t : Tables)
     → IsProgram program.fields program.topo program.lets → IsWritable program.fields → IsDeclarable program.topo
     → IsInRange p program.fields → IsCompiledPolicy program p t → AreInOrder t
-
--- So it is with the merged tables that compacting a name gives.
-abbrev pub CompactsPrintable : Type 0
-CompactsPrintable = (program : Program) (name : List ℕ) (c : Compact)
-    → IsProgram program.fields program.topo program.lets → IsWritable program.fields → IsDeclarable program.topo
-    → IsCompacted program name c → HasFewGroups c.tables → ArePrintableTables c.tables
-
-abbrev pub CompactsInOrder : Type 0
-CompactsInOrder = (program : Program) (name : List ℕ) (c : Compact)
-    → IsProgram program.fields program.topo program.lets → IsWritable program.fields → IsDeclarable program.topo
-    → IsCompacted program name c → AreInOrder c.tables

@@ -1,5 +1,5 @@
 //! The laws that join compilation with the reading of table texts.
-ghost use Rattle.nk_compile_commands.specs.TextTables.{CompactsInOrder, CompactsPrintable, CompilesInOrder, CompilesPrintable, PoliciesInOrder, PoliciesPrintable};
+ghost use Rattle.nk_compile_commands.specs.TextTables.{CompilesInOrder, CompilesPrintable, PoliciesInOrder, PoliciesPrintable};
 
 /// What compiling a name of a text's program prints is read back as itself, in all but one case: a switch with more groups
 /// than the largest number of a text, 281,474,976,710,655.
@@ -20,14 +20,4 @@ pub fn policies_tables_are_printable()
 /// What is printed for a policy without a name is in order.
 pub fn policies_tables_are_in_order()
     ensures { PoliciesInOrder }
-{}
-
-/// What compacting a name of a text's program prints is read back as itself, in all but that case.
-pub fn compacted_tables_are_printable()
-    ensures { CompactsPrintable }
-{}
-
-/// What compacting a name of a text's program prints is in order.
-pub fn compacted_tables_are_in_order()
-    ensures { CompactsInOrder }
 {}

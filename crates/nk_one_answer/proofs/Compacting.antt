@@ -4,7 +4,7 @@ use Rattle.nk_names.proofs.Alike.{fields_alike}
 use Rattle.nk_compact.proofs.CompactReasons.{never_refused_compact, one_compact_refusal}
 use Rattle.nk_uniqueness.specs.Texts.{TextsHavePackets}
 use Rattle.nk_uniqueness.proofs.OneCompact.{one_compacted}
-use Rattle.nk_compile_commands.specs.Compacting.{IsCompactPrinted, IsCompactRefusal, IsCompactAnswer, compact_bytes}
+use Rattle.nk_compact_command.specs.Compacting.{IsCompactPrinted, IsCompactRefusal, IsCompactAnswer, compact_bytes}
 use Rattle.nk_compile_commands.specs.Messages.{refusal_line}
 use Rattle.nk_reply.specs.Outcome.{Outcome, done, differs, text_refused, policy_refused}
 use Rattle.nk_input.specs.ProgramText.{HasFault}

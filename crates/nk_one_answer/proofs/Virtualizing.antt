@@ -21,10 +21,11 @@ use Rattle.nk_virtual.proofs.OneAnswer.{one_physical}
 use Rattle.nk_virtual.proofs.OneAnswer as unphysical
 use Rattle.nk_uniqueness.specs.Texts.{TextsHavePackets}
 use Rattle.nk_uniqueness.proofs.OneTable.{one_table}
-use Rattle.nk_compile_commands.specs.Messages.{refusal_line, unphysical_line}
+use Rattle.nk_compile_commands.specs.Messages.{refusal_line}
+use Rattle.nk_virtual_command.specs.Messages.{unphysical_line}
 use Rattle.nk_reply.specs.Outcome.{Outcome, done, differs, text_refused, policy_refused}
 use Rattle.nk_input.specs.ProgramText.{Declares, HasFault}
-use Rattle.nk_compile_commands.specs.Virtualizing.{IsVirtualPrinted, LacksPhysical, IsPhysicalRefusal, IsVirtualizeAnswer}
+use Rattle.nk_virtual_command.specs.Virtualizing.{IsVirtualPrinted, LacksPhysical, IsPhysicalRefusal, IsVirtualizeAnswer}
 use Rattle.nk.proofs.OneText.{no_fault, one_fault}
 use Rattle.nk_one_answer.proofs.Named.{Declared, alike, packets_of}
 use Rattle.nk_one_answer.proofs.Outcomes.{AreApart, IsKind, one_kind}

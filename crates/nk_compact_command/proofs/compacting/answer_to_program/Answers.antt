@@ -1,7 +1,7 @@
 use Rattle.std.proofs.Common.{◌≡◌, subst}
-use Rattle.nk_compile_commands.specs.Compacting.{compact_bytes}
-use Rattle.nk_compile_commands.proofs.CompactLines.{is_compact_printed}
-use Rattle.nk_compile_commands.proofs.compacting.answer_to_program.Goals as goal
+use Rattle.nk_compact_command.specs.Compacting.{compact_bytes}
+use Rattle.nk_compact_command.proofs.CompactLines.{is_compact_printed}
+use Rattle.nk_compact_command.proofs.compacting.answer_to_program.Goals as goal
 
 pub returns-in_ok-compact_text-in-Ok : goal.returns-in_ok-compact_text-in-Ok
 returns-in_ok-compact_text-in-Ok c =

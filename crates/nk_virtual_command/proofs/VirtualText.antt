@@ -15,9 +15,10 @@ use Rattle.nk_virtual.specs.Answers.{IsPhysical}
 use Rattle.nk_virtual.specs.Reasons.{IsVirtualReason}
 use Rattle.nk_virtual.specs.declared.refusal.VirtualRefusal.{VirtualRefusal}
 use Rattle.nk_input.specs.Declarable.{CanBeDeclared}
-use Rattle.nk_compile_commands.specs.Messages.{refusal_line, unphysical_line}
+use Rattle.nk_compile_commands.specs.Messages.{refusal_line}
+use Rattle.nk_virtual_command.specs.Messages.{unphysical_line}
 use Rattle.nk_compile_commands.specs.TextTables.{PoliciesPrintable}
-use Rattle.nk_compile_commands.specs.Virtualizing.{IsVirtualPrinted, LacksPhysical, IsPhysicalRefusal}
+use Rattle.nk_virtual_command.specs.Virtualizing.{IsVirtualPrinted, LacksPhysical, IsPhysicalRefusal}
 
 -- what is printed of the tables of a physical policy is read back
 pub is_virtual_printed :

@@ -1,7 +1,7 @@
 use Rattle.std.proofs.Common.{◌≡◌, ◌++◌, take}
 use Rattle.std.specs.List.{flat_map}
-use Rattle.nk_compile_commands.specs.Compacting.{apart_line}
-use Rattle.nk_compile_commands.proofs.compacting.push_aparts.Given as goal
+use Rattle.nk_compact_command.specs.Compacting.{apart_line}
+use Rattle.nk_compact_command.proofs.compacting.push_aparts.Given as goal
 
 -- the lines of what is told so far
 abbrev pub invariant-loop-apart : goal.invariant-loop-apart

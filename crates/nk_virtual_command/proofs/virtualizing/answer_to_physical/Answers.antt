@@ -1,6 +1,6 @@
 use Rattle.nk_policy.specs.Tree.{tree_of}
-use Rattle.nk_compile_commands.proofs.VirtualText.{is_virtual_printed}
-use Rattle.nk_compile_commands.proofs.virtualizing.answer_to_physical.Goals as goal
+use Rattle.nk_virtual_command.proofs.VirtualText.{is_virtual_printed}
+use Rattle.nk_virtual_command.proofs.virtualizing.answer_to_physical.Goals as goal
 
 pub returns-in_ok-table_text-in-Ok : goal.returns-in_ok-table_text-in-Ok
 returns-in_ok-table_text-in-Ok c =

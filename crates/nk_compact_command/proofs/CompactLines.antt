@@ -27,12 +27,12 @@ use Rattle.nk_compact.specs.declared.compact.Apart.{Apart}
 use Rattle.nk_compact.specs.declared.compact.Compact.{Compact}
 use Rattle.nk_compact.specs.Compacted.{IsFirstSet, IsApartIn, IsCompacted}
 use Rattle.nk_compact.proofs.Merging.{index_get}
-use Rattle.nk_compile_commands.specs.CommentLines.{IsCommentLine}
-use Rattle.nk_compile_commands.specs.Compacting.{apart_words, apart_line, compact_bytes, IsCompactPrinted}
+use Rattle.nk_compact_command.specs.CommentLines.{IsCommentLine}
+use Rattle.nk_compact_command.specs.Compacting.{apart_words, apart_line, compact_bytes, IsCompactPrinted}
 use Rattle.nk_input.specs.Declarable.{CanBeDeclared}
-use Rattle.nk_compile_commands.specs.TextTables.{CompactsPrintable}
-use Rattle.nk_compile_commands.proofs.Comments.{comments_change_nothing}
-use Rattle.nk_compile_commands.proofs.PlainLines.{IsPlain, most, plain_after, plain_number, packet_plain, history_plain}
+use Rattle.nk_compact_command.specs.TextTables.{CompactsPrintable}
+use Rattle.nk_compact_command.proofs.Comments.{comments_change_nothing}
+use Rattle.nk_compact_command.proofs.PlainLines.{IsPlain, most, plain_after, plain_number, packet_plain, history_plain}
 
 -- ---- what is left of a policy keeps packets in range
 

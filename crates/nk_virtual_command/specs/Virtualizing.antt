@@ -17,7 +17,8 @@ use Rattle.nk_virtual.specs.Answers.{IsPhysical}
 use Rattle.nk_virtual.specs.Reasons.{IsVirtualReason}
 use Rattle.nk_virtual.specs.declared.refusal.VirtualRefusal.{VirtualRefusal}
 use Rattle.nk_compile_commands.specs.TextTables.{HasFewGroups}
-use Rattle.nk_compile_commands.specs.Messages.{refusal_line, unphysical_line}
+use Rattle.nk_compile_commands.specs.Messages.{refusal_line}
+use Rattle.nk_virtual_command.specs.Messages.{unphysical_line}
 use Rattle.nk_reply.specs.Outcome.{Outcome, done, text_refused, policy_refused}
 use Rattle.nk_input.specs.ProgramText.{Declares, HasFault}
 

@@ -23,7 +23,7 @@ use Rattle.nk_table.specs.declared.Row.{Row}
 use Rattle.nk_table.specs.Rules.{rows_of, groups_at_switch}
 use Rattle.nk_tabtext.specs.Text.{table_bytes, version_text, version_of, field_text, table_field_lines, fields_text, tag_line, tag_text, switch_text, link_text, ports_text, topology_text, group_text, row_text, rules_text, section_text, bucket_text, matches_text, target_text, name_of}
 use Rattle.nk_tabtext.specs.Values.{lexed, tables_of, tables_of_tokens}
-use Rattle.nk_compile_commands.specs.CommentLines.{IsCommentLine}
+use Rattle.nk_compact_command.specs.CommentLines.{IsCommentLine}
 
 -- ---- comment lines have no tokens
 

@@ -6,11 +6,12 @@ ghost use Rattle.nk_names.specs.ProgramValue.{IsProgram};
 ghost use Rattle.nk_virtual.specs.Answers.{IsPhysical};
 ghost use Rattle.nk_input.specs.Declarable.{CanBeDeclared};
 ghost use Rattle.nk_reply.specs.Reply.{outcome_of};
-ghost use Rattle.nk_compile_commands.specs.Virtualizing.{IsVirtualizeAnswer, ToVirtual};
+ghost use Rattle.nk_virtual_command.specs.Virtualizing.{IsVirtualizeAnswer, ToVirtual};
 
-use crate::laws::{policies_tables_are_in_order, policies_tables_are_printable};
-use crate::messages::{refusal_message, unphysical_message};
+use crate::messages::unphysical_message;
 use nk_compile::{CompileError, compile_policy};
+use nk_compile_commands::laws::{policies_tables_are_in_order, policies_tables_are_printable};
+use nk_compile_commands::refusal_message;
 use nk_input::{ReadText, read_program};
 use nk_names::Program;
 use nk_policy::Pol;

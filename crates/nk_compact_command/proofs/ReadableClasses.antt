@@ -25,7 +25,7 @@ use Rattle.nk_compact.proofs.Merging.{index_get}
 use Rattle.nk_compile_commands.proofs.ResultBuckets.{numbered_ok}
 use Rattle.nk_compile_commands.proofs.SoundRows.{IsSoundTree}
 use Rattle.nk_compile_commands.proofs.Readable.{IsSoundTable, AreSoundTables, named_in_range, sound_in_order, sound_printable}
-use Rattle.nk_compile_commands.specs.TextTables.{CompactsInOrder, CompactsPrintable}
+use Rattle.nk_compact_command.specs.TextTables.{CompactsInOrder, CompactsPrintable}
 
 module _ (fields : FieldTable) (tag : ℕ) (Start : Packet → Type 0) (p : Policy) (tags : List (List ℕ)) (classes : List ℕ) (table : IsFieldTable fields) (is : fields.tag ≡ Some tag) (range : IsInRange p fields) (few : (i : ℕ) → slice_index classes i ≤ slice_index fields.maxima tag) where
   -- each tag's number is one of the tag's values

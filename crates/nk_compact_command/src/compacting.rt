@@ -5,15 +5,15 @@ ghost use Rattle.nk_field.specs.Texts.{history_bytes, packet_bytes};
 ghost use Rattle.nk_names.specs.ProgramOf.{program_by};
 ghost use Rattle.nk_names.specs.ProgramValue.{IsProgram};
 ghost use Rattle.nk_tabtext.specs.InOrder.{AreInOrder};
-ghost use Rattle.nk_compile_commands.specs.Compacting.{IsCompactAnswer, ToCompacted, apart_line, compact_bytes};
+ghost use Rattle.nk_compact_command.specs.Compacting.{IsCompactAnswer, ToCompacted, apart_line, compact_bytes};
 ghost use Rattle.nk_input.specs.Declarable.{CanBeDeclared};
 ghost use Rattle.nk_reply.specs.Reply.{outcome_of};
 
 use crate::laws::{compacted_tables_are_in_order, compacted_tables_are_printable};
-use crate::messages::refusal_message;
 use itoa::Buffer;
 use nk_compact::{Apart, Compact, compile_compact};
 use nk_compile::CompileError;
+use nk_compile_commands::refusal_message;
 use nk_field::{Fields, history_text, packet_text};
 use nk_input::{ReadText, read_program};
 use nk_names::Program;

@@ -1,0 +1,4 @@
+pub mod Comments
+pub mod CompactLines
+pub mod PlainLines
+pub mod ReadableClasses

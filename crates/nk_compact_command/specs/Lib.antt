@@ -1,0 +1,3 @@
+pub mod CommentLines
+pub mod Compacting
+pub mod TextTables
