@@ -17,7 +17,7 @@ use Rattle.nk_outs.proofs.Givens.{entry_at}
 use Rattle.nk_steps.proofs.Locals.{acts_in_range}
 use Rattle.nk_backward.specs.declared.transitions.Transitions.{Transitions}
 use Rattle.nk_backward.specs.Transitions.{transitions_at, AreAllGiven}
-use Rattle.nk_backward.specs.Predecessors.{out_at, ArePlacesBelow, place_at, numbered, packet_made, diagram_at, HaveDiagrams, ShowsBelow, IsMarked, AreMarked}
+use Rattle.nk_backward.specs.Predecessors.{out_at, ArePlacesBelow, place_at, transition_out, packet_made, diagram_at, HaveDiagrams, ShowsBelow, IsMarked, AreMarked}
 use Rattle.nk_backward.proofs.Tracing.{at_place}
 
 -- the only item of a list
@@ -151,7 +151,7 @@ guarded_some st s y d h = by (look st s y) refl
     by (x ∷ xs) e = ap (λ (p : List Out). guarded p d) e
 
 -- the diagram of a transition
-pub marked_some : (st s1 s2 new : StoreState) (q : Given) (n t made mark d : ℕ) (old all : List (ℕ × ℕ)) → Grows st s1 → Grows s1 s2 → Grows s2 new → IsActFrom st.maxes 0 q.out.act → HaveDiagrams st old → t + 1 ≡ q.out.target → IsImage st q.out.act q.packets s1 made → HasLeaves s2 mark (λ pk. numbered n ∷ []) →
+pub marked_some : (st s1 s2 new : StoreState) (q : Given) (n t made mark d : ℕ) (old all : List (ℕ × ℕ)) → Grows st s1 → Grows s1 s2 → Grows s2 new → IsActFrom st.maxes 0 q.out.act → HaveDiagrams st old → t + 1 ≡ q.out.target → IsImage st q.out.act q.packets s1 made → HasLeaves s2 mark (λ pk. transition_out n ∷ []) →
     HasLeaves new d (λ pk. guarded (look s2 made pk) (look s2 mark pk)) → all ≡ old ++ (t, d) ∷ [] → IsMarked st q n old new all
 marked_some st s1 s2 new q n t made mark d old all g1 g2 g3 suits ids to image leaf cut is = record {
   ids = subst (HaveDiagrams new) (sym is) (λ k l. elim (eqb_tells k (length old)) [
@@ -170,27 +170,27 @@ marked_some st s1 s2 new q n t made mark d old all g1 g2 g3 suits ids to image l
       let y : List ℕ = applied q.out.act z in
       let has : is_in s1 made y ≡ true = image.goes z w h in
       let whole : IsWhole y = (in_range z w).0 in
-      let leaves : look new d y ≡ numbered n ∷ [] = cut.leaf y whole ∙ guarded_some s2 made y (look s2 mark y) (has_on s1 s2 made y g2 image.set.id has) ∙ leaf.leaf y whole in
+      let leaves : look new d y ≡ transition_out n ∷ [] = cut.leaf y whole ∙ guarded_some s2 made y (look s2 mark y) (has_on s1 s2 made y g2 image.set.id has) ∙ leaf.leaf y whole in
       let at : (t, d) ≡ diagram_at (old ++ (t, d) ∷ []) (length old) = sym (diagram_new old (t, d)) in
-      subst (λ (ds : List (ℕ × ℕ)). ShowsBelow new ds (length ds) u y (numbered n)) (sym is) (
+      subst (λ (ds : List (ℕ × ℕ)). ShowsBelow new ds (length ds) u y (transition_out n)) (sym is) (
         length old,
         omega (arith, length-append old ((t, d) ∷ [])),
         subst (λ (p : ℕ × ℕ). p.0 ≡ u) at (let v : t ≡ u = omega (arith, to, e) in v),
-        subst (λ (p : ℕ × ℕ). Contains (look new p.1 y) (numbered n)) at (subst (λ (os : List Out). Contains os (numbered n)) (sym leaves) (0, omega arith, refl)),
+        subst (λ (p : ℕ × ℕ). Contains (look new p.1 y) (transition_out n)) at (subst (λ (os : List Out). Contains os (transition_out n)) (sym leaves) (0, omega arith, refl)),
       );
 }
   where
     g : Grows st new
     g = grows_on st s1 new g1 (grows_on s1 s2 new g2 g3)
 
-    split : (u : ℕ) (y : List ℕ) (o : Out) → IsStorePacket st y → ShowsBelow new (old ++ (t, d) ∷ []) (length (old ++ (t, d) ∷ [])) u y o → ShowsBelow st old (length old) u y o ⊎ ((o ≡ numbered n) × (q.out.target ≡ u + 1))
+    split : (u : ℕ) (y : List ℕ) (o : Out) → IsStorePacket st y → ShowsBelow new (old ++ (t, d) ∷ []) (length (old ++ (t, d) ∷ [])) u y o → ShowsBelow st old (length old) u y o ⊎ ((o ≡ transition_out n) × (q.out.target ≡ u + 1))
     split u y o w s = elim (eqb_tells s.0 (length old)) [
       | inl same ↦
           let at : diagram_at (old ++ (t, d) ∷ []) s.0 ≡ (t, d) = ap (λ (j : ℕ). diagram_at (old ++ (t, d) ∷ []) j) same.1 ∙ diagram_new old (t, d) in
           let set : t ≡ u = subst (λ (p : ℕ × ℕ). p.0 ≡ u) at s.2 in
           let c : Contains (look new d y) o = subst (λ (p : ℕ × ℕ). Contains (look new p.1 y) o) at s.3 in
           let k : Contains (look s2 mark y) o = guarded_has (look s2 made y) (look s2 mark y) o (subst (λ (os : List Out). Contains os o) (cut.leaf y w.0) c) in
-          inr (sym (only (numbered n) o (subst (λ (os : List Out). Contains os o) (leaf.leaf y w.0) k)), omega (arith, to, set))
+          inr (sym (only (transition_out n) o (subst (λ (os : List Out). Contains os o) (leaf.leaf y w.0) k)), omega (arith, to, set))
       | inr other ↦
           let l : s.0 < length old = omega (arith, s.1, length-append old ((t, d) ∷ []), other.1) in
           let at : diagram_at (old ++ (t, d) ∷ []) s.0 ≡ diagram_at old s.0 = diagram_old old (t, d) s.0 l in
@@ -218,13 +218,13 @@ marked_push a st new ts places k q ds all g given are l is was one = record {
     | inr now ↦ (k, now.0, (l, subst (λ (e : Given). e.out.target ≡ t + 1) is now.1))
   ];
   comes = λ n t z m w i h. elim (eqb_tells n k) [
-    | inr other ↦ one.kept t (packet_made ts places n z) (numbered n) (was.comes n t z (omega (arith, m, other.1)) w i h)
+    | inr other ↦ one.kept t (packet_made ts places n z) (transition_out n) (was.comes n t z (omega (arith, m, other.1)) w i h)
     | inl same ↦
         let e : q ≡ out_at ts (place_at places n) = is ∙ ap (λ (j : ℕ). out_at ts (place_at places j)) (sym same.1) in
         let at = place_is ts places n are i.0 in
         let has : is_in st (out_at ts (place_at places n)).packets z ≡ true = has_on a st (out_at ts (place_at places n)).packets z g (given (place_at places n).0 at.0 (place_at places n).1 at.1).packets.id h in
         let shown = one.comes t z (packet_on a st z g w) (subst (λ (p : Given). p.out.target ≡ t + 1) (sym e) i.1) (subst (λ (p : Given). is_in st p.packets z ≡ true) (sym e) has) in
-        subst (λ (j : ℕ). ShowsBelow new all (length all) t (packet_made ts places n z) (numbered j)) (sym same.1)
-        (subst (λ (p : Given). ShowsBelow new all (length all) t (applied p.out.act z) (numbered k)) e shown)
+        subst (λ (j : ℕ). ShowsBelow new all (length all) t (packet_made ts places n z) (transition_out j)) (sym same.1)
+        (subst (λ (p : Given). ShowsBelow new all (length all) t (applied p.out.act z) (transition_out k)) e shown)
   ];
 }

@@ -15,7 +15,7 @@ use Rattle.nk_outs.proofs.Kept.{packet_on, packet_back, has_back}
 use Rattle.nk_witness.proofs.Pulling.{out_is}
 use Rattle.nk_backward.specs.declared.transitions.Transitions.{Transitions}
 use Rattle.nk_backward.specs.Transitions.{transitions_at, AreAllGiven, IsLed}
-use Rattle.nk_backward.specs.Predecessors.{out_at, ArePlacesBelow, place_at, numbered, IsInto, LeavesFrom, packet_made, ShowsBelow, AreMarked, AreSetsJoined, ArePredecessors, AreShownAt}
+use Rattle.nk_backward.specs.Predecessors.{out_at, ArePlacesBelow, place_at, transition_out, IsInto, LeavesFrom, packet_made, ShowsBelow, AreMarked, AreSetsJoined, ArePredecessors, AreShownAt}
 use Rattle.nk_backward.proofs.Tracing.{given_in_range}
 use Rattle.nk_backward.proofs.Marking.{place_is, number_of, guarded_in, guarded_has, guarded_some}
 use Rattle.nk_backward.proofs.Joining.{shows_moved, shown_on, shown_back}
@@ -60,7 +60,7 @@ predecessors_on a b ts places into g given pre = record {
   comes = λ n t z w i h.
       let at = place_is ts places n pre.places_are i.0 in
       let has : LeavesFrom a ts places n z = has_back a b (out_at ts (place_at places n)).packets z g (given (place_at places n).0 at.0 (place_at places n).1 at.1).packets.id h in
-      shown_on a b into t (packet_made ts places n z) (numbered n) g pre.ids (pre.comes n t z (packet_back a b z g w) i has);
+      shown_on a b into t (packet_made ts places n z) (transition_out n) g pre.ids (pre.comes n t z (packet_back a b z g w) i has);
 }
 
 -- the diagrams of all transitions, put together by set
@@ -76,7 +76,7 @@ predecessors_made st s1 new ts places ds all into g1 g2 given are marked moved j
       let good : IsStorePacket st z = packet_back st new z g w in
       let from : LeavesFrom st ts places n z = has_back st new (out_at ts (place_at places n)).packets z g (given (place_at places n).0 at.0 (place_at places n).1 at.1).packets.id h in
       let y : IsStorePacket st (packet_made ts places n z) = made_in_range st ts places n t z given are i good from in
-      joined.comes t (packet_made ts places n z) (numbered n) y.0 (shows_moved s1 ds all t (packet_made ts places n z) (numbered n) moved (marked.comes n t z i.0 good i from));
+      joined.comes t (packet_made ts places n z) (transition_out n) y.0 (shows_moved s1 ds all t (packet_made ts places n z) (transition_out n) moved (marked.comes n t z i.0 good i from));
 }
   where
     g : Grows st new

@@ -17,8 +17,8 @@ use Rattle.nk_goal.proofs.Adding.{under_append, under_left, under_right}
 use Rattle.nk_steps.proofs.Locals.{acts_in_range}
 use Rattle.nk_backward.specs.declared.transitions.Transitions.{Transitions}
 use Rattle.nk_backward.specs.Transitions.{transitions_at, AreAllGiven, IsLed, LeadsInto}
-use Rattle.nk_backward.specs.Predecessors.{out_at, ArePlacesBelow, place_at, numbered, IsInto, LeavesFrom, packet_made, ArePredecessors, AreShownAt}
-use Rattle.nk_backward.specs.Closures.{IsTaken, IsTakenBelow, LeadsToSet, IsLedInto, IsGained, IsClosure, IsWholeFrontier}
+use Rattle.nk_backward.specs.Predecessors.{out_at, ArePlacesBelow, place_at, transition_out, IsInto, LeavesFrom, packet_made, ArePredecessors, AreShownAt}
+use Rattle.nk_backward.specs.Closures.{IsTakenOut, IsTakenBelow, LeadsToSet, IsLedInto, IsGained, IsClosure, IsWholeFrontier}
 use Rattle.nk_backward.proofs.Listing.{under_or_not}
 use Rattle.nk_backward.proofs.Tracing.{led_in_range, led_on, led_back}
 use Rattle.nk_backward.proofs.Marking.{place_is}
@@ -26,7 +26,7 @@ use Rattle.nk_backward.proofs.Preceding.{made_in_range, led_by, number_led}
 use Rattle.nk_backward.proofs.Gaining.{sets_on, gained_then, gained_before}
 
 -- what an out that stands for no transition takes back
-pub taken_none : (st : StoreState) (ts : List Transitions) (places : List (ℕ × ℕ)) (q : Given) (i : ℕ) (z : List ℕ) → ((n : ℕ) → n < length places → q.out.target ≡ n + 1 → ⊥) → IsTaken st ts places q i z → ⊥
+pub taken_none : (st : StoreState) (ts : List Transitions) (places : List (ℕ × ℕ)) (q : Given) (i : ℕ) (z : List ℕ) → ((n : ℕ) → n < length places → q.out.target ≡ n + 1 → ⊥) → IsTakenOut st ts places q i z → ⊥
 taken_none st ts places q i z none k = none k.0 k.1 k.2
 
 -- the place of the transition that an out stands for
@@ -36,9 +36,9 @@ place_within ts places q p are k = subst (λ (r : ℕ × ℕ). (r.0 < length ts)
 -- the packets of an out taken back along its transition
 pub taken_one : (st s1 new : StoreState) (ts : List Transitions) (places : List (ℕ × ℕ)) (q : Given) (p : ℕ × ℕ) (t : Transitions) (o : Given) (led : ℕ) (back next all more : List (ℕ × ℕ)) → Grows st s1 → HaveSets st back → Once back → HaveSets st next → Once next →
     (n : ℕ) × (n < length places) × (q.out.target ≡ n + 1) × (p ≡ place_at places n) → t ≡ transitions_at ts p.0 → o ≡ entry t.outs p.1 → IsPacketSetOf s1 led (λ pk. is_in st q.packets (applied o.out.act pk) && is_in st o.packets pk) →
-    IsGained s1 (λ i z. (i ≡ t.source) × (is_in s1 led z ≡ true)) back next new all more → IsGained st (IsTaken st ts places q) back next new all more
+    IsGained s1 (λ i z. (i ≡ t.source) × (is_in s1 led z ≡ true)) back next new all more → IsGained st (IsTakenOut st ts places q) back next new all more
 taken_one st s1 new ts places q p t o led back next all more g sets once next_sets next_once k is_t is_o is m =
-    gained_before st s1 new (λ i z. (i ≡ t.source) × (is_in s1 led z ≡ true)) (IsTaken st ts places q) back next all more g sets once next_sets next_once m on off
+    gained_before st s1 new (λ i z. (i ≡ t.source) × (is_in s1 led z ≡ true)) (IsTakenOut st ts places q) back next all more g sets once next_sets next_once m on off
   where
     n : ℕ
     n = k.0
@@ -49,12 +49,12 @@ taken_one st s1 new ts places q p t o led back next all more g sets once next_se
     o_is : o ≡ out_at ts (place_at places n)
     o_is = is_o ∙ ap (λ (u : Transitions). entry u.outs p.1) is_t ∙ ap (λ (r : ℕ × ℕ). out_at ts r) k.3
 
-    on : (i : ℕ) (z : List ℕ) → IsStorePacket st z → (i ≡ t.source) × (is_in s1 led z ≡ true) → IsTaken st ts places q i z
+    on : (i : ℕ) (z : List ℕ) → IsStorePacket st z → (i ≡ t.source) × (is_in s1 led z ≡ true) → IsTakenOut st ts places q i z
     on i z w c =
         let two = both_pass (is_in st q.packets (applied o.out.act z)) (is_in st o.packets z) (sym (is.at z w.0) ∙ c.1) in
         (n, k.1, k.2, ap (λ (u : Transitions). u.source) (sym t_is) ∙ sym c.0, subst (λ (e : Given). is_in st e.packets z ≡ true) o_is two.1, subst (λ (e : Given). is_in st q.packets (applied e.out.act z) ≡ true) o_is two.0)
 
-    off : (i : ℕ) (z : List ℕ) → IsStorePacket st z → IsTaken st ts places q i z → (i ≡ t.source) × (is_in s1 led z ≡ true)
+    off : (i : ℕ) (z : List ℕ) → IsStorePacket st z → IsTakenOut st ts places q i z → (i ≡ t.source) × (is_in s1 led z ≡ true)
     off i z w c =
         let e : c.0 ≡ n = let a = c.2 in let b = k.2 in omega (arith, a, b) in
         let source : (transitions_at ts (place_at places n).0).source ≡ i = subst (λ (j : ℕ). (transitions_at ts (place_at places j).0).source ≡ i) e c.3 in
@@ -66,29 +66,29 @@ taken_one st s1 new ts places q p t o led back next all more g sets once next_se
 
 -- an out more
 pub taken_push : (a st new : StoreState) (ts : List Transitions) (places : List (ℕ × ℕ)) (es : List Given) (k : ℕ) (q : Given) (back next mid between all more : List (ℕ × ℕ)) → Grows a st → AreAllGiven a ts → ArePlacesBelow ts (length ts) places → AreGiven a es → k < length es → q ≡ entry es k →
-    IsGained a (IsTakenBelow a ts places es k) back next st mid between → IsGained st (IsTaken st ts places q) mid between new all more → IsGained a (IsTakenBelow a ts places es (k + 1)) back next new all more
+    IsGained a (IsTakenBelow a ts places es k) back next st mid between → IsGained st (IsTakenOut st ts places q) mid between new all more → IsGained a (IsTakenBelow a ts places es (k + 1)) back next new all more
 taken_push a st new ts places es k q back next mid between all more g given are outs l is first second =
-    gained_then a st new (IsTakenBelow a ts places es k) (IsTaken st ts places q) (IsTakenBelow a ts places es (k + 1)) back next mid between all more g first second parts (λ i z w c. (c.0, omega (arith, c.1), c.2)) right
+    gained_then a st new (IsTakenBelow a ts places es k) (IsTakenOut st ts places q) (IsTakenBelow a ts places es (k + 1)) back next mid between all more g first second parts (λ i z w c. (c.0, omega (arith, c.1), c.2)) right
   where
     set : IsSet a q.packets
     set = subst (λ (e : Given). IsSet a e.packets) (sym is) (outs k l).packets
 
-    parts : (i : ℕ) (z : List ℕ) → IsStorePacket a z → IsTakenBelow a ts places es (k + 1) i z → IsTakenBelow a ts places es k i z ⊎ IsTaken st ts places q i z
+    parts : (i : ℕ) (z : List ℕ) → IsStorePacket a z → IsTakenBelow a ts places es (k + 1) i z → IsTakenBelow a ts places es k i z ⊎ IsTakenOut st ts places q i z
     parts i z w c = elim (eqb_tells c.0 k) [
       | inr other ↦ inl (c.0, let m = c.1 in omega (arith, m, other.1), c.2)
       | inl same ↦
-          let m : IsTaken a ts places q i z = subst (λ (e : Given). IsTaken a ts places e i z) (ap (λ (j : ℕ). entry es j) same.1 ∙ sym is) c.2 in
+          let m : IsTakenOut a ts places q i z = subst (λ (e : Given). IsTakenOut a ts places e i z) (ap (λ (j : ℕ). entry es j) same.1 ∙ sym is) c.2 in
           let n : ℕ = m.0 in
           let at = place_is ts places n are m.1 in
           inr (n, m.1, m.2, m.3, has_on a st (out_at ts (place_at places n)).packets z g (given (place_at places n).0 at.0 (place_at places n).1 at.1).packets.id m.4, has_on a st q.packets (packet_made ts places n z) g set.id m.5)
     ]
 
-    right : (i : ℕ) (z : List ℕ) → IsStorePacket a z → IsTaken st ts places q i z → IsTakenBelow a ts places es (k + 1) i z
+    right : (i : ℕ) (z : List ℕ) → IsStorePacket a z → IsTakenOut st ts places q i z → IsTakenBelow a ts places es (k + 1) i z
     right i z w m =
         let n : ℕ = m.0 in
         let at = place_is ts places n are m.1 in
-        let back : IsTaken a ts places q i z = (n, m.1, m.2, m.3, has_back a st (out_at ts (place_at places n)).packets z g (given (place_at places n).0 at.0 (place_at places n).1 at.1).packets.id m.4, has_back a st q.packets (packet_made ts places n z) g set.id m.5) in
-        (k, omega arith, subst (λ (e : Given). IsTaken a ts places e i z) is back)
+        let back : IsTakenOut a ts places q i z = (n, m.1, m.2, m.3, has_back a st (out_at ts (place_at places n)).packets z g (given (place_at places n).0 at.0 (place_at places n).1 at.1).packets.id m.4, has_back a st q.packets (packet_made ts places n z) g set.id m.5) in
+        (k, omega arith, subst (λ (e : Given). IsTakenOut a ts places e i z) is back)
 
 -- all outs that stand for transitions into the set at the packets of x
 pub taken_all : (st s1 new : StoreState) (ts : List Transitions) (places into : List (ℕ × ℕ)) (t x : ℕ) (es : List Given) (back next all more : List (ℕ × ℕ)) → Grows st s1 → AreAllGiven st ts → HaveSets st back → Once back → HaveSets st next → Once next → ArePredecessors st ts places into → AreShownAt st into t x s1 es →
@@ -123,7 +123,7 @@ taken_all st s1 new ts places into t x es back next all more g given sets once n
         let at = place_is ts places n are k.1.0 in
         let good : IsStorePacket st (packet_made ts places n z) = made_in_range st ts places n t z given are k.1 w k.3 in
         let has : Has st x (packet_made ts places n z) = subst (λ (r : List ℕ). Has st x r) (sym k.4) c.2 in
-        let v = shown.comes (packet_made ts places n z) (numbered n) good has (pre.comes n t z w k.1 k.3) in
+        let v = shown.comes (packet_made ts places n z) (transition_out n) good has (pre.comes n t z w k.1 k.3) in
         let to : n + 1 ≡ (entry es v.0).out.target = ap (λ (r : Out). r.target) (sym v.3) in
         (v.0, v.2, (n, k.1.0, sym to, k.2, has_on st s1 (out_at ts (place_at places n)).packets z g (given (place_at places n).0 at.0 (place_at places n).1 at.1).packets.id k.3, v.4))
 

@@ -12,13 +12,13 @@ use Rattle.nk_backward.specs.Transitions.{transitions_at, IsLed, LeadsInto}
 use Rattle.nk_backward.specs.Predecessors.{place_at, LeavesFrom, packet_made}
 
 -- the transition that an out stands for leads from the packet z under the set i to a packet of the out
-abbrev pub IsTaken : StoreState → List Transitions → List (ℕ × ℕ) → Given → ℕ → List ℕ → Type 0
-IsTaken st ts places q i z =
+abbrev pub IsTakenOut : StoreState → List Transitions → List (ℕ × ℕ) → Given → ℕ → List ℕ → Type 0
+IsTakenOut st ts places q i z =
     (n : ℕ) × (n < length places) × (q.out.target ≡ n + 1) × ((transitions_at ts (place_at places n).0).source ≡ i) × LeavesFrom st ts places n z × (is_in st q.packets (packet_made ts places n z) ≡ true)
 
 -- the same of one of the first k outs
 abbrev pub IsTakenBelow : StoreState → List Transitions → List (ℕ × ℕ) → List Given → ℕ → ℕ → List ℕ → Type 0
-IsTakenBelow st ts places es k i z = (j : ℕ) × (j < k) × IsTaken st ts places (entry es j) i z
+IsTakenBelow st ts places es k i z = (j : ℕ) × (j < k) × IsTakenOut st ts places (entry es j) i z
 
 -- a transition leads from the packet z under the set i to a packet of x under the set t
 abbrev pub LeadsToSet : StoreState → List Transitions → ℕ → ℕ → ℕ → List ℕ → Type 0

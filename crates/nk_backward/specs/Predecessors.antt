@@ -24,8 +24,8 @@ abbrev pub place_at : List (ℕ × ℕ) → ℕ → ℕ × ℕ
 place_at places n = slice_index_or places n (0, 0)
 
 -- the out that stands for the transition of a number
-abbrev pub numbered : ℕ → Out
-numbered n = sent_to [] (n + 1)
+abbrev pub transition_out : ℕ → Out
+transition_out n = sent_to [] (n + 1)
 
 -- the transition of this number, which leads into the set
 abbrev pub IsInto : List Transitions → List (ℕ × ℕ) → ℕ → ℕ → Type 0
@@ -62,15 +62,15 @@ FindDiagrams st into = (t d : ℕ) → lookup (eqb t) into ≡ Some d → IsId s
 -- a diagram for the n-th transition stands after the others, unless it is an end
 pub record IsMarked (st : StoreState) (q : Given) (n : ℕ) (old : List (ℕ × ℕ)) (new : StoreState) (all : List (ℕ × ℕ)) : Type 0 where
   pub ids : HaveDiagrams new all
-  pub from : (t : ℕ) (y : List ℕ) (o : Out) → IsStorePacket st y → ShowsBelow new all (length all) t y o → ShowsBelow st old (length old) t y o ⊎ ((o ≡ numbered n) × (q.out.target ≡ t + 1))
+  pub from : (t : ℕ) (y : List ℕ) (o : Out) → IsStorePacket st y → ShowsBelow new all (length all) t y o → ShowsBelow st old (length old) t y o ⊎ ((o ≡ transition_out n) × (q.out.target ≡ t + 1))
   pub kept : (t : ℕ) (y : List ℕ) (o : Out) → ShowsBelow st old (length old) t y o → ShowsBelow new all (length all) t y o
-  pub comes : (t : ℕ) (z : List ℕ) → IsStorePacket st z → q.out.target ≡ t + 1 → is_in st q.packets z ≡ true → ShowsBelow new all (length all) t (applied q.out.act z) (numbered n)
+  pub comes : (t : ℕ) (z : List ℕ) → IsStorePacket st z → q.out.target ≡ t + 1 → is_in st q.packets z ≡ true → ShowsBelow new all (length all) t (applied q.out.act z) (transition_out n)
 
 -- the diagrams have the first k transitions
 pub record AreMarked (st : StoreState) (ts : List Transitions) (places : List (ℕ × ℕ)) (k : ℕ) (new : StoreState) (ds : List (ℕ × ℕ)) : Type 0 where
   pub ids : HaveDiagrams new ds
-  pub goes : (t : ℕ) (y : List ℕ) (o : Out) → IsStorePacket st y → ShowsBelow new ds (length ds) t y o → (n : ℕ) × (o ≡ numbered n) × IsInto ts places n t
-  pub comes : (n t : ℕ) (z : List ℕ) → n < k → IsStorePacket st z → IsInto ts places n t → LeavesFrom st ts places n z → ShowsBelow new ds (length ds) t (packet_made ts places n z) (numbered n)
+  pub goes : (t : ℕ) (y : List ℕ) (o : Out) → IsStorePacket st y → ShowsBelow new ds (length ds) t y o → (n : ℕ) × (o ≡ transition_out n) × IsInto ts places n t
+  pub comes : (n t : ℕ) (z : List ℕ) → n < k → IsStorePacket st z → IsInto ts places n t → LeavesFrom st ts places n z → ShowsBelow new ds (length ds) t (packet_made ts places n z) (transition_out n)
 
 -- the diagrams at these places are of one set, and these are they
 pub record IsRunOfSet (ds : List (ℕ × ℕ)) (from to : ℕ) (all : List ℕ) : Type 0 where
@@ -104,8 +104,8 @@ pub record AreSetsJoined (st : StoreState) (ds : List (ℕ × ℕ)) (k : ℕ) (n
 pub record ArePredecessors (st : StoreState) (ts : List Transitions) (places into : List (ℕ × ℕ)) : Type 0 where
   pub places_are : ArePlacesBelow ts (length ts) places
   pub ids : FindDiagrams st into
-  pub goes : (t : ℕ) (y : List ℕ) (o : Out) → IsStorePacket st y → Shows st into t y o → (n : ℕ) × (o ≡ numbered n) × IsInto ts places n t
-  pub comes : (n t : ℕ) (z : List ℕ) → IsStorePacket st z → IsInto ts places n t → LeavesFrom st ts places n z → Shows st into t (packet_made ts places n z) (numbered n)
+  pub goes : (t : ℕ) (y : List ℕ) (o : Out) → IsStorePacket st y → Shows st into t y o → (n : ℕ) × (o ≡ transition_out n) × IsInto ts places n t
+  pub comes : (n t : ℕ) (z : List ℕ) → IsStorePacket st z → IsInto ts places n t → LeavesFrom st ts places n z → Shows st into t (packet_made ts places n z) (transition_out n)
 
 -- what the set's diagram has at the packets of x
 pub record AreShownAt (st : StoreState) (into : List (ℕ × ℕ)) (t x : ℕ) (new : StoreState) (es : List Given) : Type 0 where

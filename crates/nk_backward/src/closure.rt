@@ -8,7 +8,7 @@ ghost use Rattle.nk_outs.specs.Outs.{AreGiven};
 ghost use Rattle.nk_goal.specs.Entries.{HaveSets};
 ghost use Rattle.nk_backward.specs.Transitions.{AreAllGiven};
 ghost use Rattle.nk_backward.specs.Predecessors.{ArePlacesBelow, ArePredecessors};
-ghost use Rattle.nk_backward.specs.Closures.{IsTaken, IsTakenBelow, LeadsToSet, IsLedInto, IsGained, IsClosure, IsWholeFrontier};
+ghost use Rattle.nk_backward.specs.Closures.{IsTakenOut, IsTakenBelow, LeadsToSet, IsLedInto, IsGained, IsClosure, IsWholeFrontier};
 
 use crate::predecessors::{Predecessors, outs_into, place_of, predecessors_of};
 use crate::transitions::Transitions;
@@ -164,7 +164,7 @@ fn take_out(
     requires next { HaveSets st.old next.old.entries }
     requires next_once { Once next.old.entries }
     ensures grows { Grows st.old st.new }
-    ensures ok { OnOk result (IsGained st.old (IsTaken st.old ts.now places.now q.now) back.old.entries next.old.entries st.new back.new.entries next.new.entries) }
+    ensures ok { OnOk result (IsGained st.old (IsTakenOut st.old ts.now places.now q.now) back.old.entries next.old.entries st.new back.new.entries next.new.entries) }
 {
     let Some(place) = place_of(places, q.out.target) else {
         return Ok(());

@@ -5,7 +5,7 @@ ghost use Rattle.nk_store.specs.StoreState.{IsId, Grows, HasLeaves};
 ghost use Rattle.nk_sets.specs.PacketSets.{IsSet};
 ghost use Rattle.nk_outs.specs.Outs.{IsGiven};
 ghost use Rattle.nk_backward.specs.Transitions.{AreAllGiven};
-ghost use Rattle.nk_backward.specs.Predecessors.{ArePlacesBelow, place_at, numbered, diagram_at, HaveDiagrams, FindDiagrams, IsMarked, AreMarked, IsRunOfSet, IsWithFound, IsSetJoined, AreSetsJoined, ArePredecessors, AreShownAt};
+ghost use Rattle.nk_backward.specs.Predecessors.{ArePlacesBelow, place_at, transition_out, diagram_at, HaveDiagrams, FindDiagrams, IsMarked, AreMarked, IsRunOfSet, IsWithFound, IsSetJoined, AreSetsJoined, ArePredecessors, AreShownAt};
 
 use crate::transitions::Transitions;
 use nk_apply::{union, union_all};
@@ -116,7 +116,7 @@ fn push_marked(
 fn marked(st: &mut Store, n: usize) -> Result<Id, AllocError>
     requires { n + 1 < 2 ^ 64 }
     ensures grows { Grows st.old st.new }
-    ensures ok { IfOk result (λ d. HasLeaves st.new d (λ pk. numbered n ∷ [])) }
+    ensures ok { IfOk result (λ d. HasLeaves st.new d (λ pk. transition_out n ∷ [])) }
 {
     let alloc = st.alloc();
     let mut outs = List::with_capacity(alloc, 1)?;

@@ -11,7 +11,7 @@ use Rattle.nk_reply.specs.Meant.{IsCauseBy, IsFixedByInput, IsReadWhere}
 use Rattle.nk_reply.specs.Sent.{Delivers, IsSentWhole}
 use Rattle.nk_reply.specs.Use.{FailedAt, HadLeft, HasRisen, IsQuiet, IsUntouched, Took, Use}
 use Rattle.nk_change_impact.specs.Impact.{IsImpactAnswer}
-use Rattle.nk_change_impact.specs.Ends.{Names, names_in, Ends, IsImpactFixedBy, IsImpactMeantTo, Answers, IsUsage, IsCaused, IsComplete, TellsUsage}
+use Rattle.nk_change_impact.specs.Ends.{Names, names_in, Ends, IsImpactFixedBy, IsImpactMeantTo, AnswersImpact, IsUsage, IsCaused, IsComplete, TellsUsage}
 
 -- what was read for an outcome is all that was left
 read_to_end : (source : Use) (outcome : Outcome) → IsReadWhere true source (answer_of outcome).status → IsAtEnd source.new
@@ -24,7 +24,7 @@ module _ (words : List (List ℕ)) (source out err : Use) where
   module _ (names : Names) (given : names_in words ≡ Some names) where
     answers : (kind : List ℕ → Outcome) (bytes text : List ℕ) → HadLeft source bytes → length bytes ≤ limit → IsAtEnd source.new
         → IsQuiet source → IsImpactAnswer names.0 names.1 bytes (kind text) → IsSentWhole (answer_of (kind text)) out err
-        → Answers words source out err kind
+        → AnswersImpact words source out err kind
     answers kind bytes text left fits end quiet o sent = record {
       names = names;
       bytes = bytes;

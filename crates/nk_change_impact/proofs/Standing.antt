@@ -13,7 +13,7 @@ use Rattle.nk_reply.specs.declared.status.Status.TheVariants.{Done, Differs, Tex
 use Rattle.nk_reply.specs.Answer.{answer_of}
 use Rattle.nk_reply.specs.Outcome.{Outcome, done, differs, text_refused, policy_refused}
 use Rattle.nk_change_impact.specs.Impact.{IsImpactAnswer}
-use Rattle.nk_change_impact.specs.Succeeding.{HavePolicies, LackPolicy, StandsFor}
+use Rattle.nk_change_impact.specs.Succeeding.{HaveBothPolicies, LackPolicy, StandsFor}
 use Rattle.nk_change_impact.proofs.Texts.{declares_once, no_fault, policies_alike}
 
 some_none : {X : Type 0} (x : X) → ◌≡◌ {A = Option X} None (Some x) → ⊥
@@ -21,10 +21,10 @@ some_none x e = cc
 
 module _ (left right bytes : List ℕ) where
   abbrev Same : Type 0
-  Same = HavePolicies left right bytes AreSame
+  Same = HaveBothPolicies left right bytes AreSame
 
   abbrev Other : Type 0
-  Other = HavePolicies left right bytes (λ fields p q. ¬ AreSame fields p q)
+  Other = HaveBothPolicies left right bytes (λ fields p q. ¬ AreSame fields p q)
 
   -- an answer shows what its status stands for
   pub stands : (o : Outcome) → IsImpactAnswer left right bytes o → StandsFor (answer_of o).status left right bytes
@@ -46,7 +46,7 @@ module _ (left right bytes : List ℕ) where
   not_both d x = x.holds (policies_alike bytes left right d.said x.said d.declared x.declared d.named x.named AreSame d.holds)
 
   -- two names have policies, or one of them has none
-  never_lacking : (P : FieldTable → Policy → Policy → Type 0) → HavePolicies left right bytes P → LackPolicy left right bytes → ⊥
+  never_lacking : (P : FieldTable → Policy → Policy → Type 0) → HaveBothPolicies left right bytes P → LackPolicy left right bytes → ⊥
   never_lacking P d l =
       ⊎_elim
       (λ n. some_none d.named.left_policy (sym n ∙ sym (named_alike d.named.program l.program same left) ∙ d.named.left_is))

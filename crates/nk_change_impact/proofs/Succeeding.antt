@@ -10,12 +10,12 @@ use Rattle.nk_reply.specs.Outcome.{Outcome}
 use Rattle.nk_reply.specs.Use.{Use}
 use Rattle.nk_change_impact.specs.Impact.{IsImpactAnswer}
 use Rattle.nk_change_impact.specs.Ends.{Names, Ends, IsImpactFixedBy}
-use Rattle.nk_change_impact.specs.Succeeding.{IsStatusOf, Succeeds}
+use Rattle.nk_change_impact.specs.Succeeding.{IsImpactStatus, Succeeds}
 use Rattle.nk_change_impact.proofs.Endings.{complete}
 use Rattle.nk_change_impact.proofs.Standing.{stands, one_standing}
 
 -- the status of an outcome is exact
-exact : (left right bytes : List ℕ) (o : Outcome) → IsImpactAnswer left right bytes o → IsStatusOf left right bytes (answer_of o).status
+exact : (left right bytes : List ℕ) (o : Outcome) → IsImpactAnswer left right bytes o → IsImpactStatus left right bytes (answer_of o).status
 exact left right bytes o h =
     let shown = stands left right bytes o h in
     record { stands = inr shown; comes = λ t k. inl (one_standing left right bytes (answer_of o).status t shown k) }
@@ -34,5 +34,5 @@ succeeds words source out err s ends names bytes given old fits read out_quiet e
   | inl none ↦ record { stands = inl none; comes = λ t k. inr none }
   | inr fixed ↦
       let o = outcome_of_bytes names source bytes fixed.answer old fits (subst (λ n. IsImpactFixedBy n source fixed.answer) given fixed.fixed) in
-      subst (IsStatusOf names.0 names.1 bytes) (sym (ap (λ (x : Answer). x.status) o.2) ∙ sym fixed.status) (exact names.0 names.1 bytes o.0 o.1)
+      subst (IsImpactStatus names.0 names.1 bytes) (sym (ap (λ (x : Answer). x.status) o.2) ∙ sym fixed.status) (exact names.0 names.1 bytes o.0 o.1)
 ]

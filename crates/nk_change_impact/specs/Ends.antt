@@ -55,7 +55,7 @@ pub record Ends (words : List (List ℕ)) (source out err : Use) (s : Status) : 
   pub delivered : Delivers answer out err s
 
 -- the words are two names, all of the input was read, within the limit, it has an answer of this kind, and it was sent
-pub record Answers (words : List (List ℕ)) (source out err : Use) (kind : List ℕ → Outcome)
+pub record AnswersImpact (words : List (List ℕ)) (source out err : Use) (kind : List ℕ → Outcome)
     : Type 0 where
   pub names : Names
   pub bytes : List ℕ
@@ -92,10 +92,10 @@ pub record IsWriteFault (words : List (List ℕ)) (source out err : Use) : Type 
 
 -- the cause of each status
 abbrev pub IsCaused : List (List ℕ) → Use → Use → Use → Status → Type 0
-IsCaused words source out err Done = Answers words source out err done
-IsCaused words source out err Differs = Answers words source out err differs
-IsCaused words source out err Text = Answers words source out err text_refused
-IsCaused words source out err Refused = Answers words source out err policy_refused
+IsCaused words source out err Done = AnswersImpact words source out err done
+IsCaused words source out err Differs = AnswersImpact words source out err differs
+IsCaused words source out err Text = AnswersImpact words source out err text_refused
+IsCaused words source out err Refused = AnswersImpact words source out err policy_refused
 IsCaused words source out err Usage = IsUsage words source out err
 IsCaused words source out err TooLong = IsTooLong words source out err
 IsCaused words source out err ReadFault = AreNames words × IsFailedRead source read_fault × IsSentWhole read_fault out err

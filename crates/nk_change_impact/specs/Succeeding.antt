@@ -15,7 +15,7 @@ use Rattle.nk_change_impact.specs.Ends.{Names, names_in}
 use Rattle.nk_change_impact.specs.Impact.{AreBothNamed}
 
 -- the bytes are a program's text, and it has policies of both names, of which this holds
-pub record HavePolicies (left right bytes : List ℕ) (Property : FieldTable → Policy → Policy → Type 0) : Type 0 where
+pub record HaveBothPolicies (left right bytes : List ℕ) (Property : FieldTable → Policy → Policy → Type 0) : Type 0 where
   pub said : DeclaredProgram
   pub declared : Declares bytes said
   pub named : AreBothNamed said left right
@@ -30,14 +30,14 @@ pub record LackPolicy (left right bytes : List ℕ) : Type 0 where
 -- What a status stands for over bytes within the limit: both policies give the same histories on every packet, or they don't; the
 -- bytes are no program's text; a name is no policy's. The other statuses have causes outside of the bytes.
 abbrev pub StandsFor : Status → List ℕ → List ℕ → List ℕ → Type 0
-StandsFor Done left right bytes = HavePolicies left right bytes AreSame
-StandsFor Differs left right bytes = HavePolicies left right bytes (λ fields p q. ¬ AreSame fields p q)
+StandsFor Done left right bytes = HaveBothPolicies left right bytes AreSame
+StandsFor Differs left right bytes = HaveBothPolicies left right bytes (λ fields p q. ¬ AreSame fields p q)
 StandsFor Text left right bytes = (line : List ℕ) × HasFault bytes line
 StandsFor Refused left right bytes = LackPolicy left right bytes
 StandsFor s left right bytes = ⊥
 
 -- the bytes are what the status stands for, and of bytes that a status stands for it is the one, but for want of memory
-pub record IsStatusOf (left right bytes : List ℕ) (s : Status) : Type 0 where
+pub record IsImpactStatus (left right bytes : List ℕ) (s : Status) : Type 0 where
   pub stands : (s ≡ NoMemory) ⊎ StandsFor s left right bytes
   pub comes : (t : Status) → StandsFor t left right bytes → (s ≡ t) ⊎ (s ≡ NoMemory)
 
@@ -45,4 +45,4 @@ pub record IsStatusOf (left right bytes : List ℕ) (s : Status) : Type 0 where
 abbrev pub Succeeds : List (List ℕ) → Use → Use → Use → Status → Type 0
 Succeeds words source out err s = (names : Names) (bytes : List ℕ)
     → names_in words ≡ Some names → source.old ≡ Some bytes → length bytes ≤ limit
-    → ¬ HasRisen source → ¬ HasRisen out → ¬ HasRisen err → IsStatusOf names.0 names.1 bytes s
+    → ¬ HasRisen source → ¬ HasRisen out → ¬ HasRisen err → IsImpactStatus names.0 names.1 bytes s

@@ -3,7 +3,7 @@ use Rattle.nk_store.proofs.Stores.{grows_same}
 use Rattle.nk_outs.proofs.Givens.{entry_at, given_at}
 use Rattle.nk_outs.specs.Outs.{AreGiven}
 use Rattle.nk_backward.specs.declared.transitions.Transitions.{Transitions}
-use Rattle.nk_backward.specs.Closures.{IsTaken}
+use Rattle.nk_backward.specs.Closures.{IsTakenOut}
 use Rattle.nk_backward.proofs.Tracing.{at_place}
 use Rattle.nk_backward.proofs.Gaining.{sets_on, gained_none}
 use Rattle.nk_backward.proofs.Taking.{taken_none, taken_one, place_within}
@@ -11,7 +11,7 @@ use Rattle.nk_backward.proofs.closure.take_out.Goals as goal
 
 pub returns-in_default-clause-ok : goal.returns-in_default-clause-ok
 returns-in_default-clause-ok c =
-    gained_none c.args.st.now c.args.st.now (IsTaken c.args.st.now c.args.ts.now c.args.places.now c.args.q.now) c.args.back.now.entries c.args.next.now.entries (grows_same c.args.st.now) c.requires.back c.requires.once c.requires.next c.requires.next_once
+    gained_none c.args.st.now c.args.st.now (IsTakenOut c.args.st.now c.args.ts.now c.args.places.now c.args.q.now) c.args.back.now.entries c.args.next.now.entries (grows_same c.args.st.now) c.requires.back c.requires.once c.requires.next c.requires.next_once
     (λ i z w m. absurd (taken_none c.args.st.now c.args.ts.now c.args.places.now c.args.q.now i z (c.place_of.ensures.none c.in_default.is) m))
 
 pub at-t-requires : goal.at-t-requires
