@@ -322,7 +322,7 @@ fn put_prefix(out: &mut Vec<u8>, form: Form, value: &[u8], length: &[u8]) -> Res
 
 /// Puts the number of a prefix with a length at the end in a form.
 #[tactic(auto, unfolding(crate::specs::Outward::measured_out))]
-fn put_measured(out: &mut Vec<u8>, form: Form, value: &[u8], length: &[u8]) -> Result<(), WordStop>
+fn put_measured(out: &mut Vec<u8>, form: Form, value: &[u8], length: &[u8]) -> Result<(), AllocError>
     ensures { OnOk result (out.new.items ≡ out.old.items ++ measured_out form value.now (number_within 48 length.now)) }
 {
     match number_within(48, length) {
