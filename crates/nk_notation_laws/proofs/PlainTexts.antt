@@ -20,13 +20,7 @@ use Rattle.nk_notation.proofs.Cuts.{IsWordFront, not_that}
 use Rattle.nk_notation.proofs.WrittenForms.{all_cons, and_false, decimal_all, decimal_passes, digit_other, is_other, last_after, no_dots, no_place, none_counted, not_coloned, not_dotted, passes_both, passes_run, un_not}
 use Rattle.nk_notation.proofs.WrittenHardware.{colon_counts, other_counts}
 use Rattle.nk_notation_laws.specs.Laws.{IsLeftByIn}
-<<<<<<< HEAD
-use Rattle.nk_notation_laws.specs.PlainLexemes.{ArePlain, EndsRun, ends, blank, ended, mark, named, number, interval, port, assigned, tested, prefixed, divided, equals, linked, is_separator, joins}
-||||||| 4c0e1cea
-use Rattle.nk_notation_laws.specs.PlainLexemes.{ArePlain, EndsRun, ends, blank, ended, mark, named, number, interval, port, assigned, tested, prefixed, divided, equals, linked, is_mark, joins}
-=======
 use Rattle.nk_notation_laws.specs.PlainLexemes.{ArePlain, EndsRun, ends, blank, ended, mark, named, number, interval, port, assigned, tested, prefixed, divided, equals, linked, makes_no_word, joins}
->>>>>>> 2d7bab736c7e56fa4816dec20e805e67fe33fd75
 use Rattle.nk_notation_laws.proofs.Places.{after_long, after_other, differ, equals_nameless, no_field, no_size}
 use Rattle.nk_notation_laws.proofs.ReadsWords.{Reads, reads_byte, reads_long, reads_nothing, reads_word}
 use Rattle.nk_notation_laws.proofs.RunsAgain.{all_two, decimal_run, decimal_still, is_nameless, number_nameless, number_slashed, range_still}
@@ -266,13 +260,7 @@ run_stops (word w ∷ xs) h = absurd h
 run_stops (numeral n ∷ xs) h = absurd h
 run_stops (sign s ∷ xs) h = sign_stops s (text_of xs) h
 
-<<<<<<< HEAD
-left_mark : (s : Sign) (rest : List ℕ) → is_separator s ≡ true → Left rest → Left (sign_bytes s ++ rest)
-||||||| 4c0e1cea
-left_mark : (s : Sign) (rest : List ℕ) → is_mark s ≡ true → Left rest → Left (sign_bytes s ++ rest)
-=======
 left_mark : (s : Sign) (rest : List ℕ) → makes_no_word s ≡ true → Left rest → Left (sign_bytes s ++ rest)
->>>>>>> 2d7bab736c7e56fa4816dec20e805e67fe33fd75
 left_mark plus rest h next = left_byte 43 rest refl refl next
 left_mark semicolon rest h next = left_byte 59 rest refl refl next
 left_mark star rest h next = left_byte 42 rest refl refl next

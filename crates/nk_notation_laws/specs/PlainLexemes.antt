@@ -12,25 +12,6 @@ joins dots = true
 joins s = false
 
 -- the symbols of which no word is made
-<<<<<<< HEAD
-abbrev pub is_separator : Sign → Bool
-is_separator equal = false
-is_separator fat_arrow = false
-is_separator becomes = false
-is_separator colon = false
-is_separator slash = false
-is_separator dots = false
-is_separator s = true
-||||||| 4c0e1cea
-abbrev pub is_mark : Sign → Bool
-is_mark equal = false
-is_mark fat_arrow = false
-is_mark becomes = false
-is_mark colon = false
-is_mark slash = false
-is_mark dots = false
-is_mark s = true
-=======
 abbrev pub makes_no_word : Sign → Bool
 makes_no_word equal = false
 makes_no_word fat_arrow = false
@@ -39,7 +20,6 @@ makes_no_word colon = false
 makes_no_word slash = false
 makes_no_word dots = false
 makes_no_word s = true
->>>>>>> 2d7bab736c7e56fa4816dec20e805e67fe33fd75
 
 -- a run of bytes ends before these lexemes
 abbrev pub EndsRun : List Lexeme → Type 0
@@ -56,13 +36,7 @@ pub data ArePlain : List Lexeme → Type 0 where
   ends : ArePlain []
   blank : (xs : List Lexeme) → ArePlain xs → ArePlain (space ∷ xs)
   ended : (xs : List Lexeme) → ArePlain xs → ArePlain (line_feed ∷ xs)
-<<<<<<< HEAD
-  mark : (s : Sign) (xs : List Lexeme) → is_separator s ≡ true → ArePlain xs → ArePlain (sign s ∷ xs)
-||||||| 4c0e1cea
-  mark : (s : Sign) (xs : List Lexeme) → is_mark s ≡ true → ArePlain xs → ArePlain (sign s ∷ xs)
-=======
   mark : (s : Sign) (xs : List Lexeme) → makes_no_word s ≡ true → ArePlain xs → ArePlain (sign s ∷ xs)
->>>>>>> 2d7bab736c7e56fa4816dec20e805e67fe33fd75
   named : (w : List ℕ) (xs : List Lexeme) → IsWord w → bytes_eq w (codes "field") ≡ false → EndsRun xs → ArePlain xs → ArePlain (word w ∷ xs)
   number : (n : ℕ) (xs : List Lexeme) → n ≤ largest → EndsRun xs → ArePlain xs → ArePlain (numeral n ∷ xs)
   interval : (a b : ℕ) (xs : List Lexeme) → a ≤ largest → b ≤ largest → EndsRun xs → ArePlain xs → ArePlain (numeral a ∷ sign dots ∷ numeral b ∷ xs)
