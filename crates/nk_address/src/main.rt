@@ -14,10 +14,8 @@ fn main(rt: HostRuntime) -> ExitCode {
     let mut err = StdSink::new(rt.stderr());
     let status = match given_words(&rt) {
         Ok(words) => translate_by_words(rt.alloc(), &words, &mut source, &mut out, &mut err),
-        Err(error) if error.kind() == ErrorKind::OutOfMemory => {
-            told(&mut err, b"no memory\n", Status::NoMemory)
-        }
-        Err(_) => told(&mut err, b"a word is not UTF-8\n", Status::Usage),
+        Err(error) if error.kind() == ErrorKind::OutOfMemory => no_memory(&mut err),
+        Err(_) => translate_by_words(rt.alloc(), &[], &mut source, &mut out, &mut err),
     };
     ExitCode::from(status.code())
 }
@@ -27,10 +25,10 @@ fn given_words(rt: &HostRuntime) -> io::Result<Vec<String>> {
     Ok(std::env::args(rt)?.skip(1).collect(rt.alloc())?)
 }
 
-/// Writes a line, and answers the status where all of it went out.
-fn told<K: Sink>(sink: &mut K, line: &[u8], status: Status) -> Status {
-    match write_all(sink, line) {
-        Ok(()) => status,
+/// Says that the words want more memory than there is, as `translate_by_words` says of all else that does.
+fn no_memory<E: Sink>(err: &mut E) -> Status {
+    match write_all(err, b"no memory\n") {
+        Ok(()) => Status::NoMemory,
         Err(_) => Status::WriteFault,
     }
 }

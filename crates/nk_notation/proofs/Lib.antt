@@ -1,5 +1,6 @@
 pub mod Addresses
 pub mod Cuts
+pub mod Endings
 pub mod Fields
 pub mod Kept
 pub mod Plain

@@ -9,7 +9,6 @@ use Rattle.std.specs.Prelude.{Some, None, Ok, Err}
 use Rattle.nk_io.specs.Faults.{AppendsProperPrefix, Rose, last_count}
 use Rattle.nk_io.specs.Piece.{GivesPiece, IsPieceCause}
 use Rattle.nk_io.specs.declared.by_piece.PieceError.TheVariants.{TooLong}
-use Rattle.nk_io.proofs.Pieces.{more_given}
 use Rattle.nk_io.specs.Reading.{IsAllOf}
 use Rattle.nk_reply.specs.Answer.{limit}
 use Rattle.nk_reply.specs.Use.{Use}
@@ -277,8 +276,11 @@ ends_too_long made left s0 s1 s2 o0 o1 n now before after fs0 fo0 fo1 into so ca
     let piece = cause.3 in
     let count : now ≡ min (length so.text + cause.2) last_count = subst (λ m. now ≡ min (m + cause.2) last_count) so.count piece.count in (
       record {
-        more = more_given s0 s1 s2 so.text into cause.2 limit piece.fits (grind (arith, count, cause.1)) so.read piece.bytes;
         text = so.text;
+        rest = take cause.2 into;
+        read = Consumes-trans s0 s1 s2 so.text (take cause.2 into) so.read piece.bytes;
+        past = subst (λ m. limit < m) (sym (length_of_piece so.text into cause.2 piece.fits)) (grind (arith, count, cause.1));
+        fits = so.fits;
         so_far = record { written = so.written; begins = begins_so_far made left so.text so.written so.all; taken = record { taken = so.taken; quiet = qo } };
       },
       cause.0 ∙ qs,

@@ -1,7 +1,6 @@
 -- What a run answers.
 use Rattle.std.specs.Prelude.{◌≡◌, ◌⊎◌, ℕ, List, codes, Option, Some, None, Ok, Err}
 use Rattle.std.specs.declared.result.Result.{Result}
-use Rattle.std.specs.Io.KnownBytes.{Keeps}
 use Rattle.nk_reply.specs.declared.status.Status.{Status}
 use Rattle.nk_reply.specs.declared.status.Status.TheVariants as status
 use Rattle.nk_reply.specs.Reply.{IsDelivered}
@@ -49,9 +48,10 @@ pub record IsTranslated (made : List ℕ → Translated) (source out err : Use) 
   pub ends : TranslationEnds made source out ending
   pub tells : Tells ending err s
 
--- nothing was read and nothing written to `out`; the words are those of no translation, or memory ran out at them
+-- Nothing was read and no read failed, and nothing was written to `out`. The words are those of no translation, or memory ran out at
+-- them.
 pub record IsUnasked (line : List ℕ) (meant : Status) (source out err : Use) (s : Status) : Type 0 where
-  pub unread : Keeps source.old source.new
+  pub unread : IsUntouched source
   pub untouched : IsUntouched out
   pub told : IsDelivered err line meant s
 

@@ -31,7 +31,7 @@ cut_text false (b ∷ bs) = if b == 35 then Note b ∷ cut_text true bs
     else if begins_word b then joined_to_word b (cut_text false bs)
     else Byte b ∷ cut_text false bs
 
--- how many bytes a word has at most; no form has as many
+-- How many bytes a word has at most. A form may have more, since a hexadecimal number may have zeros in front; then it isn't read as one.
 abbrev pub longest_word : ℕ
 longest_word = 64
 

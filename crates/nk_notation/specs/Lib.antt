@@ -1,4 +1,5 @@
 pub mod Answer
+pub mod Causes
 pub mod Cutting
 pub mod Inward
 pub mod Laws

@@ -1,8 +1,8 @@
 -- A text that is translated piece by piece: what was read and written, and why a run ends.
-use Rattle.std.specs.Prelude.{◌≡◌, ◌⊎◌, ◌≤◌, ℕ, List, ◌++◌, length, None, Ok, Err}
+use Rattle.std.specs.Prelude.{◌≡◌, ◌⊎◌, ◌<◌, ◌≤◌, ℕ, List, ◌++◌, length, None, Ok, Err}
 use Rattle.std.specs.declared.result.Result.{Result}
 use Rattle.std.specs.Io.KnownBytes.{Consumes, IsAtEnd}
-use Rattle.nk_io.specs.Reading.{GaveMore, IsAllOf}
+use Rattle.nk_io.specs.Reading.{IsAllOf}
 use Rattle.nk_reply.specs.Answer.{limit}
 use Rattle.nk_reply.specs.Use.{FailedAt, HasRisen, IsQuiet, IsUntouched, Took, Use}
 use Rattle.nk_number_forms.specs.declared.fault.Fault.{Fault}
@@ -63,10 +63,13 @@ pub record IsReadTo (made : List ℕ → Translated) (source out : Use) : Type 0
   pub fits : length text ≤ limit
   pub so_far : IsCutOff made out text
 
--- the same where more bytes came than an input may have
+-- the same where more bytes came than an input may have: those of the text within the limit, and then those that go past it
 pub record IsPastLimit (made : List ℕ → Translated) (source out : Use) : Type 0 where
-  pub more : GaveMore limit source.old source.new
   pub text : List ℕ
+  pub rest : List ℕ
+  pub read : Consumes source.old source.new (text ++ rest)
+  pub past : limit < length (text ++ rest)
+  pub fits : length text ≤ limit
   pub so_far : IsCutOff made out text
 
 -- why a run ends, and what was read and written

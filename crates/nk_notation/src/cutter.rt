@@ -5,7 +5,7 @@ ghost use Rattle.nk_notation.specs.Cutting.{count_taken, is_held, lexemes_left};
 ghost use Rattle.nk_notation.specs.Lexemes.{Byte, TextLexeme, Word, begins_word, is_run_byte, lexemes_of, longest_word};
 ghost use Rattle.nk_notation.specs.Translation.{TranslationGoesOn, nothing};
 
-use crate::Notation;
+use crate::notation::Notation;
 use nk_number_forms::{Stop, is_digit};
 use std::alloc::{AllocFailed, Global};
 

@@ -17,6 +17,5 @@ pub use laws::{
     addresses_are_read_back, lexemes_are_the_text, numbers_come_back, prefixes_are_read_back,
     ranges_are_read_back, texts_without_forms_stay, values_are_read_back,
 };
-pub use notation::Notation;
 pub use outward::Outward;
 pub use top::translate_by_words;

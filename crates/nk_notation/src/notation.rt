@@ -6,7 +6,7 @@ ghost use Rattle.nk_notation.specs.Translation.{TranslationGoesOn, nothing};
 use nk_number_forms::Stop;
 
 /// What translates the lexemes of a text, one after the other. What comes of them goes to the end of `out`.
-pub trait Notation {
+pub(crate) trait Notation {
     ghost use Rattle.std.specs.Prelude.{List};
     ghost use Rattle.nk_notation.specs.Lexemes.{TextLexeme};
     ghost use Rattle.nk_notation.specs.Translation.{Translated};

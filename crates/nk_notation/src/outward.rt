@@ -5,7 +5,7 @@ ghost use Rattle.nk_number_forms.specs.Forms.{address_block_size, has_ones_after
 ghost use Rattle.nk_number_forms.specs.Numbers.{number_within};
 ghost use Rattle.nk_notation.specs.Outward.{address_out, byte_out, ends_out, form_of, form_text, held, interval_out, is_block, largest_in_form, length_below, length_of, measured_out, named_form, named_spot, number_out, outward, prefix_out, range_out, spot_after, spot_beyond, value_out, word_out};
 
-use crate::Notation;
+use crate::notation::Notation;
 use crate::context::TextKind;
 use crate::inward::{is_tables, kind_after, kind_beyond};
 use nk_lex::LARGEST;

@@ -1,7 +1,9 @@
 //! The top call.
-ghost use Rattle.std.specs.Prelude.{◌≡◌, None, map, string_bytes};
+ghost use Rattle.std.specs.Prelude.{◌≡◌, ◌⊎◌, ◌<◌, None, codes, map, string_bytes};
+ghost use Rattle.nk_reply.specs.Reply.{IsDelivered};
 ghost use Rattle.nk_reply.specs.Use.{use_of};
 ghost use Rattle.nk_notation.specs.Answer.{AnswersTranslation, AnswersBy, IsTranslated, inward_text, outward_text};
+ghost use Rattle.nk_notation.specs.Causes.{IsCaused, TellsFaults, TellsUsage};
 ghost use Rattle.nk_notation.specs.Outward.{named_form};
 ghost use Rattle.nk_notation.specs.Words.{direction_in, direction_of};
 
@@ -16,7 +18,7 @@ use std::alloc::Global;
 
 /// Translates the text that the source has, as the words ask for: `in` writes the addresses of the text as numbers, and
 /// `out FIELD=KIND ..` the values of these fields as addresses. It reads piece by piece, and what comes of a piece is written
-/// before the next one is read. So where the run ends early, `out` has the front of the translated text: at a malformed word what
+/// before the next one is read; no clause says so. Where the run ends early, `out` has the front of the translated text: at a malformed word what
 /// stands before the word, and the word as it stood. Then a line on `err` says why. After a write that fails nothing more is written.
 pub fn translate_by_words<S: Source, O: Sink, E: Sink>(
     alloc: Global,
@@ -29,7 +31,40 @@ pub fn translate_by_words<S: Source, O: Sink, E: Sink>(
     ensures answers { AnswersTranslation (direction_of (map (λ w. string_bytes w) words.now))
         (use_of S.left S.faults source.old source.new)
         (use_of O.taken O.faults out.old out.new) (use_of E.taken E.faults err.old err.new) result }
+    // When each status comes.
+    ensures causes { IsCaused (direction_of (map (λ w. string_bytes w) words.now))
+        (use_of S.left S.faults source.old source.new)
+        (use_of O.taken O.faults out.old out.new) (use_of E.taken E.faults err.old err.new) result }
+    // A fault is told only where a call failed.
+    ensures faults { TellsFaults (use_of S.left S.faults source.old source.new)
+        (use_of O.taken O.faults out.old out.new) (use_of E.taken E.faults err.old err.new) result }
+    // A failed read is never taken for the end of the input, nor for want of memory: the run says so, or fails at saying so. The
+    // source's count of faults was below its last value.
+    ensures read_faults { S.faults source.old < S.faults source.new
+        → IsDelivered (use_of E.taken E.faults err.old err.new) (codes "read fault\n") Status.ReadFault result }
+    // A failed write is told by the status.
+    ensures write_faults { (O.faults out.old < O.faults out.new) ⊎ (E.faults err.old < E.faults err.new)
+        → result ≡ Status.WriteFault }
+    // The status `Usage` comes for words that ask for no translation, where the sink takes it and memory suffices, and for no others.
+    ensures usage { TellsUsage (direction_of (map (λ w. string_bytes w) words.now)) result }
     // No call was made on the source and on `out` where the words ask for no translation.
+    ensures unread { direction_of (map (λ w. string_bytes w) words.now) ≡ None → source.new ≡ source.old }
+    ensures unwritten { direction_of (map (λ w. string_bytes w) words.now) ≡ None → out.new ≡ out.old }
+{
+    translate_words(alloc, words, source, out, err)
+}
+
+/// The same. What else `translate_by_words` promises follows from how the run ends.
+fn translate_words<S: Source, O: Sink, E: Sink>(
+    alloc: Global,
+    words: &[String],
+    source: &mut S,
+    out: &mut O,
+    err: &mut E,
+) -> Status
+    ensures answers { AnswersTranslation (direction_of (map (λ w. string_bytes w) words.now))
+        (use_of S.left S.faults source.old source.new)
+        (use_of O.taken O.faults out.old out.new) (use_of E.taken E.faults err.old err.new) result }
     ensures unread { direction_of (map (λ w. string_bytes w) words.now) ≡ None → source.new ≡ source.old }
     ensures unwritten { direction_of (map (λ w. string_bytes w) words.now) ≡ None → out.new ≡ out.old }
 {

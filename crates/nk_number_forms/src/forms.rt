@@ -43,7 +43,7 @@ pub fn parted(byte: u8, text: &[u8]) -> (&[u8], &[u8])
     }
 }
 
-/// The number of the IPv4 address that the text writes.
+/// The number of the IPv4 address that the text writes, below 2^32; `None` where the text is no IPv4 address.
 #[tactic(auto, unfolding(crate::specs::Forms::address_of))]
 pub fn address_of(text: &[u8]) -> Option<u64>
     ensures value { result ≡ address_of text.now }

@@ -31,7 +31,7 @@ fn put_pairs(out: &mut Vec<u8>, first: u64, second: u64, third: u64) -> Result<(
     put_pair(out, third)
 }
 
-/// Puts a number at the end as a hardware address.
+/// Puts a number below 2^48 at the end as a hardware address. The only error is that memory ran out.
 pub fn put_hardware(out: &mut Vec<u8>, number: u64) -> Result<(), AllocError>
     requires { number ≤ largest }
     ensures { OnOk result (out.new.items ≡ out.old.items ++ hardware_text number) }
@@ -55,7 +55,8 @@ fn put_dotted(out: &mut Vec<u8>, first: u64, second: u64) -> Result<(), AllocErr
     put_number(out, second)
 }
 
-/// Puts a number at the end as an IPv4 address.
+/// Puts a number at the end as an IPv4 address. From 2^32 on its first part is above 255, so the text is no address. The only
+/// error is that memory ran out.
 pub fn put_address(out: &mut Vec<u8>, number: u64) -> Result<(), AllocError>
     ensures { OnOk result (out.new.items ≡ out.old.items ++ address_text number) }
 {
@@ -64,7 +65,7 @@ pub fn put_address(out: &mut Vec<u8>, number: u64) -> Result<(), AllocError>
     put_dotted(out, number / 256 % 256, number % 256)
 }
 
-/// Puts a number at the end in four hexadecimal digits.
+/// Puts a number below 2^16 at the end as `0x` and four hexadecimal digits. The only error is that memory ran out.
 pub fn put_hexadecimal(out: &mut Vec<u8>, number: u64) -> Result<(), AllocError>
     requires { number < 2 ^ 16 }
     ensures { OnOk result (out.new.items ≡ out.old.items ++ hexadecimal_text number) }
