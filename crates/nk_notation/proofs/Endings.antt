@@ -4,7 +4,7 @@ use Rattle.std.specs.Prelude.{Some, None, codes}
 use Rattle.nk_reply.specs.declared.status.Status.{Status}
 use Rattle.nk_reply.specs.declared.status.Status.TheVariants.{Done, Differs, Usage, Text, Refused, ReadFault, WriteFault, NoMemory, TooLong}
 use Rattle.nk_reply.specs.Reply.{IsDelivered}
-use Rattle.nk_reply.specs.Use.{HasRisen, IsUntouched, Took, Use}
+use Rattle.nk_reply.specs.Use.{IsUntouched, Took, Use}
 use Rattle.nk_number_forms.specs.Faults.{notation_fault_line}
 use Rattle.nk_notation.specs.Answer.{AnswersTranslation, Tells, address_usage, translation_by}
 use Rattle.nk_notation.specs.Causes.{IsCaused, IsLineMeant, TellsFaults, TellsUsage}

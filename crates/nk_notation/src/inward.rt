@@ -6,8 +6,8 @@ ghost use Rattle.nk_notation.specs.Inward.{after_byte, after_word, both_atoms, i
 ghost use Rattle.nk_number_forms.specs.Numbers.{number_within};
 ghost use Rattle.nk_notation.specs.Translation.{Puts};
 
-use crate::notation::Notation;
 use crate::context::TextKind;
+use crate::notation::Notation;
 use nk_number_forms::{
     Atom, Cause, Fault, Stop, WordStop, address_of, atom_of, block_size, colons, dropped, first_of,
     is_dotted, is_white, last_of, number_within, parted, place_of, place_of_dots, put, put_number,

@@ -5,9 +5,9 @@ ghost use Rattle.nk_number_forms.specs.Forms.{address_block_size, has_ones_after
 ghost use Rattle.nk_number_forms.specs.Numbers.{number_within};
 ghost use Rattle.nk_notation.specs.Outward.{address_out, byte_out, ends_out, form_of, form_text, held, interval_out, is_block, largest_in_form, length_below, length_of, measured_out, named_form, named_spot, number_out, outward, prefix_out, range_out, spot_after, spot_beyond, value_out, word_out};
 
-use crate::notation::Notation;
 use crate::context::TextKind;
 use crate::inward::{is_tables, kind_after, kind_beyond};
+use crate::notation::Notation;
 use nk_lex::LARGEST;
 use nk_number_forms::{
     Stop, block_size, dropped, first_of, last_of, number_within, parted, place_of, place_of_dots,
@@ -322,7 +322,12 @@ fn put_prefix(out: &mut Vec<u8>, form: Form, value: &[u8], length: &[u8]) -> Res
 
 /// Puts the number of a prefix with a length at the end in a form.
 #[tactic(auto, unfolding(crate::specs::Outward::measured_out))]
-fn put_measured(out: &mut Vec<u8>, form: Form, value: &[u8], length: &[u8]) -> Result<(), AllocError>
+fn put_measured(
+    out: &mut Vec<u8>,
+    form: Form,
+    value: &[u8],
+    length: &[u8],
+) -> Result<(), AllocError>
     ensures { OnOk result (out.new.items ≡ out.old.items ++ measured_out form value.now (number_within 48 length.now)) }
 {
     match number_within(48, length) {

@@ -6,8 +6,8 @@ ghost use Rattle.nk_notation.specs.Run.{TranslationEnds, Finishes, AreBytesSent,
 ghost use Rattle.nk_notation.specs.Translation.{TranslationGoesOn};
 ghost use Rattle.nk_reply.specs.Use.{use_of};
 
-use crate::notation::Notation;
 use crate::cutter::Cutter;
+use crate::notation::Notation;
 use nk_io::{PieceError, Sink, Source, Taken, WriteFault, next_piece, write_all};
 use nk_number_forms::{Fault, Stop};
 use std::alloc::Global;
