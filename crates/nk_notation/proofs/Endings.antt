@@ -7,7 +7,7 @@ use Rattle.nk_reply.specs.Reply.{IsDelivered}
 use Rattle.nk_reply.specs.Use.{IsUntouched, Took, Use}
 use Rattle.nk_number_forms.specs.Faults.{notation_fault_line}
 use Rattle.nk_notation.specs.Answer.{AnswersTranslation, Tells, address_usage, translation_by}
-use Rattle.nk_notation.specs.Causes.{IsCaused, IsLineMeant, TellsFaults, TellsUsage}
+use Rattle.nk_notation.specs.Causes.{IsCaused, IsLineMeant, TellsFailedCalls, TellsWrongWords}
 use Rattle.nk_notation.specs.Run.{TranslationEnds}
 use Rattle.nk_notation.specs.Translation.{Translated}
 use Rattle.nk_notation.specs.Words.{Direction}
@@ -48,7 +48,7 @@ caused (Some d) source out err s (inl a) = ending_caused (Some d) source out err
 caused asked source out err s (inr u) = line_caused asked source out err NoMemory s (codes "no memory\n") (inr (u.unread, u.untouched), refl) u.told
 
 -- a fault is told only where a call failed
-pub tells_faults : (asked : Option Direction) (source out err : Use) (s : Status) → AnswersTranslation asked source out err s → TellsFaults source out err s
+pub tells_faults : (asked : Option Direction) (source out err : Use) (s : Status) → AnswersTranslation asked source out err s → TellsFailedCalls source out err s
 tells_faults asked source out err s h = (
   λ quiet e. quiet ((subst (λ x. IsCaused asked source out err x) e (caused asked source out err s h)).1.1),
   λ out_quiet err_quiet e. elim (subst (λ x. IsCaused asked source out err x) e (caused asked source out err s h)) [
@@ -68,7 +68,7 @@ unasked source out err s (inr u) = elim u.told [
   | inr f ↦ inr (inl f.0)
 ]
 
-pub tells_usage : (asked : Option Direction) (source out err : Use) (s : Status) → AnswersTranslation asked source out err s → TellsUsage asked s
+pub tells_usage : (asked : Option Direction) (source out err : Use) (s : Status) → AnswersTranslation asked source out err s → TellsWrongWords asked s
 tells_usage asked source out err s h = (
   λ e. (subst (λ x. IsCaused asked source out err x) e (caused asked source out err s h)).1.0,
   λ none. unasked source out err s (subst (λ d. AnswersTranslation d source out err s) none h),

@@ -37,10 +37,10 @@ IsCaused asked source out err WriteFault =
 IsCaused asked source out err s = (line : List ℕ) × IsLineMeant asked source out s line × Took err line
 
 -- a fault is told only where a call failed
-abbrev pub TellsFaults : (source out err : Use) → Status → Type 0
-TellsFaults source out err s =
+abbrev pub TellsFailedCalls : (source out err : Use) → Status → Type 0
+TellsFailedCalls source out err s =
     (¬ HasRisen source → ¬ (s ≡ ReadFault)) × (¬ HasRisen out → ¬ HasRisen err → ¬ (s ≡ WriteFault))
 
 -- words that ask for no translation are said to be so, unless the sink fails or memory runs out, and no others are
-abbrev pub TellsUsage : Option Direction → Status → Type 0
-TellsUsage asked s = (s ≡ Usage → asked ≡ None) × (asked ≡ None → (s ≡ Usage) ⊎ ((s ≡ WriteFault) ⊎ (s ≡ NoMemory)))
+abbrev pub TellsWrongWords : Option Direction → Status → Type 0
+TellsWrongWords asked s = (s ≡ Usage → asked ≡ None) × (asked ≡ None → (s ≡ Usage) ⊎ ((s ≡ WriteFault) ⊎ (s ≡ NoMemory)))

@@ -3,7 +3,7 @@ ghost use Rattle.std.specs.Prelude.{◌≡◌, ◌⊎◌, ◌<◌, None, codes, 
 ghost use Rattle.nk_reply.specs.Reply.{IsDelivered};
 ghost use Rattle.nk_reply.specs.Use.{use_of};
 ghost use Rattle.nk_notation.specs.Answer.{AnswersTranslation, AnswersBy, IsTranslated, inward_text, outward_text};
-ghost use Rattle.nk_notation.specs.Causes.{IsCaused, TellsFaults, TellsUsage};
+ghost use Rattle.nk_notation.specs.Causes.{IsCaused, TellsFailedCalls, TellsWrongWords};
 ghost use Rattle.nk_notation.specs.Outward.{named_form};
 ghost use Rattle.nk_notation.specs.Words.{direction_in, direction_of};
 
@@ -36,7 +36,7 @@ pub fn translate_by_words<S: Source, O: Sink, E: Sink>(
         (use_of S.left S.faults source.old source.new)
         (use_of O.taken O.faults out.old out.new) (use_of E.taken E.faults err.old err.new) result }
     // A fault is told only where a call failed.
-    ensures faults { TellsFaults (use_of S.left S.faults source.old source.new)
+    ensures faults { TellsFailedCalls (use_of S.left S.faults source.old source.new)
         (use_of O.taken O.faults out.old out.new) (use_of E.taken E.faults err.old err.new) result }
     // A failed read is never taken for the end of the input, nor for want of memory: the run says so, or fails at saying so. The
     // source's count of faults was below its last value.
@@ -46,7 +46,7 @@ pub fn translate_by_words<S: Source, O: Sink, E: Sink>(
     ensures write_faults { (O.faults out.old < O.faults out.new) ⊎ (E.faults err.old < E.faults err.new)
         → result ≡ Status.WriteFault }
     // The status `Usage` comes for words that ask for no translation, where the sink takes it and memory suffices, and for no others.
-    ensures usage { TellsUsage (direction_of (map (λ w. string_bytes w) words.now)) result }
+    ensures usage { TellsWrongWords (direction_of (map (λ w. string_bytes w) words.now)) result }
     // No call was made on the source and on `out` where the words ask for no translation.
     ensures unread { direction_of (map (λ w. string_bytes w) words.now) ≡ None → source.new ≡ source.old }
     ensures unwritten { direction_of (map (λ w. string_bytes w) words.now) ≡ None → out.new ≡ out.old }
