@@ -8,7 +8,7 @@ use Rattle.nk_determ.specs.Pairs.{Under, Once}
 use Rattle.nk_goal.specs.Entries.{HaveSets, IsAdded, IsRest}
 use Rattle.nk_outs.proofs.Kept.{Has, packet_on, packet_back, has_on, has_back}
 use Rattle.nk_goal.proofs.Growing.{each_weaker, under_on, under_back}
-use Rattle.nk_backward.specs.Closures.{IsGained}
+use Rattle.nk_backward.specs.Closures.{AreFound, IsGained}
 use Rattle.nk_backward.proofs.Listing.{under_or_not}
 
 -- entries have sets of packets as the store grows
@@ -96,6 +96,40 @@ pub gained_before : (a st new : StoreState) (One Two : ℕ → List ℕ → Type
     ((i : ℕ) (z : List ℕ) → IsStorePacket a z → One i z → Two i z) → ((i : ℕ) (z : List ℕ) → IsStorePacket a z → Two i z → One i z) → IsGained a Two old before new all next
 gained_before a st new One Two old before all next g sets once before_sets before_once m on back =
     gained_then a st new (λ i z. ⊥) One Two old before old before all next g (gained_none a st (λ i z. ⊥) old before g sets once before_sets before_once (λ i z w c. absurd c)) m (λ i z w c. inr (back i z w c)) (λ i z w c. absurd c) on
+
+-- nothing was found while the store grew
+pub found_nothing : (a st : StoreState) (Comes : ℕ → List ℕ → Type 0) (before : List (ℕ × ℕ)) → Grows a st → HaveSets a before → ((i : ℕ) (z : List ℕ) → IsStorePacket a z → Comes i z → Under a before i z) → AreFound a Comes before st before
+found_nothing a st Comes before g sets known = record {
+  from = λ i z w u. inl (under_back a st before i z g sets u);
+  kept = λ i z w u. under_on a st before i z g sets u;
+  every = λ i z w c. under_on a st before i z g sets (known i z w c);
+  packets = sets_on a st before g sets;
+}
+
+-- what was found, and then more
+pub found_then : (a st new : StoreState) (One Two Both : ℕ → List ℕ → Type 0) (before mid all : List (ℕ × ℕ)) → Grows a st → AreFound a One before st mid → AreFound st Two mid new all →
+    ((i : ℕ) (z : List ℕ) → IsStorePacket a z → Both i z → One i z ⊎ Two i z) → ((i : ℕ) (z : List ℕ) → IsStorePacket a z → One i z → Both i z) → ((i : ℕ) (z : List ℕ) → IsStorePacket a z → Two i z → Both i z) → AreFound a Both before new all
+found_then a st new One Two Both before mid all g first second parts left right = record {
+  from = λ i z w u. elim (second.from i z (on z w) u) [
+    | inl was ↦ elim (first.from i z w was) [ inl x ↦ inl x | inr c ↦ inr (left i z w c) ]
+    | inr c ↦ inr (right i z w c)
+  ];
+  kept = λ i z w u. second.kept i z (on z w) (first.kept i z w u);
+  every = λ i z w c. elim (parts i z w c) [
+    | inl one ↦ second.kept i z (on z w) (first.every i z w one)
+    | inr two ↦ second.every i z (on z w) two
+  ];
+  packets = second.packets;
+}
+  where
+    on : (z : List ℕ) → IsStorePacket a z → IsStorePacket st z
+    on z w = packet_on a st z g w
+
+-- the same of a store before, in which the list stood already, in other words
+pub found_before : (a st new : StoreState) (One Two : ℕ → List ℕ → Type 0) (before all : List (ℕ × ℕ)) → Grows a st → HaveSets a before → AreFound st One before new all →
+    ((i : ℕ) (z : List ℕ) → IsStorePacket a z → One i z → Two i z) → ((i : ℕ) (z : List ℕ) → IsStorePacket a z → Two i z → One i z) → AreFound a Two before new all
+found_before a st new One Two before all g sets m on back =
+    found_then a st new (λ i z. ⊥) One Two before before all g (found_nothing a st (λ i z. ⊥) before g sets (λ i z w c. absurd c)) m (λ i z w c. inr (back i z w c)) (λ i z w c. absurd c) on
 
 -- packets that stand under the set already
 pub put_none : (st new : StoreState) (s y rest : ℕ) (back next : List (ℕ × ℕ)) → Grows st new → HaveSets st back → Once back → HaveSets st next → Once next → IsRest st back s y new rest → ((pk : List ℕ) → IsWhole pk → is_in new rest pk ≡ false) →

@@ -4,6 +4,7 @@ pub mod Gaining
 pub mod Marking
 pub mod Joining
 pub mod Preceding
+pub mod Putting
 pub mod Taking
 pub mod Missing
 pub mod Sided

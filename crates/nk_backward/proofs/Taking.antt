@@ -13,17 +13,17 @@ use Rattle.nk_outs.specs.Outs.{entry, AreGiven}
 use Rattle.nk_goal.specs.Entries.{HaveSets, IsMerged}
 use Rattle.nk_outs.proofs.Kept.{Has, packet_on, packet_back, has_on, has_back}
 use Rattle.nk_goal.proofs.Growing.{under_on, under_back}
-use Rattle.nk_goal.proofs.Adding.{under_append, under_left, under_right}
+use Rattle.nk_goal.proofs.Adding.{under_append, under_left, under_right, each_append}
 use Rattle.nk_steps.proofs.Locals.{acts_in_range}
 use Rattle.nk_backward.specs.declared.transitions.Transitions.{Transitions}
 use Rattle.nk_backward.specs.Transitions.{transitions_at, AreAllGiven, IsLed, LeadsInto}
 use Rattle.nk_backward.specs.Predecessors.{out_at, ArePlacesBelow, place_at, transition_out, IsInto, LeavesFrom, packet_made, ArePredecessors, AreShownAt}
-use Rattle.nk_backward.specs.Closures.{IsTakenOut, IsTakenBelow, LeadsToSet, IsLedInto, IsGained, IsClosure, IsWholeFrontier}
+use Rattle.nk_backward.specs.Closures.{IsTakenOut, IsTakenBelow, LeadsToSet, IsLedInto, AreFound, IsGained, IsClosure, IsWholeFrontier}
 use Rattle.nk_backward.proofs.Listing.{under_or_not}
 use Rattle.nk_backward.proofs.Tracing.{led_in_range, led_on, led_back}
 use Rattle.nk_backward.proofs.Marking.{place_is}
 use Rattle.nk_backward.proofs.Preceding.{made_in_range, led_by, number_led}
-use Rattle.nk_backward.proofs.Gaining.{sets_on, gained_then, gained_before}
+use Rattle.nk_backward.proofs.Gaining.{sets_on, found_then, found_before}
 
 -- what an out that stands for no transition takes back
 pub taken_none : (st : StoreState) (ts : List Transitions) (places : List (ℕ × ℕ)) (q : Given) (i : ℕ) (z : List ℕ) → ((n : ℕ) → n < length places → q.out.target ≡ n + 1 → ⊥) → IsTakenOut st ts places q i z → ⊥
@@ -34,11 +34,21 @@ pub place_within : (ts : List Transitions) (places : List (ℕ × ℕ)) (q : Giv
 place_within ts places q p are k = subst (λ (r : ℕ × ℕ). (r.0 < length ts) × (r.1 < length (transitions_at ts r.0).outs)) (sym k.3) (place_is ts places k.0 are k.1)
 
 -- the packets of an out taken back along its transition
-pub taken_one : (st s1 new : StoreState) (ts : List Transitions) (places : List (ℕ × ℕ)) (q : Given) (p : ℕ × ℕ) (t : Transitions) (o : Given) (led : ℕ) (back next all more : List (ℕ × ℕ)) → Grows st s1 → HaveSets st back → Once back → HaveSets st next → Once next →
+pub taken_one : (st s1 : StoreState) (ts : List Transitions) (places : List (ℕ × ℕ)) (q : Given) (p : ℕ × ℕ) (t : Transitions) (o : Given) (led : ℕ) (found more : List (ℕ × ℕ)) → Grows st s1 → HaveSets st found →
     (n : ℕ) × (n < length places) × (q.out.target ≡ n + 1) × (p ≡ place_at places n) → t ≡ transitions_at ts p.0 → o ≡ entry t.outs p.1 → IsPacketSetOf s1 led (λ pk. is_in st q.packets (applied o.out.act pk) && is_in st o.packets pk) →
-    IsGained s1 (λ i z. (i ≡ t.source) × (is_in s1 led z ≡ true)) back next new all more → IsGained st (IsTakenOut st ts places q) back next new all more
-taken_one st s1 new ts places q p t o led back next all more g sets once next_sets next_once k is_t is_o is m =
-    gained_before st s1 new (λ i z. (i ≡ t.source) × (is_in s1 led z ≡ true)) (IsTakenOut st ts places q) back next all more g sets once next_sets next_once m on off
+    more ≡ found ++ (t.source, led) ∷ [] → AreFound st (IsTakenOut st ts places q) found s1 more
+taken_one st s1 ts places q p t o led found more g sets k is_t is_o is put = subst (AreFound st (IsTakenOut st ts places q) found s1) (sym put) (record {
+  from = λ i z w u. elim (under_append s1 found ((t.source, led) ∷ []) i z u) [
+    | inl was ↦ inl (under_back st s1 found i z g sets was)
+    | inr now ↦ elim now [
+      | inl here ↦ inr (on i z w (sym here.0, here.1))
+      | inr none ↦ absurd none
+    ]
+  ];
+  kept = λ i z w u. under_left s1 found ((t.source, led) ∷ []) i z (under_on st s1 found i z g sets u);
+  every = λ i z w c. let h = off i z w c in under_right s1 found ((t.source, led) ∷ []) i z (inl (sym h.0, h.1));
+  packets = each_append (λ r. IsSet s1 r.1) found ((t.source, led) ∷ []) (sets_on st s1 found g sets) (is.set, tt);
+})
   where
     n : ℕ
     n = k.0
@@ -65,10 +75,10 @@ taken_one st s1 new ts places q p t o led back next all more g sets once next_se
         )
 
 -- an out more
-pub taken_push : (a st new : StoreState) (ts : List Transitions) (places : List (ℕ × ℕ)) (es : List Given) (k : ℕ) (q : Given) (back next mid between all more : List (ℕ × ℕ)) → Grows a st → AreAllGiven a ts → ArePlacesBelow ts (length ts) places → AreGiven a es → k < length es → q ≡ entry es k →
-    IsGained a (IsTakenBelow a ts places es k) back next st mid between → IsGained st (IsTakenOut st ts places q) mid between new all more → IsGained a (IsTakenBelow a ts places es (k + 1)) back next new all more
-taken_push a st new ts places es k q back next mid between all more g given are outs l is first second =
-    gained_then a st new (IsTakenBelow a ts places es k) (IsTakenOut st ts places q) (IsTakenBelow a ts places es (k + 1)) back next mid between all more g first second parts (λ i z w c. (c.0, omega (arith, c.1), c.2)) right
+pub taken_push : (a st new : StoreState) (ts : List Transitions) (places : List (ℕ × ℕ)) (es : List Given) (k : ℕ) (q : Given) (found mid more : List (ℕ × ℕ)) → Grows a st → AreAllGiven a ts → ArePlacesBelow ts (length ts) places → AreGiven a es → k < length es → q ≡ entry es k →
+    AreFound a (IsTakenBelow a ts places es k) found st mid → AreFound st (IsTakenOut st ts places q) mid new more → AreFound a (IsTakenBelow a ts places es (k + 1)) found new more
+taken_push a st new ts places es k q found mid more g given are outs l is first second =
+    found_then a st new (IsTakenBelow a ts places es k) (IsTakenOut st ts places q) (IsTakenBelow a ts places es (k + 1)) found mid more g first second parts (λ i z w c. (c.0, omega (arith, c.1), c.2)) right
   where
     set : IsSet a q.packets
     set = subst (λ (e : Given). IsSet a e.packets) (sym is) (outs k l).packets
@@ -91,10 +101,10 @@ taken_push a st new ts places es k q back next mid between all more g given are 
         (k, omega arith, subst (λ (e : Given). IsTakenOut a ts places e i z) is back)
 
 -- all outs that stand for transitions into the set at the packets of x
-pub taken_all : (st s1 new : StoreState) (ts : List Transitions) (places into : List (ℕ × ℕ)) (t x : ℕ) (es : List Given) (back next all more : List (ℕ × ℕ)) → Grows st s1 → AreAllGiven st ts → HaveSets st back → Once back → HaveSets st next → Once next → ArePredecessors st ts places into → AreShownAt st into t x s1 es →
-    IsGained s1 (IsTakenBelow s1 ts places es (length es)) back next new all more → IsGained st (LeadsToSet st ts t x) back next new all more
-taken_all st s1 new ts places into t x es back next all more g given sets once next_sets next_once pre shown m =
-    gained_before st s1 new (IsTakenBelow s1 ts places es (length es)) (LeadsToSet st ts t x) back next all more g sets once next_sets next_once m on off
+pub taken_all : (st s1 new : StoreState) (ts : List Transitions) (places into : List (ℕ × ℕ)) (t x : ℕ) (es : List Given) (found more : List (ℕ × ℕ)) → Grows st s1 → AreAllGiven st ts → HaveSets st found → ArePredecessors st ts places into → AreShownAt st into t x s1 es →
+    AreFound s1 (IsTakenBelow s1 ts places es (length es)) found new more → AreFound st (LeadsToSet st ts t x) found new more
+taken_all st s1 new ts places into t x es found more g given sets pre shown m =
+    found_before st s1 new (IsTakenBelow s1 ts places es (length es)) (LeadsToSet st ts t x) found more g sets m on off
   where
     are : ArePlacesBelow ts (length ts) places
     are = pre.places_are
@@ -128,10 +138,10 @@ taken_all st s1 new ts places into t x es back next all more g given sets once n
         (v.0, v.2, (n, k.1.0, sym to, k.2, has_on st s1 (out_at ts (place_at places n)).packets z g (given (place_at places n).0 at.0 (place_at places n).1 at.1).packets.id k.3, v.4))
 
 -- an entry of the frontier more
-pub frontier_push : (a st new : StoreState) (ts : List Transitions) (done : List (ℕ × ℕ)) (p : ℕ × ℕ) (back next mid between all more : List (ℕ × ℕ)) → Grows a st → AreAllGiven a ts → IsSet a p.1 → IsGained a (IsLedInto a ts done) back next st mid between → IsGained st (LeadsToSet st ts p.0 p.1) mid between new all more →
-    IsGained a (IsLedInto a ts (done ++ p ∷ [])) back next new all more
-frontier_push a st new ts done p back next mid between all more g given set first second =
-    gained_then a st new (IsLedInto a ts done) (LeadsToSet st ts p.0 p.1) (IsLedInto a ts (done ++ p ∷ [])) back next mid between all more g first second parts
+pub frontier_push : (a st new : StoreState) (ts : List Transitions) (done : List (ℕ × ℕ)) (p : ℕ × ℕ) (found mid more : List (ℕ × ℕ)) → Grows a st → AreAllGiven a ts → IsSet a p.1 → AreFound a (IsLedInto a ts done) found st mid → AreFound st (LeadsToSet st ts p.0 p.1) mid new more →
+    AreFound a (IsLedInto a ts (done ++ p ∷ [])) found new more
+frontier_push a st new ts done p found mid more g given set first second =
+    found_then a st new (IsLedInto a ts done) (LeadsToSet st ts p.0 p.1) (IsLedInto a ts (done ++ p ∷ [])) found mid more g first second parts
     (λ i z w c. (c.0, c.1, c.2, under_left a done (p ∷ []) c.0 c.1 c.3)) right
   where
     parts : (i : ℕ) (z : List ℕ) → IsStorePacket a z → IsLedInto a ts (done ++ p ∷ []) i z → IsLedInto a ts done i z ⊎ LeadsToSet st ts p.0 p.1 i z

@@ -28,6 +28,13 @@ LeadsToSet st ts t x i z = (y : List ℕ) × IsLed st ts i z t y × (is_in st x 
 abbrev pub IsLedInto : StoreState → List Transitions → List (ℕ × ℕ) → ℕ → List ℕ → Type 0
 IsLedInto st ts frontier i z = (t : ℕ) × (y : List ℕ) × IsLed st ts i z t y × Under st frontier t y
 
+-- The list has what stood in it before and the packets that come, and no others; a set may stand in it more than once.
+pub record AreFound (st : StoreState) (Comes : ℕ → List ℕ → Type 0) (before : List (ℕ × ℕ)) (new : StoreState) (found : List (ℕ × ℕ)) : Type 0 where
+  pub from : (i : ℕ) (z : List ℕ) → IsStorePacket st z → Under new found i z → Under st before i z ⊎ Comes i z
+  pub kept : (i : ℕ) (z : List ℕ) → IsStorePacket st z → Under st before i z → Under new found i z
+  pub every : (i : ℕ) (z : List ℕ) → IsStorePacket st z → Comes i z → Under new found i z
+  pub packets : HaveSets new found
+
 -- All entries have what the old ones have and the packets that come; the next ones have what these had before and of the packets
 -- that come those that the old entries haven't. Where none of the latter came, the next ones are as they were.
 pub record IsGained (st : StoreState) (Comes : ℕ → List ℕ → Type 0) (old before : List (ℕ × ℕ)) (new : StoreState) (all next : List (ℕ × ℕ)) : Type 0 where

@@ -3,17 +3,19 @@ ghost use Rattle.std.specs.Prelude.{◌≡◌, ◌&&◌, [], true, IfOk, OnOk, l
 ghost use Rattle.nk_field.specs.Act.{applied};
 ghost use Rattle.nk_store.specs.StoreState.{Grows};
 ghost use Rattle.nk_sets.specs.PacketSets.{is_in, IsSet, IsPacketSetOf};
-ghost use Rattle.nk_determ.specs.Pairs.{Once};
+ghost use Rattle.nk_determ.specs.Pairs.{Under, Once};
 ghost use Rattle.nk_outs.specs.Outs.{AreGiven};
 ghost use Rattle.nk_goal.specs.Entries.{HaveSets};
 ghost use Rattle.nk_backward.specs.Transitions.{AreAllGiven};
 ghost use Rattle.nk_backward.specs.Predecessors.{ArePlacesBelow, ArePredecessors};
-ghost use Rattle.nk_backward.specs.Closures.{IsTakenOut, IsTakenBelow, LeadsToSet, IsLedInto, IsGained, IsClosure, IsWholeFrontier};
+ghost use Rattle.nk_backward.specs.Closures.{IsTakenOut, IsTakenBelow, LeadsToSet, IsLedInto, AreFound, IsGained, IsClosure, IsWholeFrontier};
 
-use crate::predecessors::{Predecessors, outs_into, place_of, predecessors_of};
+use crate::predecessors::{
+    Predecessors, in_order, outs_into, place_of, predecessors_of, run_of_set, set_at,
+};
 use crate::transitions::Transitions;
 use indexmap::IndexMap;
-use nk_apply::both;
+use nk_apply::{both, union_all};
 use nk_determ::SetId;
 use nk_field::List;
 use nk_goal::{Entries, add, add_level, unmet};
@@ -87,14 +89,32 @@ fn pass_back(
     ensures grows { Grows st.old st.new }
     ensures ok { IfOk result (λ next. IsGained st.old (IsLedInto st.old ts.now frontier.now) back.old.entries [] st.new back.new.entries next) }
 {
-    let mut next = IndexMap::new(st.alloc());
+    let found = led_into(st, ts, pre, frontier)?;
+    let ordered = in_order(found);
+    let next = put_all_new(st, ordered.as_slice(), back)?;
+    Ok(next)
+}
+
+/// The packets from where transitions lead into a frontier, by set; a set may stand more than once.
+fn led_into(
+    st: &mut Store,
+    ts: &List<Transitions>,
+    pre: &Predecessors,
+    frontier: &List<(SetId, Id)>,
+) -> Result<List<(SetId, Id)>, AllocError>
+    requires given { AreAllGiven st.old ts.now }
+    requires pre { ArePredecessors st.old ts.now pre.now.places pre.now.into.entries }
+    requires frontier { HaveSets st.old frontier.now }
+    ensures grows { Grows st.old st.new }
+    ensures ok { IfOk result (λ found. AreFound st.old (IsLedInto st.old ts.now frontier.now) [] st.new found) }
+{
+    let mut found = List::new(st.alloc());
     let count = frontier.len();
     for k in 0..count {
         let (t, x) = *frontier.at(k);
-        take_back(st, ts, pre, t, x, back, &mut next)?;
+        take_back(st, ts, pre, t, x, &mut found)?;
     }
-    let all = listed(st.alloc(), next)?;
-    Ok(all)
+    Ok(found)
 }
 
 /// Takes packets under a set back, along the transitions that make them.
@@ -104,21 +124,17 @@ fn take_back(
     pre: &Predecessors,
     t: SetId,
     x: Id,
-    back: &mut IndexMap<SetId, Id>,
-    next: &mut IndexMap<SetId, Id>,
+    found: &mut List<(SetId, Id)>,
 ) -> Result<(), AllocError>
     requires given { AreAllGiven st.old ts.now }
     requires pre { ArePredecessors st.old ts.now pre.now.places pre.now.into.entries }
     requires packets { IsSet st.old x }
-    requires back { HaveSets st.old back.old.entries }
-    requires once { Once back.old.entries }
-    requires next { HaveSets st.old next.old.entries }
-    requires next_once { Once next.old.entries }
+    requires found { HaveSets st.old found.old }
     ensures grows { Grows st.old st.new }
-    ensures ok { OnOk result (IsGained st.old (LeadsToSet st.old ts.now t x) back.old.entries next.old.entries st.new back.new.entries next.new.entries) }
+    ensures ok { OnOk result (AreFound st.old (LeadsToSet st.old ts.now t x) found.old st.new found.new) }
 {
     let outs = outs_into(st, pre, t, x)?;
-    take_outs(st, ts, &pre.places, &outs, back, next)?;
+    take_outs(st, ts, &pre.places, &outs, found)?;
     Ok(())
 }
 
@@ -128,21 +144,17 @@ fn take_outs(
     ts: &List<Transitions>,
     places: &List<(usize, usize)>,
     outs: &List<Given>,
-    back: &mut IndexMap<SetId, Id>,
-    next: &mut IndexMap<SetId, Id>,
+    found: &mut List<(SetId, Id)>,
 ) -> Result<(), AllocError>
     requires given { AreAllGiven st.old ts.now }
     requires places { ArePlacesBelow ts.now (length ts.now) places.now }
     requires outs { AreGiven st.old outs.now }
-    requires back { HaveSets st.old back.old.entries }
-    requires once { Once back.old.entries }
-    requires next { HaveSets st.old next.old.entries }
-    requires next_once { Once next.old.entries }
+    requires found { HaveSets st.old found.old }
     ensures grows { Grows st.old st.new }
-    ensures ok { OnOk result (IsGained st.old (IsTakenBelow st.old ts.now places.now outs.now (length outs.now)) back.old.entries next.old.entries st.new back.new.entries next.new.entries) }
+    ensures ok { OnOk result (AreFound st.old (IsTakenBelow st.old ts.now places.now outs.now (length outs.now)) found.old st.new found.new) }
 {
     for i in 0..outs.len() {
-        take_out(st, ts, places, outs.at(i), back, next)?;
+        take_out(st, ts, places, outs.at(i), found)?;
     }
     Ok(())
 }
@@ -153,18 +165,14 @@ fn take_out(
     ts: &List<Transitions>,
     places: &List<(usize, usize)>,
     q: &Given,
-    back: &mut IndexMap<SetId, Id>,
-    next: &mut IndexMap<SetId, Id>,
+    found: &mut List<(SetId, Id)>,
 ) -> Result<(), AllocError>
     requires given { AreAllGiven st.old ts.now }
     requires places { ArePlacesBelow ts.now (length ts.now) places.now }
     requires packets { IsSet st.old q.now.packets }
-    requires back { HaveSets st.old back.old.entries }
-    requires once { Once back.old.entries }
-    requires next { HaveSets st.old next.old.entries }
-    requires next_once { Once next.old.entries }
+    requires found { HaveSets st.old found.old }
     ensures grows { Grows st.old st.new }
-    ensures ok { OnOk result (IsGained st.old (IsTakenOut st.old ts.now places.now q.now) back.old.entries next.old.entries st.new back.new.entries next.new.entries) }
+    ensures ok { OnOk result (AreFound st.old (IsTakenOut st.old ts.now places.now q.now) found.old st.new found.new) }
 {
     let Some(place) = place_of(places, q.out.target) else {
         return Ok(());
@@ -172,7 +180,7 @@ fn take_out(
     let t = ts.at(place.0);
     let o = t.outs.at(place.1);
     let led = led_to(st, o, q.packets)?;
-    put_new(st, t.source, led, back, next)?;
+    found.push((t.source, led))?;
     Ok(())
 }
 
@@ -186,6 +194,31 @@ fn led_to(st: &mut Store, o: &Given, x: Id) -> Result<Id, AllocError>
     let before = preimage(st, &o.out.act, x)?;
     let led = both(st, before, o.packets)?;
     Ok(led)
+}
+
+/// Adds those of the found packets that don't stand under their sets yet. Those of one set that stand next to each other go in at
+/// once.
+fn put_all_new(
+    st: &mut Store,
+    found: &[(SetId, Id)],
+    back: &mut IndexMap<SetId, Id>,
+) -> Result<List<(SetId, Id)>, AllocError>
+    requires found { HaveSets st.old found.now }
+    requires back { HaveSets st.old back.old.entries }
+    requires once { Once back.old.entries }
+    ensures grows { Grows st.old st.new }
+    ensures ok { IfOk result (λ next. IsGained st.old (Under st.old found.now) back.old.entries [] st.new back.new.entries next) }
+{
+    let mut next = IndexMap::new(st.alloc());
+    let mut from = 0;
+    while from < found.len() {
+        let (to, run) = run_of_set(st.alloc(), found, from)?;
+        let y = union_all(st, run.as_slice())?;
+        put_new(st, set_at(found, from), y, back, &mut next)?;
+        from = to;
+    }
+    let all = listed(st.alloc(), next)?;
+    Ok(all)
 }
 
 /// Adds those of the packets that don't stand under a set yet, to all entries and to what came new.

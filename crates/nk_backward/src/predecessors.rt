@@ -128,7 +128,7 @@ fn marked(st: &mut Store, n: usize) -> Result<Id, AllocError>
 }
 
 /// Ordered by their sets.
-fn in_order(ds: List<(SetId, Id)>) -> List<(SetId, Id)>
+pub(crate) fn in_order(ds: List<(SetId, Id)>) -> List<(SetId, Id)>
     ensures { IsPermutation ds result }
 {
     let mut all = ds.into_vec();
@@ -154,7 +154,7 @@ fn joined_all(st: &mut Store, ds: &[(SetId, Id)]) -> Result<HashMap<SetId, Id>, 
 }
 
 /// The set at a place.
-fn set_at(ds: &[(SetId, Id)], k: usize) -> SetId
+pub(crate) fn set_at(ds: &[(SetId, Id)], k: usize) -> SetId
     requires { k < length ds.now }
     ensures { result ≡ (diagram_at ds.now k).0 }
 {
@@ -162,7 +162,7 @@ fn set_at(ds: &[(SetId, Id)], k: usize) -> SetId
 }
 
 /// The diagrams of one set that stand next to each other from a place on, and the place after them.
-fn run_of_set(
+pub(crate) fn run_of_set(
     alloc: Global,
     ds: &[(SetId, Id)],
     from: usize,

@@ -1,47 +1,20 @@
-use Rattle.std.proofs.Common.{◌<◌, [], length, take, sym, subst, arith}
-use Rattle.nk_store.proofs.Stores.{grows_on, grows_same}
-use Rattle.nk_sets.specs.PacketSets.{IsSet}
-use Rattle.nk_sets.proofs.SetLemmas.{set_grows}
-use Rattle.nk_goal.proofs.Places.{each_at}
-use Rattle.nk_goal.proofs.Adding.{take_more, take_whole}
+use Rattle.std.proofs.Common.{[], sym, subst}
+use Rattle.nk_determ.specs.Pairs.{Under}
+use Rattle.nk_goal.specs.Entries.{HaveSets}
 use Rattle.nk_backward.specs.Closures.{IsLedInto, IsGained}
-use Rattle.nk_backward.proofs.Tracing.{all_given_on}
-use Rattle.nk_backward.proofs.Gaining.{gained_none}
-use Rattle.nk_backward.proofs.Preceding.{predecessors_on}
-use Rattle.nk_backward.proofs.Taking.{frontier_push}
+use Rattle.nk_backward.proofs.Gaining.{sets_on}
+use Rattle.nk_backward.proofs.Putting.{sets_moved, found_gained}
 use Rattle.nk_backward.proofs.closure.pass_back.Goals as goal
 
-pub loop-k-init : goal.loop-k-init
-loop-k-init c = record {
-  grows = grows_same c.args.st.now;
-  gained = subst (λ ps. IsGained c.args.st.now (IsLedInto c.args.st.now c.args.ts.now []) c.args.back.now.entries [] c.args.st.now c.args.back.now.entries ps) (sym c.new-next.ensures.empty)
-      (gained_none c.args.st.now c.args.st.now (IsLedInto c.args.st.now c.args.ts.now []) c.args.back.now.entries [] (grows_same c.args.st.now) c.requires.back c.requires.once tt tt (λ i z w m. absurd m.3));
-}
+pub put_all_new-requires-clause-found : goal.put_all_new-requires-clause-found
+put_all_new-requires-clause-found c =
+    subst (HaveSets c.led_into.new.st) (sym c.as_slice.ensures) (sets_moved c.led_into.new.st c.in_ok-found.found c.in_order-ordered.result c.in_order-ordered.ensures c.in_ok-found.ensures.ok.packets)
 
-pub take_back-requires-clause-given : goal.take_back-requires-clause-given
-take_back-requires-clause-given c = all_given_on c.args.st.now c.loop-k.st c.args.ts.now c.loop-k.invariant.grows c.requires.given
-
-pub take_back-requires-clause-pre : goal.take_back-requires-clause-pre
-take_back-requires-clause-pre c = predecessors_on c.args.st.now c.loop-k.st c.args.ts.now c.args.pre.now.places c.args.pre.now.into.entries c.loop-k.invariant.grows c.requires.given c.requires.pre
-
-pub take_back-requires-clause-packets : goal.take_back-requires-clause-packets
-take_back-requires-clause-packets c =
-    let l : c.loop-k.k < length c.args.frontier.now = omega (arith, c.loop-k-test.true, c.len-count.ensures) in
-    set_grows c.args.st.now c.loop-k.st c.at.result.now.1 c.loop-k.invariant.grows (each_at (λ p. IsSet c.args.st.now p.1) c.args.frontier.now c.loop-k.k c.at.result.now c.requires.frontier l c.at.ensures)
-
-pub loop-k-preserved : goal.loop-k-preserved
-loop-k-preserved c =
-    let l : c.loop-k.k < length c.args.frontier.now = omega (arith, c.loop-k-test.true, c.len-count.ensures) in
-    let set = each_at (λ p. IsSet c.args.st.now p.1) c.args.frontier.now c.loop-k.k c.at.result.now c.requires.frontier l c.at.ensures in
-    record {
-      grows = grows_on _ _ _ c.loop-k.invariant.grows c.take_back.ensures.grows;
-      gained = subst (λ ps. IsGained c.args.st.now (IsLedInto c.args.st.now c.args.ts.now ps) c.args.back.now.entries [] c.take_back.new.st c.take_back.new.back.entries c.take_back.new.next.entries) (sym (take_more c.args.frontier.now c.loop-k.k c.at.result.now l c.at.ensures))
-          (frontier_push c.args.st.now c.loop-k.st c.take_back.new.st c.args.ts.now (take c.loop-k.k c.args.frontier.now) c.at.result.now c.args.back.now.entries [] c.loop-k.back.entries c.loop-k.next.entries c.take_back.new.back.entries c.take_back.new.next.entries
-          c.loop-k.invariant.grows c.requires.given set c.loop-k.invariant.gained c.in_ok-take_back.ensures.ok);
-    }
+pub put_all_new-requires-clause-back : goal.put_all_new-requires-clause-back
+put_all_new-requires-clause-back c = sets_on c.args.st.now c.led_into.new.st c.args.back.now.entries c.led_into.ensures.grows c.requires.back
 
 pub returns-clause-ok : goal.returns-clause-ok
 returns-clause-ok c =
-    let all = take_whole c.args.frontier.now c.loop-k.k (omega (arith, c.loop-k-test.false, c.len-count.ensures)) in
-    subst (λ ps. IsGained c.args.st.now (IsLedInto c.args.st.now c.args.ts.now c.args.frontier.now) c.args.back.now.entries [] c.loop-k.st c.loop-k.back.entries ps) (sym c.in_ok-all.ensures)
-    (subst (λ ps. IsGained c.args.st.now (IsLedInto c.args.st.now c.args.ts.now ps) c.args.back.now.entries [] c.loop-k.st c.loop-k.back.entries c.loop-k.next.entries) all c.loop-k.invariant.gained)
+    found_gained c.args.st.now c.led_into.new.st c.put_all_new.new.st (IsLedInto c.args.st.now c.args.ts.now c.args.frontier.now) c.in_ok-found.found c.in_order-ordered.result c.args.back.now.entries [] c.put_all_new.new.back.entries c.in_ok-next.next
+    c.led_into.ensures.grows c.requires.back c.requires.once tt tt c.in_ok-found.ensures.ok c.in_order-ordered.ensures
+    (subst (λ ps. IsGained c.led_into.new.st (Under c.led_into.new.st ps) c.args.back.now.entries [] c.put_all_new.new.st c.put_all_new.new.back.entries c.in_ok-next.next) c.as_slice.ensures c.in_ok-next.ensures.ok)

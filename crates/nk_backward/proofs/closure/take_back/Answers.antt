@@ -6,13 +6,10 @@ use Rattle.nk_backward.proofs.closure.take_back.Goals as goal
 pub take_outs-requires-clause-given : goal.take_outs-requires-clause-given
 take_outs-requires-clause-given c = all_given_on c.args.st.now c.outs_into.new.st c.args.ts.now c.outs_into.ensures.grows c.requires.given
 
-pub take_outs-requires-clause-back : goal.take_outs-requires-clause-back
-take_outs-requires-clause-back c = sets_on c.args.st.now c.outs_into.new.st c.args.back.now.entries c.outs_into.ensures.grows c.requires.back
-
-pub take_outs-requires-clause-next : goal.take_outs-requires-clause-next
-take_outs-requires-clause-next c = sets_on c.args.st.now c.outs_into.new.st c.args.next.now.entries c.outs_into.ensures.grows c.requires.next
+pub take_outs-requires-clause-found : goal.take_outs-requires-clause-found
+take_outs-requires-clause-found c = sets_on c.args.st.now c.outs_into.new.st c.args.found.now c.outs_into.ensures.grows c.requires.found
 
 pub returns-clause-ok : goal.returns-clause-ok
 returns-clause-ok c =
-    taken_all c.args.st.now c.outs_into.new.st c.take_outs.new.st c.args.ts.now c.args.pre.now.places c.args.pre.now.into.entries c.args.t c.args.x c.in_ok-outs.outs c.args.back.now.entries c.args.next.now.entries c.take_outs.new.back.entries c.take_outs.new.next.entries
-    c.outs_into.ensures.grows c.requires.given c.requires.back c.requires.once c.requires.next c.requires.next_once c.requires.pre c.in_ok-outs.ensures.ok c.in_ok-take_outs.ensures.ok
+    taken_all c.args.st.now c.outs_into.new.st c.take_outs.new.st c.args.ts.now c.args.pre.now.places c.args.pre.now.into.entries c.args.t c.args.x c.in_ok-outs.outs c.args.found.now c.take_outs.new.found
+    c.outs_into.ensures.grows c.requires.given c.requires.found c.requires.pre c.in_ok-outs.ensures.ok c.in_ok-take_outs.ensures.ok

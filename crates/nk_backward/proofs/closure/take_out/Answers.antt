@@ -5,23 +5,17 @@ use Rattle.nk_outs.specs.Outs.{AreGiven}
 use Rattle.nk_backward.specs.declared.transitions.Transitions.{Transitions}
 use Rattle.nk_backward.specs.Closures.{IsTakenOut}
 use Rattle.nk_backward.proofs.Tracing.{at_place}
-use Rattle.nk_backward.proofs.Gaining.{sets_on, gained_none}
+use Rattle.nk_backward.proofs.Gaining.{found_nothing}
 use Rattle.nk_backward.proofs.Taking.{taken_none, taken_one, place_within}
 use Rattle.nk_backward.proofs.closure.take_out.Goals as goal
 
 pub returns-in_default-clause-ok : goal.returns-in_default-clause-ok
 returns-in_default-clause-ok c =
-    gained_none c.args.st.now c.args.st.now (IsTakenOut c.args.st.now c.args.ts.now c.args.places.now c.args.q.now) c.args.back.now.entries c.args.next.now.entries (grows_same c.args.st.now) c.requires.back c.requires.once c.requires.next c.requires.next_once
+    found_nothing c.args.st.now c.args.st.now (IsTakenOut c.args.st.now c.args.ts.now c.args.places.now c.args.q.now) c.args.found.now (grows_same c.args.st.now) c.requires.found
     (λ i z w m. absurd (taken_none c.args.st.now c.args.ts.now c.args.places.now c.args.q.now i z (c.place_of.ensures.none c.in_default.is) m))
 
 pub at-t-requires : goal.at-t-requires
 at-t-requires c = (place_within c.args.ts.now c.args.places.now c.args.q.now c.in-Some.place c.requires.places c.in-Some.ensures.some).0
-
-pub put_new-requires-clause-back : goal.put_new-requires-clause-back
-put_new-requires-clause-back c = sets_on c.args.st.now c.led_to.new.st c.args.back.now.entries c.led_to.ensures.grows c.requires.back
-
-pub put_new-requires-clause-next : goal.put_new-requires-clause-next
-put_new-requires-clause-next c = sets_on c.args.st.now c.led_to.new.st c.args.next.now.entries c.led_to.ensures.grows c.requires.next
 
 pub at-o-requires : goal.at-o-requires
 at-o-requires c =
@@ -40,5 +34,5 @@ returns-clause-ok c =
     let w = place_within c.args.ts.now c.args.places.now c.args.q.now c.in-Some.place c.requires.places c.in-Some.ensures.some in
     let t_is = at_place c.args.ts.now c.in-Some.place.0 c.at-t.result.now w.0 c.at-t.ensures in
     let l : c.in-Some.place.1 < length c.at-t.result.now.outs = subst (λ (t : Transitions). c.in-Some.place.1 < length t.outs) (sym t_is) w.1 in
-    taken_one c.args.st.now c.led_to.new.st c.put_new.new.st c.args.ts.now c.args.places.now c.args.q.now c.in-Some.place c.at-t.result.now c.at-o.result.now c.in_ok-led.led c.args.back.now.entries c.args.next.now.entries c.put_new.new.back.entries c.put_new.new.next.entries
-    c.led_to.ensures.grows c.requires.back c.requires.once c.requires.next c.requires.next_once c.in-Some.ensures.some t_is (entry_at c.at-t.result.now.outs c.in-Some.place.1 c.at-o.result.now l c.at-o.ensures) c.in_ok-led.ensures.ok c.in_ok-put_new.ensures.ok
+    taken_one c.args.st.now c.led_to.new.st c.args.ts.now c.args.places.now c.args.q.now c.in-Some.place c.at-t.result.now c.at-o.result.now c.in_ok-led.led c.args.found.now c.push.new.self
+    c.led_to.ensures.grows c.requires.found c.in-Some.ensures.some t_is (entry_at c.at-t.result.now.outs c.in-Some.place.1 c.at-o.result.now l c.at-o.ensures) c.in_ok-led.ensures.ok c.in_ok-push.ensures.ok

@@ -4,14 +4,14 @@ use Rattle.nk_sets.proofs.SetLemmas.{set_grows}
 use Rattle.nk_outs.proofs.Givens.{given_at, entry_at}
 use Rattle.nk_backward.specs.Closures.{IsTakenBelow}
 use Rattle.nk_backward.proofs.Tracing.{all_given_on}
-use Rattle.nk_backward.proofs.Gaining.{gained_none}
+use Rattle.nk_backward.proofs.Gaining.{found_nothing}
 use Rattle.nk_backward.proofs.Taking.{taken_push}
 use Rattle.nk_backward.proofs.closure.take_outs.Goals as goal
 
 pub loop-i-init : goal.loop-i-init
 loop-i-init c = record {
   grows = grows_same c.args.st.now;
-  gained = gained_none c.args.st.now c.args.st.now (IsTakenBelow c.args.st.now c.args.ts.now c.args.places.now c.args.outs.now 0) c.args.back.now.entries c.args.next.now.entries (grows_same c.args.st.now) c.requires.back c.requires.once c.requires.next c.requires.next_once
+  made = found_nothing c.args.st.now c.args.st.now (IsTakenBelow c.args.st.now c.args.ts.now c.args.places.now c.args.outs.now 0) c.args.found.now (grows_same c.args.st.now) c.requires.found
       (λ i z w m. absurd (let l = m.1 in omega (arith, l)));
 }
 
@@ -28,6 +28,6 @@ loop-i-preserved c =
     let l : c.loop-i.i < length c.args.outs.now = omega (arith, c.loop-i-test.true, c.len-i-end.ensures) in
     record {
       grows = grows_on _ _ _ c.loop-i.invariant.grows c.take_out.ensures.grows;
-      gained = taken_push c.args.st.now c.loop-i.st c.take_out.new.st c.args.ts.now c.args.places.now c.args.outs.now c.loop-i.i c.at.result.now c.args.back.now.entries c.args.next.now.entries c.loop-i.back.entries c.loop-i.next.entries c.take_out.new.back.entries c.take_out.new.next.entries
-          c.loop-i.invariant.grows c.requires.given c.requires.places c.requires.outs l (entry_at c.args.outs.now c.loop-i.i c.at.result.now l c.at.ensures) c.loop-i.invariant.gained c.in_ok-take_out.ensures.ok;
+      made = taken_push c.args.st.now c.loop-i.st c.take_out.new.st c.args.ts.now c.args.places.now c.args.outs.now c.loop-i.i c.at.result.now c.args.found.now c.loop-i.found c.take_out.new.found
+          c.loop-i.invariant.grows c.requires.given c.requires.places c.requires.outs l (entry_at c.args.outs.now c.loop-i.i c.at.result.now l c.at.ensures) c.loop-i.invariant.made c.in_ok-take_out.ensures.ok;
     }
