@@ -1,7 +1,8 @@
 -- The transitions into each set, by their numbers.
-use Rattle.std.proofs.Common.{◌≡◌, ℕ, ◌+◌, true, refl, sym, ◌∙◌, ap, subst, arith, eqb, List, [], length, Some, None, Contains}
+use Rattle.std.proofs.Common.{◌≡◌, ℕ, ◌+◌, true, refl, sym, ◌∙◌, ap, subst, arith, eqb, List, [], length, Option, Some, None, IfSome, Contains}
 use Rattle.std.specs.List.Sorted.{IsPermutation}
 use Rattle.std.specs.Map.{lookup}
+use Rattle.std.proofs.lemmas.Option.{IfSome_then}
 use Rattle.std.proofs.lemmas.List.Sorted.{IsPermutation-sym}
 use Rattle.nk_field.specs.Act.{applied}
 use Rattle.nk_store.specs.declared.node.Out.{Out}
@@ -14,6 +15,7 @@ use Rattle.nk_outs.specs.Outs.{IsByOut, sent_to}
 use Rattle.nk_outs.proofs.Kept.{packet_on, packet_back, has_back}
 use Rattle.nk_witness.proofs.Pulling.{out_is}
 use Rattle.nk_backward.specs.declared.transitions.Transitions.{Transitions}
+use Rattle.nk_backward.specs.declared.predecessors.Predecessors.{Predecessors}
 use Rattle.nk_backward.specs.Transitions.{transitions_at, AreAllGiven, IsLed}
 use Rattle.nk_backward.specs.Predecessors.{out_at, ArePlacesBelow, place_at, transition_out, IsInto, LeavesFrom, packet_made, ShowsBelow, AreMarked, AreSetsJoined, ArePredecessors, AreShownAt}
 use Rattle.nk_backward.proofs.Tracing.{given_in_range}
@@ -62,6 +64,10 @@ predecessors_on a b ts places into g given pre = record {
       let has : LeavesFrom a ts places n z = has_back a b (out_at ts (place_at places n)).packets z g (given (place_at places n).0 at.0 (place_at places n).1 at.1).packets.id h in
       shown_on a b into t (packet_made ts places n z) (transition_out n) g pre.ids (pre.comes n t z (packet_back a b z g w) i has);
 }
+
+-- where predecessors are known, they stay so
+pub known_on : (a b : StoreState) (ts : List Transitions) (known : Option Predecessors) → Grows a b → AreAllGiven a ts → IfSome known (λ p. ArePredecessors a ts p.places p.into.entries) → IfSome known (λ p. ArePredecessors b ts p.places p.into.entries)
+known_on a b ts known g given k = IfSome_then known k (λ p pre. predecessors_on a b ts p.places p.into.entries g given pre)
 
 -- the diagrams of all transitions, put together by set
 pub predecessors_made : (st s1 new : StoreState) (ts : List Transitions) (places ds all into : List (ℕ × ℕ)) → Grows st s1 → Grows s1 new → AreAllGiven st ts → ArePlacesBelow ts (length ts) places → AreMarked st ts places (length places) s1 ds → IsPermutation ds all → AreSetsJoined s1 all (length all) new into → ArePredecessors new ts places into

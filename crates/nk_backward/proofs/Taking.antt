@@ -260,23 +260,31 @@ closure_none st ts = record {
         none (suc n) i z l = none n l.0 l.1 l.3
 
 -- the first frontier: all entries, each set once
-pub frontier_of : (st s1 s2 : StoreState) (goal back : List (ℕ × ℕ)) → Grows st s1 → Grows s1 s2 → HaveSets s1 goal → IsMerged s1 [] goal s2 back → IsWholeFrontier s2 goal back
-frontier_of st s1 s2 goal back g1 g2 sets m = record {
-  packets = sets_on s1 s2 goal g2 sets;
-  inside = λ i z w u. m.more i z (packet_back s1 s2 z g2 w) (under_back s1 s2 goal i z g2 sets u);
-  whole = λ i z w u. elim (m.either i z (packet_back s1 s2 z g2 w) u) [ inl none ↦ absurd none | inr there ↦ under_on s1 s2 goal i z g2 sets there ];
+pub frontier_of : (st s1 : StoreState) (goal back : List (ℕ × ℕ)) → Grows st s1 → HaveSets st goal → IsMerged st [] goal s1 back → IsWholeFrontier s1 goal back
+frontier_of st s1 goal back g sets m = record {
+  packets = sets_on st s1 goal g sets;
+  inside = λ i z w u. m.more i z (packet_back st s1 z g w) (under_back st s1 goal i z g sets u);
+  whole = λ i z w u. elim (m.either i z (packet_back st s1 z g w) u) [ inl none ↦ absurd none | inr there ↦ under_on st s1 goal i z g sets there ];
 }
 
--- the closure of entries that were put together from a list is the list's
-pub closure_from : (st s1 s2 new : StoreState) (ts : List Transitions) (goal back all : List (ℕ × ℕ)) → Grows st s1 → Grows s1 s2 → AreAllGiven st ts → HaveSets st goal → IsMerged s1 [] goal s2 back → IsClosure s2 ts back new all → IsClosure st ts goal new all
-closure_from st s1 s2 new ts goal back all g1 g2 given sets m c = record {
+-- the closure of entries with the same packets, in a store before, is the goal's
+pub closure_as : (st s1 new : StoreState) (ts : List Transitions) (goal back all : List (ℕ × ℕ)) → Grows st s1 → AreAllGiven st ts → ((i : ℕ) (z : List ℕ) → IsStorePacket st z → Under s1 back i z → Under st goal i z) → ((i : ℕ) (z : List ℕ) → IsStorePacket st z → Under st goal i z → Under s1 back i z) →
+    IsClosure s1 ts back new all → IsClosure st ts goal new all
+closure_as st s1 new ts goal back all g given off on c = record {
   sound = λ i z w u.
-      let l = c.sound i z (packet_on st s2 z g w) u in
-      leads_on st s2 ts (Under s2 back) (Under st goal) g given (λ j y p v. elim (m.either j y (packet_on st s1 y g1 p) v) [ inl none ↦ absurd none | inr there ↦ (0, under_back st s1 goal j y g1 sets there) ]) l.0 i z w l.1;
-  full = λ n i z w l. c.full n i z (packet_on st s2 z g w) (leads_grow st s2 ts (Under st goal) (Under s2 back) g given (λ j y p v. m.more j y (packet_on st s1 y g1 p) (under_on st s1 goal j y g1 sets v)) n i z w l);
+      let l = c.sound i z (packet_on st s1 z g w) u in
+      leads_on st s1 ts (Under s1 back) (Under st goal) g given (λ j y p v. (0, off j y p v)) l.0 i z w l.1;
+  full = λ n i z w l. c.full n i z (packet_on st s1 z g w) (leads_grow st s1 ts (Under st goal) (Under s1 back) g given on n i z w l);
   packets = c.packets;
   once = c.once;
 }
-  where
-    g : Grows st s2
-    g = grows_on st s1 s2 g1 g2
+
+-- the closure of entries that were put together from a list is the list's
+pub closure_from : (st s1 new : StoreState) (ts : List Transitions) (goal back all : List (ℕ × ℕ)) → Grows st s1 → AreAllGiven st ts → IsMerged st [] goal s1 back → IsClosure s1 ts back new all → IsClosure st ts goal new all
+closure_from st s1 new ts goal back all g given m c =
+    closure_as st s1 new ts goal back all g given (λ i z w v. elim (m.either i z w v) [ inl none ↦ absurd none | inr there ↦ there ]) (λ i z w v. m.more i z w v) c
+
+-- the closure of entries that stood in a store before
+pub closure_before : (st s1 new : StoreState) (ts : List Transitions) (goal all : List (ℕ × ℕ)) → Grows st s1 → AreAllGiven st ts → HaveSets st goal → IsClosure s1 ts goal new all → IsClosure st ts goal new all
+closure_before st s1 new ts goal all g given sets c =
+    closure_as st s1 new ts goal goal all g given (λ i z w v. under_back st s1 goal i z g sets v) (λ i z w v. under_on st s1 goal i z g sets v) c

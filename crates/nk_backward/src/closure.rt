@@ -1,5 +1,5 @@
 //! Entries with all packets from where transitions lead into them.
-ghost use Rattle.std.specs.Prelude.{◌≡◌, ◌&&◌, [], true, IfOk, OnOk, length};
+ghost use Rattle.std.specs.Prelude.{◌≡◌, ◌&&◌, [], true, IfOk, IfSome, OnOk, length};
 ghost use Rattle.nk_field.specs.Act.{applied};
 ghost use Rattle.nk_store.specs.StoreState.{Grows};
 ghost use Rattle.nk_sets.specs.PacketSets.{is_in, IsSet, IsPacketSetOf};
@@ -25,24 +25,49 @@ use nk_store::{Id, Store};
 use std::alloc::{AllocError, Global};
 
 /// Entries with all packets from where transitions lead into the given ones, in any number: the least fixed point of preimages.
-/// The only error is that memory ran out.
+/// The transitions into each set are made once, when they are first needed. The only error is that memory ran out.
 pub(crate) fn close_back(
     st: &mut Store,
     ts: &List<Transitions>,
+    pre: &mut Option<Predecessors>,
     goal: List<(SetId, Id)>,
 ) -> Result<Entries, AllocError>
     requires given { AreAllGiven st.old ts.now }
+    requires pre { IfSome pre.old (λ p. ArePredecessors st.old ts.now p.places p.into.entries) }
+    requires goal { HaveSets st.old goal }
+    ensures grows { Grows st.old st.new }
+    ensures ok { IfOk result (λ back. IsClosure st.old ts.now goal st.new back) }
+    ensures pre { OnOk result (IfSome pre.new (λ p. ArePredecessors st.new ts.now p.places p.into.entries)) }
+{
+    if goal.len() == 0 {
+        return Ok(Entries::new(IndexMap::new(st.alloc())));
+    }
+    if let Some(known) = &*pre {
+        let back = close_by(st, ts, known, goal)?;
+        return Ok(back);
+    }
+    let made = predecessors_of(st, ts)?;
+    let back = close_by(st, ts, &made, goal)?;
+    *pre = Some(made);
+    Ok(back)
+}
+
+/// The same by the transitions into each set.
+fn close_by(
+    st: &mut Store,
+    ts: &List<Transitions>,
+    pre: &Predecessors,
+    goal: List<(SetId, Id)>,
+) -> Result<Entries, AllocError>
+    requires given { AreAllGiven st.old ts.now }
+    requires pre { ArePredecessors st.old ts.now pre.now.places pre.now.into.entries }
     requires goal { HaveSets st.old goal }
     ensures grows { Grows st.old st.new }
     ensures ok { IfOk result (λ back. IsClosure st.old ts.now goal st.new back) }
 {
     let mut back = IndexMap::new(st.alloc());
-    if goal.len() == 0 {
-        return Ok(Entries::new(back));
-    }
-    let pre = predecessors_of(st, ts)?;
     add_level(st, &mut back, &goal)?;
-    take_all_back(st, ts, &pre, goal, &mut back)?;
+    take_all_back(st, ts, pre, goal, &mut back)?;
     Ok(Entries::new(back))
 }
 

@@ -1,5 +1,5 @@
 //! The packets that start a history which breaks a goal.
-ghost use Rattle.std.specs.Prelude.{◌≡◌, ℕ, ◌<◌, ◌≤◌, [], false, IfOk, OnOk, length, slice_index_or, List as Items};
+ghost use Rattle.std.specs.Prelude.{◌≡◌, ℕ, ◌<◌, ◌≤◌, [], false, IfOk, IfSome, OnOk, length, slice_index_or, List as Items};
 ghost use Rattle.nk_store.specs.StoreState.{StoreState, Grows};
 ghost use Rattle.nk_sets.specs.PacketSets.{IsSet};
 ghost use Rattle.nk_determ.specs.Sets.{SetsGrow};
@@ -8,9 +8,11 @@ ghost use Rattle.nk_determ.specs.Levels.{AreLevels};
 ghost use Rattle.nk_goal.specs.Entries.{HaveSets};
 ghost use Rattle.nk_witness.specs.Finds.{first_set, first_packets};
 ghost use Rattle.nk_backward.specs.Transitions.{AreAllGiven};
+ghost use Rattle.nk_backward.specs.Predecessors.{ArePredecessors};
 ghost use Rattle.nk_backward.specs.Starts.{AreStarts, LeadToSide, StandUnder};
 
 use crate::closure::close_back;
+use crate::predecessors::Predecessors;
 use crate::transitions::{Graph, graph_of};
 use crate::violations::violations;
 use nk_apply::{both, empty};
@@ -49,8 +51,9 @@ pub fn break_starts<G: Goal>(
 {
     let graph = graph_of(st, ss, states, l)?;
     let (s, x) = first_entry(l);
-    let left = starts_of(st, ss, &graph, s, x, g, Side::Left)?;
-    let right = starts_of(st, ss, &graph, s, x, g, Side::Right)?;
+    let mut pre = None;
+    let left = starts_of(st, ss, &graph, &mut pre, s, x, g, Side::Left)?;
+    let right = starts_of(st, ss, &graph, &mut pre, s, x, g, Side::Right)?;
     Ok(Starts { left, right })
 }
 
@@ -69,6 +72,7 @@ fn starts_of<G: Goal>(
     st: &mut Store,
     ss: &Sets,
     graph: &Graph,
+    pre: &mut Option<Predecessors>,
     s: SetId,
     x: Id,
     g: &mut G,
@@ -77,15 +81,17 @@ fn starts_of<G: Goal>(
     requires fits { G.fits g.old st.old }
     requires entries { EachPair (IsPair st.old ss.now (G.labels g.old)) graph.now.entries }
     requires given { AreAllGiven st.old graph.now.transitions }
+    requires pre { IfSome pre.old (λ p. ArePredecessors st.old graph.now.transitions p.places p.into.entries) }
     requires packets { IsSet st.old x }
     ensures grows { Grows st.old st.new }
+    ensures pre { OnOk result (IfSome pre.new (λ p. ArePredecessors st.new graph.now.transitions p.places p.into.entries)) }
     ensures ok { IfOk result (λ r. LeadToSide st.old ss.now graph.now.transitions graph.now.entries (G.violations_of g.old st.old) side s x st.new r) }
     ensures fits { OnOk result (G.fits g.new st.new) }
     ensures labels { OnOk result (G.labels g.new ≡ G.labels g.old) }
     ensures same { OnOk result ((st : StoreState) (set pk : Items ℕ) → G.violations_of g.new st set pk ≡ G.violations_of g.old st set pk) }
 {
     let goal = violations(st, ss, &graph.entries, g, side)?;
-    let back = close_back(st, &graph.transitions, goal)?;
+    let back = close_back(st, &graph.transitions, pre, goal)?;
     let r = packets_under(st, &back, s, x)?;
     Ok(r)
 }

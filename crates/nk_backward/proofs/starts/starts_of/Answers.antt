@@ -1,4 +1,6 @@
 use Rattle.nk_store.proofs.Stores.{grows_on}
+use Rattle.nk_backward.proofs.Tracing.{all_given_on}
+use Rattle.nk_backward.proofs.Preceding.{known_on}
 use Rattle.nk_backward.proofs.Starting.{lead_to_side_of}
 use Rattle.nk_backward.proofs.starts.starts_of.Goals as goal
 
@@ -11,3 +13,11 @@ returns-clause-ok g c =
 pub returns-clause-fits : goal.returns-clause-fits
 returns-clause-fits g c =
     g.met.G.Goal.fits_on c.violations.new.g c.violations.new.st c.packets_under.new.st c.in_ok-goal.ensures.fits (grows_on _ _ _ c.close_back.ensures.grows c.packets_under.ensures.grows)
+
+pub close_back-requires-clause-pre : goal.close_back-requires-clause-pre
+close_back-requires-clause-pre g c = known_on c.args.st.now c.violations.new.st c.args.graph.now.transitions c.args.pre.now c.violations.ensures.grows c.requires.given c.requires.pre
+
+pub returns-clause-pre : goal.returns-clause-pre
+returns-clause-pre g c =
+    known_on c.close_back.new.st c.packets_under.new.st c.args.graph.now.transitions c.close_back.new.pre c.packets_under.ensures.grows
+    (all_given_on c.args.st.now c.close_back.new.st c.args.graph.now.transitions (grows_on _ _ _ c.violations.ensures.grows c.close_back.ensures.grows) c.requires.given) c.in_ok-back.ensures.pre
