@@ -1,13 +1,13 @@
 -- Packets found under sets, in another order and put together by their sets.
-use Rattle.std.proofs.Common.{◌≡◌, ℕ, zero, suc, ◌<◌, ◌≤◌, ◌+◌, ◌-◌, ◌⊎◌, true, inl, inr, refl, sym, ◌∙◌, ap, subst, arith, List, [], ◌∷◌, length, get_or, Contains}
+use Rattle.std.proofs.Common.{◌≡◌, ℕ, zero, suc, ◌<◌, ◌≤◌, ◌+◌, ◌-◌, true, inl, inr, refl, sym, ◌∙◌, ap, subst, arith, List, [], ◌∷◌, length, get_or}
 use Rattle.std.specs.List.Sorted.{IsPermutation}
 use Rattle.std.proofs.lemmas.Bool.Decides.{eqb_tells, leb_tells}
 use Rattle.std.proofs.lemmas.List.Sorted.{Contains-permutation, IsPermutation-sym}
-use Rattle.nk_store.specs.StoreState.{StoreState, IsId, IsStorePacket, HasLeaves, look, Grows}
+use Rattle.nk_store.specs.StoreState.{StoreState, IsStorePacket, HasLeaves, look, Grows}
 use Rattle.nk_apply.specs.Predicates.{IsPredicate}
 use Rattle.nk_apply.specs.Unions.{unions}
 use Rattle.nk_sets.specs.PacketSets.{has_some_out, is_in, IsSet}
-use Rattle.nk_sets.proofs.SetLemmas.{set_grows, merged_out}
+use Rattle.nk_sets.proofs.SetLemmas.{merged_out}
 use Rattle.nk_determ.specs.Pairs.{Under, Once, EachPair}
 use Rattle.nk_goal.specs.Entries.{HaveSets}
 use Rattle.nk_outs.proofs.Kept.{Has, has_on, has_back, get_or_same}

@@ -1,4 +1,4 @@
-use Rattle.std.proofs.Common.{◌≡◌, ◌<◌, ◌≤◌, ℕ, [], length, get_or, sym, subst, arith}
+use Rattle.std.proofs.Common.{◌≡◌, ◌<◌, ℕ, [], length, get_or, sym, subst, arith}
 use Rattle.nk_store.specs.StoreState.{HasLeaves}
 use Rattle.nk_store.proofs.Stores.{grows_on, grows_same}
 use Rattle.nk_apply.specs.Predicates.{IsPredicate}
