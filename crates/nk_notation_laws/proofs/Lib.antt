@@ -1,6 +1,7 @@
 pub mod Bounds
 pub mod Emitted
 pub mod Fixed
+pub mod GeneratedPrograms
 pub mod GivenBack
 pub mod Held
 pub mod Named

@@ -1,5 +1,5 @@
 -- Texts that nk's lexemes make are left by `in`.
-use Rattle.std.proofs.Common.{◌≡◌, ◌≤◌, ◌+◌, ◌==◌, ◌&&◌, ◌||◌, ℕ, Bool, true, false, not, cond, List, [], ◌∷◌, ◌++◌, length, drop, decimal, refl, sym, ap, subst, ◌∙◌, arith, append_assoc, append-nil, get_or, length-append}
+use Rattle.std.proofs.Common.{◌≡◌, ◌≤◌, ◌+◌, ◌==◌, ◌&&◌, ◌||◌, ◌⊎◌, inl, inr, ℕ, Bool, true, false, not, cond, List, [], ◌∷◌, ◌++◌, length, drop, decimal, refl, sym, ap, subst, ◌∙◌, arith, append_assoc, append-nil, get_or, length-append}
 use Rattle.std.proofs.lemmas.Bool.{false≢true, ltb-false, ltb-true}
 use Rattle.std.proofs.lemmas.Bool.Decides.{nat_tests}
 use Rattle.std.specs.Prelude.{None, Ok, bytes_eq, codes, count_by, nat_lt}
@@ -12,21 +12,22 @@ use Rattle.nk_number_forms.specs.declared.forms.Atom.TheVariants as atom
 use Rattle.nk_number_forms.specs.declared.fault.Cause.TheVariants as cause
 use Rattle.nk_number_forms.specs.Forms.{address_of, atom_of, first_byte, hardware_of, hexadecimal_of, is_coloned, is_hex_or_colon, is_hexadecimal, last_byte, number_or}
 use Rattle.nk_number_forms.specs.Numbers.{is_hex}
+use Rattle.nk_names.proofs.Printed.{text_append}
 use Rattle.nk_notation.specs.declared.inward.Inward.{Inward}
 use Rattle.nk_notation.specs.declared.inward.Place.TheVariants as place
-use Rattle.nk_notation.specs.Inward.{after_byte, after_word, both_atoms, name_place, size_at, spelled, text_start, word_in}
+use Rattle.nk_notation.specs.Inward.{after_byte, after_word, both_atoms, name_place, place_after, size_at, spelled, text_start, word_in}
 use Rattle.nk_notation.specs.Lexemes.{begins_word, is_run_byte, longest_word}
 use Rattle.nk_notation.proofs.Cuts.{IsWordFront, not_that}
 use Rattle.nk_notation.proofs.WrittenForms.{all_cons, and_false, decimal_all, decimal_passes, digit_other, is_other, last_after, no_dots, no_place, none_counted, not_coloned, not_dotted, passes_both, passes_run, un_not}
 use Rattle.nk_notation.proofs.WrittenHardware.{colon_counts, other_counts}
 use Rattle.nk_notation_laws.specs.Laws.{IsLeftByIn}
-use Rattle.nk_notation_laws.specs.PlainLexemes.{ArePlain, EndsRun, ends, blank, ended, mark, named, number, interval, port, assigned, tested, prefixed, divided, equals, linked, makes_no_word, joins}
-use Rattle.nk_notation_laws.proofs.Places.{after_long, after_other, differ, equals_nameless, no_field, no_size}
+use Rattle.nk_notation_laws.specs.PlainLexemes.{ArePlain, EndsRun, ends, blank, ended, mark, named, number, interval, port, assigned, tested, prefixed, divided, equals, declared, linked, makes_no_word, joins, is_blank, AreBlanks}
+use Rattle.nk_notation_laws.proofs.Places.{after_long, after_name, after_other, differ, equals_nameless, no_field, no_size}
 use Rattle.nk_notation_laws.proofs.ReadsWords.{Reads, reads_byte, reads_long, reads_nothing, reads_word}
 use Rattle.nk_notation_laws.proofs.RunsAgain.{all_two, decimal_run, decimal_still, is_nameless, number_nameless, number_slashed, range_still}
 use Rattle.nk_notation_laws.proofs.Shapes.{IsStill, run_alone}
 use Rattle.nk_notation_laws.proofs.ValuesBack.{plain_length}
-use Rattle.nk_notation_laws.proofs.WordsAgain.{decimal_short, equals_kept, nameless_front, plain_word, range_runs, run_kept}
+use Rattle.nk_notation_laws.proofs.WordsAgain.{decimal_short, equals_kept, field_still, nameless_front, plain_word, range_runs, run_apart, run_kept}
 
 -- no size is due
 abbrev pub Bare : Inward → Type 0
@@ -298,6 +299,86 @@ left_prefix a b rest la lb stops next =
 pub left_colon : (rest : List ℕ) → StopsAt is_run_byte rest → Left rest → Left (58 ∷ rest)
 left_colon rest stops next = left_run (58 ∷ []) rest (refl, refl) refl refl colon_still stops next
 
+-- behind the word `field` a name may stand, and behind the name the size of the field
+abbrev AtField : Inward → Type 0
+AtField r = r.place ≡ place.Field
+
+abbrev AtName : Inward → Type 0
+AtName r = (r.place ≡ place.Elsewhere) ⊎ (r.place ≡ place.Name)
+
+word_here : (w : List ℕ) → IsWord w → (r : Inward) → AtField r → word_in r w ≡ Ok w
+unfolding size_at
+word_here w h r c = plain_word r w w (ap (λ p. size_at p w) c) (run_kept w (word_run w h) (name_still w h) r)
+
+name_after : (w : List ℕ) → IsWord w → bytes_eq w (codes "field") ≡ false → (r : Inward) → AtField r → AtName (after_word r w)
+unfolding after_word name_place
+name_after w h other r c =
+    inr (after_other r.place w other ∙ ap (λ p. name_place p w) c ∙ ap (λ t. cond t place.Elsewhere place.Name) (run_apart w (word_run w h)))
+
+name_by : (w rest : List ℕ) → IsWord w → bytes_eq w (codes "field") ≡ false → StopsAt is_run_byte rest → Reads false AtName rest rest
+    → (t : Bool) → nat_lt longest_word (length w) ≡ t → Reads false AtField (w ++ rest) (w ++ rest)
+name_by w rest h other stops next true e = reads_long AtField AtName w rest rest (word_front w h) (ltb-true longest_word (length w) e) stops (λ r c. inl (after_long r w (word_front w h))) next
+name_by w rest h other stops next false e = reads_word AtField AtName w w rest rest (word_front w h) (ltb-false longest_word (length w) e) stops (λ r c. (word_here w h r c, name_after w h other r c)) next
+
+number_by : (n : ℕ) (rest : List ℕ) → n ≤ largest → StopsAt is_run_byte rest → Left rest → Reads false AtName (decimal n ++ rest) (decimal n ++ rest)
+unfolding after_word
+number_by n rest le stops next =
+    reads_word AtName Bare (decimal n) (decimal n) rest rest (decimal_front n le) (omega (arith, decimal_short n le)) stops
+    (λ r c. (
+      plain_word r (decimal n) (decimal n) (no_size r.place (decimal n) (decimal_odd n le)) (run_kept (decimal n) (decimal_run n le) (decimal_still n le) r),
+      after_name r.place (decimal n) c (no_field (decimal n) (decimal_odd n le)),
+    ))
+    next
+
+field_by : (rest : List ℕ) → StopsAt is_run_byte rest → Reads false AtField rest rest → Left (codes "field" ++ rest)
+unfolding after_word place_after size_at
+field_by rest stops next =
+    reads_word Bare AtField (codes "field") (codes "field") rest rest (refl, refl) (omega arith) stops
+    (λ r c. (plain_word r (codes "field") (codes "field") (ap (λ p. size_at p (codes "field")) c) (run_kept (codes "field") refl field_still r), refl)) next
+
+-- blanks, after which as much is known as before them
+spaced : (C : Inward → Type 0) → ((r : Inward) → C r → C (after_byte r 32)) → ((r : Inward) → C r → C (after_byte r 10))
+    → (xs : List Lexeme) → list_all is_blank xs ≡ true → (rest : List ℕ) → Reads false C rest rest → Reads false C (text_of xs ++ rest) (text_of xs ++ rest)
+spaced C on under [] h rest next = next
+spaced C on under (space ∷ xs) h rest next = reads_byte C C 32 (text_of xs ++ rest) (text_of xs ++ rest) refl refl on (spaced C on under xs h rest next)
+spaced C on under (line_feed ∷ xs) h rest next = reads_byte C C 10 (text_of xs ++ rest) (text_of xs ++ rest) refl refl under (spaced C on under xs h rest next)
+spaced C on under (word w ∷ xs) h rest next = absurd (false≢true h)
+spaced C on under (numeral n ∷ xs) h rest next = absurd (false≢true h)
+spaced C on under (sign s ∷ xs) h rest next = absurd (false≢true h)
+
+all_blank : (xs : List Lexeme) → AreBlanks xs → list_all is_blank xs ≡ true
+all_blank [] h = absurd h
+all_blank (x ∷ xs) h = all_first (is_blank x) (list_all is_blank xs) h.0 h.1
+  where
+    all_first : (t u : Bool) → t ≡ true → u ≡ true → (t && u) ≡ true
+    all_first t u e f = ap (λ v. v && u) e ∙ f
+
+blanks_stop : (xs : List Lexeme) → AreBlanks xs → (rest : List ℕ) → StopsAt is_run_byte (text_of xs ++ rest)
+blanks_stop [] h rest = absurd h
+blanks_stop (space ∷ xs) h rest = refl
+blanks_stop (line_feed ∷ xs) h rest = refl
+blanks_stop (word w ∷ xs) h rest = absurd (false≢true h.0)
+blanks_stop (numeral n ∷ xs) h rest = absurd (false≢true h.0)
+blanks_stop (sign s ∷ xs) h rest = absurd (false≢true h.0)
+
+-- a declared field whose largest value is a number
+pub left_declared : (first : List Lexeme) (w : List ℕ) (second : List Lexeme) (n : ℕ) (rest : List ℕ) → AreBlanks first → IsWord w → bytes_eq w (codes "field") ≡ false → AreBlanks second
+    → n ≤ largest → StopsAt is_run_byte rest → Left rest → Left (codes "field" ++ (text_of first ++ (w ++ (text_of second ++ (decimal n ++ rest)))))
+unfolding after_byte
+left_declared first w second n rest b h other c le stops next =
+    let number : List ℕ = decimal n ++ rest in
+    let named : List ℕ = w ++ (text_of second ++ number) in
+    field_by (text_of first ++ named) (blanks_stop first b named)
+    (spaced AtField (λ r e. e) (λ r e. e) first (all_blank first b) named
+    (name_by w (text_of second ++ number) h other (blanks_stop second c number)
+    (spaced AtName (λ r e. e) (λ r e. e) second (all_blank second c) number (number_by n rest le stops next))
+    (nat_lt longest_word (length w)) refl))
+
+declared_text : (first : List Lexeme) (w : List ℕ) (second : List Lexeme) (n : ℕ) (xs : List Lexeme)
+    → text_of (word (codes "field") ∷ (first ++ (word w ∷ (second ++ (numeral n ∷ xs))))) ≡ codes "field" ++ (text_of first ++ (w ++ (text_of second ++ (decimal n ++ text_of xs))))
+declared_text first w second n xs =
+    ap (λ v. codes "field" ++ v) (text_append first (word w ∷ (second ++ (numeral n ∷ xs))) ∙ ap (λ v. text_of first ++ (w ++ v)) (text_append second (numeral n ∷ xs)))
+
 -- the text of lexemes with plain numbers
 left_text : (xs : List Lexeme) → ArePlain xs → Left (text_of xs)
 left_text xs ends = left_nothing
@@ -316,6 +397,8 @@ left_text xs (tested n ys le e p) = left_equals (decimal n) (text_of ys) (decima
 left_text xs (prefixed a b ys la lb e p) = left_prefix a b (text_of ys) la lb (run_stops ys e) (left_text ys p)
 left_text xs (divided ys e p) = left_colon (text_of ys) (run_stops ys e) (left_text ys p)
 left_text xs (equals ys e p) = left_equals [] (text_of ys) refl nothing_still (run_stops ys e) (left_text ys p)
+left_text xs (declared first w second n ys b h other c le e p) =
+    subst Left (sym (declared_text first w second n ys)) (left_declared first w second n (text_of ys) b h other c le (run_stops ys e) (left_text ys p))
 left_text xs (linked ys p) = left_equals [] (62 ∷ text_of ys) refl nothing_still refl (left_byte 62 (text_of ys) refl refl (left_text ys p))
 
 pub plain_left : (xs : List Lexeme) → ArePlain xs → IsLeftByIn (text_of xs)

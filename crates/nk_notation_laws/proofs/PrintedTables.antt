@@ -1,11 +1,11 @@
 -- The texts of tables have plain numbers.
-use Rattle.std.proofs.Common.{◌≡◌, ◌<◌, ◌≤◌, ◌==◌, ◌&&◌, ◌||◌, ◌⊎◌, inl, inr, ℕ, zero, suc, Bool, true, false, cond, List, [], ◌∷◌, ◌++◌, length, drop, decimal, refl, sym, ap, subst, ◌∙◌, arith, append_assoc, append-nil}
-use Rattle.std.proofs.lemmas.Bool.{eqb-true, ltb-false, ltb-true}
+use Rattle.std.proofs.Common.{◌≡◌, ◌<◌, ◌≤◌, ◌==◌, ◌&&◌, ◌||◌, ℕ, zero, suc, Bool, true, false, cond, List, [], ◌∷◌, ◌++◌, length, drop, decimal, refl, sym, ap, subst, ◌∙◌, arith, append_assoc, append-nil}
+use Rattle.std.proofs.lemmas.Bool.{eqb-true}
 use Rattle.std.proofs.lemmas.List.Elements.{All-cons, All-head, All-nil, All-tail}
-use Rattle.std.specs.Prelude.{All, Contains, Option, None, Some, Ok, codes, nat_lt, slice_index, slice_index_or}
+use Rattle.std.specs.Prelude.{All, Contains, Option, None, Some, codes, slice_index, slice_index_or}
 use Rattle.std.specs.List.{flat_map, list_any}
 use Rattle.nk_lex.specs.Lex.{largest}
-use Rattle.nk_lex.specs.Spelling.{IsName}
+use Rattle.nk_lex.specs.Spelling.{IsName, space}
 use Rattle.nk_lex.proofs.Digits.{StopsAt, both_pass}
 use Rattle.nk_field.specs.Packet.{FieldTable, IsFieldTable, IsValue}
 use Rattle.nk_field.specs.Texts.{is_tag, name_of}
@@ -25,18 +25,14 @@ use Rattle.nk_tabtext.proofs.Lines.{left5}
 use Rattle.nk_tabtext.specs.ReadBack.{ArePrintableTables, IsExit, IsPrintableBucket, IsPrintableGroup, IsPrintableMatch, IsPrintableRow, IsPrintableTable, IsPrintableTarget}
 use Rattle.nk_tabtext.specs.Text.{bucket_text, exit_text, field_text, fields_text, group_text, have_prefix, is_exact, length_text, link_text, match_text, matches_text, ports_text, row_text, rules_text, section_text, set_text, sets_text, switch_text, table_bytes, table_field_lines, tag_line, tag_text, target_text, topology_text, version_of, version_text, where_same}
 use Rattle.nk_topo.specs.Topology.{IsTopology, Link, SwitchPorts, Topology}
-use Rattle.nk_notation.specs.declared.inward.Inward.{Inward}
-use Rattle.nk_notation.specs.declared.inward.Place.TheVariants as place
-use Rattle.nk_notation.specs.Inward.{after_byte, after_word, name_place, place_after, size_at, text_start, word_in}
-use Rattle.nk_notation.specs.Lexemes.{begins_word, is_run_byte, longest_word}
+use Rattle.nk_notation.specs.Inward.{text_start}
+use Rattle.nk_notation.specs.Lexemes.{begins_word, is_run_byte}
 use Rattle.nk_notation_laws.specs.Laws.{IsLeftByIn, TablesAreLeft}
 use Rattle.nk_notation_laws.proofs.Pieces.{left_word, most, name_at, left_named}
-use Rattle.nk_notation_laws.proofs.Places.{after_long, after_name, after_other, no_field, no_size}
-use Rattle.nk_notation_laws.proofs.PlainTexts.{Bare, decimal_front, decimal_odd, Left, left_assigned, left_byte, left_colon, left_decimal, left_equals, left_name, left_nothing, left_pair, left_prefix, name_still, nothing_still, port_still, word_front, word_run}
+use Rattle.nk_notation_laws.proofs.PlainTexts.{Left, left_assigned, left_byte, left_colon, left_decimal, left_declared, left_equals, left_name, left_nothing, left_pair, left_prefix, nothing_still, port_still}
 use Rattle.nk_notation_laws.proofs.Printed.{no_keyword}
-use Rattle.nk_notation_laws.proofs.ReadsWords.{Reads, reads_byte, reads_long, reads_word}
 use Rattle.nk_notation_laws.proofs.RunsAgain.{decimal_run, decimal_still}
-use Rattle.nk_notation_laws.proofs.WordsAgain.{decimal_short, field_still, plain_word, run_apart, run_kept}
+use Rattle.nk_notation_laws.proofs.Shapes.{joined}
 
 -- pieces that `in` leaves: before any text, and before a text that ends a run
 abbrev pub Free : List ℕ → Type 0
@@ -58,7 +54,7 @@ free_runs v w f g = λ rest stops next. subst Left (sym (append_assoc v w rest))
 pub runs_gap : (v w : List ℕ) → Runs v → Gap w → Free (v ++ w)
 runs_gap v w f g = λ rest next. subst Left (sym (append_assoc v w rest)) (f (w ++ rest) (g.1 rest) (g.0 rest next))
 
-free_nothing : Free []
+pub free_nothing : Free []
 free_nothing = λ rest next. next
 
 pub free_each : {A : Type 0} (P : A → Type 0) (f : A → List ℕ) → ((x : A) → P x → Free (f x)) → (xs : List A) → All P xs → Free (flat_map f xs)
@@ -77,57 +73,17 @@ gap_end = (free_byte 10 refl refl, λ rest. refl)
 pub gap_colon : Gap (codes " : ")
 gap_colon = ((λ rest next. left_byte 32 (58 ∷ 32 ∷ rest) refl refl (left_colon (32 ∷ rest) refl (left_byte 32 rest refl refl next))), λ rest. refl)
 
-runs_number : (n : ℕ) → n ≤ largest → Runs (decimal n)
+pub runs_number : (n : ℕ) → n ≤ largest → Runs (decimal n)
 runs_number n le = λ rest stops next. left_decimal n rest le stops next
 
 pub runs_name : (w : List ℕ) → IsName w → Runs w
 runs_name w h = λ rest stops next. left_name w rest h.0 (no_keyword w h.1) stops next
 
 -- the line of a declared field
-abbrev AtField : Inward → Type 0
-AtField r = r.place ≡ place.Field
-
-abbrev AtName : Inward → Type 0
-AtName r = (r.place ≡ place.Elsewhere) ⊎ (r.place ≡ place.Name)
-
-word_here : (w : List ℕ) → IsName w → (r : Inward) → AtField r → word_in r w ≡ Ok w
-unfolding size_at
-word_here w h r c = plain_word r w w (ap (λ p. size_at p w) c) (run_kept w (word_run w h.0) (name_still w h.0) r)
-
-name_after : (w : List ℕ) → IsName w → (r : Inward) → AtField r → AtName (after_word r w)
-unfolding after_word name_place
-name_after w h r c =
-    inr (after_other r.place w (no_keyword w h.1) ∙ ap (λ p. name_place p w) c ∙ ap (λ t. cond t place.Elsewhere place.Name) (run_apart w (word_run w h.0)))
-
-name_by : (w rest : List ℕ) → IsName w → StopsAt is_run_byte rest → Reads false AtName rest rest → (t : Bool) → nat_lt longest_word (length w) ≡ t → Reads false AtField (w ++ rest) (w ++ rest)
-name_by w rest h stops next true e = reads_long AtField AtName w rest rest (word_front w h.0) (ltb-true longest_word (length w) e) stops (λ r c. inl (after_long r w (word_front w h.0))) next
-name_by w rest h stops next false e = reads_word AtField AtName w w rest rest (word_front w h.0) (ltb-false longest_word (length w) e) stops (λ r c. (word_here w h r c, name_after w h r c)) next
-
-number_by : (n : ℕ) (rest : List ℕ) → n ≤ largest → StopsAt is_run_byte rest → Left rest → Reads false AtName (decimal n ++ rest) (decimal n ++ rest)
-unfolding after_word
-number_by n rest le stops next =
-    reads_word AtName Bare (decimal n) (decimal n) rest rest (decimal_front n le) (omega (arith, decimal_short n le)) stops
-    (λ r c. (
-      plain_word r (decimal n) (decimal n) (no_size r.place (decimal n) (decimal_odd n le)) (run_kept (decimal n) (decimal_run n le) (decimal_still n le) r),
-      after_name r.place (decimal n) c (no_field (decimal n) (decimal_odd n le)),
-    ))
-    next
-
-field_size : (r : Inward) → Bare r → size_at r.place (codes "field") ≡ None
-unfolding size_at
-field_size r c = ap (λ p. size_at p (codes "field")) c
-
-field_free : (name : List ℕ) (max : ℕ) → IsName name → max ≤ largest → Free (field_text name max)
-unfolding after_byte after_word place_after
+pub field_free : (name : List ℕ) (max : ℕ) → IsName name → max ≤ largest → Free (field_text name max)
 field_free name max h le = λ rest next.
-    let number : List ℕ = decimal max ++ 10 ∷ rest in
     subst Left (sym (left5 (codes "field ") name (codes " ") (decimal max) (codes "\n") rest))
-    (reads_word Bare AtField (codes "field") (codes "field") (32 ∷ name ++ 32 ∷ number) (32 ∷ name ++ 32 ∷ number) (refl, refl) (omega arith) refl
-    (λ r c. (plain_word r (codes "field") (codes "field") (field_size r c) (run_kept (codes "field") refl field_still r), refl))
-    (reads_byte AtField AtField 32 (name ++ 32 ∷ number) (name ++ 32 ∷ number) refl refl (λ r c. c)
-    (name_by name (32 ∷ number) h refl
-    (reads_byte AtName AtName 32 number number refl refl (λ r c. c) (number_by max (10 ∷ rest) le refl (left_byte 10 rest refl refl next)))
-    (nat_lt longest_word (length name)) refl)))
+    (left_declared (space ∷ []) name (space ∷ []) max (10 ∷ rest) (refl, refl) h.0 (no_keyword name h.1) (refl, refl) le refl (left_byte 10 rest refl refl next))
 
 fields_free : (names : List (List ℕ)) (maxima : List ℕ) → All IsName names → All (λ m. m ≤ largest) maxima → Free (table_field_lines names maxima)
 fields_free [] maxima hn hm = free_nothing
@@ -197,22 +153,28 @@ runs_end a b la lb = λ rest stops next.
 gap_arrow : Gap (codes " -> ")
 gap_arrow = ((λ rest next. left_byte 32 (45 ∷ 62 ∷ 32 ∷ rest) refl refl (left_byte 45 (62 ∷ 32 ∷ rest) refl refl (left_byte 62 (32 ∷ rest) refl refl (left_byte 32 rest refl refl next)))), λ rest. refl)
 
+pub two_joined : (lead x d y : List ℕ) → lead ++ (x ++ d ++ y) ≡ lead ++ x ++ d ++ y
+two_joined lead x d y = ap (λ v. lead ++ v) (append_assoc x d y) ∙ sym (joined lead x d y)
+
+-- the line of a link between two ports
+pub ends_free : (i p j q : ℕ) → i ≤ largest → p ≤ largest → j ≤ largest → q ≤ largest
+    → Free (codes "link " ++ decimal i ++ codes ":" ++ decimal p ++ codes " -> " ++ decimal j ++ codes ":" ++ decimal q ++ codes "\n")
+ends_free i p j q li lp lj lq =
+    let x = decimal i ++ codes ":" ++ decimal p in
+    let y = decimal j ++ codes ":" ++ decimal q in
+    let a = free_runs (codes "link ") x (left_word (codes "link") (refl, refl) refl) (runs_end i p li lp) in
+    let b = runs_gap (codes "link " ++ x) (codes " -> ") a gap_arrow in
+    let c = free_runs (codes "link " ++ x ++ codes " -> ") y b (runs_end j q lj lq) in
+    let all = runs_gap (codes "link " ++ x ++ codes " -> " ++ y) (codes "\n") c gap_end in
+    let first : codes "link " ++ x ≡ codes "link " ++ decimal i ++ codes ":" ++ decimal p = two_joined (codes "link ") (decimal i) (codes ":") (decimal p) in
+    let front = codes "link " ++ decimal i ++ codes ":" ++ decimal p ++ codes " -> " in
+    let second : front ++ y ≡ front ++ decimal j ++ codes ":" ++ decimal q = two_joined front (decimal j) (codes ":") (decimal q) in
+    subst (λ v. Free (v ++ codes "\n")) (ap (λ v. v ++ codes " -> " ++ y) first ∙ second) all
+
 link_free : (l : Link) → IsSmallLink l → Free (link_text l)
 link_free l h =
-    let x = decimal l.from_switch ++ codes ":" ++ decimal l.from_port in
-    let y = decimal l.to_switch ++ codes ":" ++ decimal l.to_port in
-    let a = free_runs (codes "link ") x (left_word (codes "link") (refl, refl) refl) (runs_end l.from_switch l.from_port (small_number l.from_switch h.0) (small_number l.from_port h.1)) in
-    let b = runs_gap (codes "link " ++ x) (codes " -> ") a gap_arrow in
-    let c = free_runs (codes "link " ++ x ++ codes " -> ") y b (runs_end l.to_switch l.to_port (small_number l.to_switch h.2) (small_number l.to_port h.3)) in
-    let all = runs_gap (codes "link " ++ x ++ codes " -> " ++ y) (codes "\n") c gap_end in
-    let first : codes "link " ++ x ≡ codes "link " ++ decimal l.from_switch ++ codes ":" ++ decimal l.from_port =
-    sym (append_assoc (codes "link " ++ decimal l.from_switch) (codes ":") (decimal l.from_port) ∙ append_assoc (codes "link ") (decimal l.from_switch) (codes ":" ++ decimal l.from_port)
-    ∙ ap (λ v. codes "link " ++ v) (sym (append_assoc (decimal l.from_switch) (codes ":") (decimal l.from_port)))) in
-    let front = codes "link " ++ decimal l.from_switch ++ codes ":" ++ decimal l.from_port ++ codes " -> " in
-    let second : front ++ y ≡ front ++ decimal l.to_switch ++ codes ":" ++ decimal l.to_port =
-    sym (append_assoc (front ++ decimal l.to_switch) (codes ":") (decimal l.to_port) ∙ append_assoc front (decimal l.to_switch) (codes ":" ++ decimal l.to_port)
-    ∙ ap (λ v. front ++ v) (sym (append_assoc (decimal l.to_switch) (codes ":") (decimal l.to_port)))) in
-    subst (λ v. Free (v ++ codes "\n")) (ap (λ v. v ++ codes " -> " ++ y) first ∙ second) all
+    ends_free l.from_switch l.from_port l.to_switch l.to_port
+    (small_number l.from_switch h.0) (small_number l.from_port h.1) (small_number l.to_switch h.2) (small_number l.to_port h.3)
 
 links_free : (ls : List Link) → ((l : Link) → Contains ls l → IsSmallLink l) → Free (flat_map link_text ls)
 links_free [] h = free_nothing

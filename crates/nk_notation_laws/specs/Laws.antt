@@ -7,6 +7,7 @@ use Rattle.nk_cert.specs.Certificates.{CertificateValue}
 use Rattle.nk_certtext.specs.ReadBack.{IsPrintableCertificate}
 use Rattle.nk_certtext.specs.Text.{cert_bytes}
 use Rattle.nk_declare.specs.Kept.{IsWritable}
+use Rattle.nk_gen.specs.Text.{generated}
 use Rattle.nk_policy.specs.Policy.{Policy}
 use Rattle.nk_policy.specs.Ranges.{IsOverFields}
 use Rattle.nk_policy.specs.Text.{pol_bytes}
@@ -76,3 +77,7 @@ PrintedPoliciesAreLeft = (fields : FieldTable) → IsWritable fields → (p : Po
 
 abbrev pub PrintedCertificatesAreLeft : Type 0
 PrintedCertificatesAreLeft = (fields : FieldTable) → IsWritable fields → (c : CertificateValue) → IsPrintableCertificate fields c → IsLeftByIn (cert_bytes fields c)
+
+-- so is the text of each program that is generated: no other program is printed
+abbrev pub PrintedProgramsAreLeft : Type 0
+PrintedProgramsAreLeft = (size seed : ℕ) → size ≤ 1000 → IsLeftByIn (generated size seed)

@@ -1,5 +1,6 @@
 -- Texts that nk's lexemes make, with plain numbers. nk's own texts (certificates, table texts, policies) are such texts.
-use Rattle.std.specs.Prelude.{◌≡◌, ◌≤◌, ℕ, Bool, true, false, List, [], ◌∷◌, bytes_eq, codes, ⊤}
+use Rattle.std.specs.Prelude.{◌≡◌, ◌≤◌, ℕ, Bool, true, false, List, [], ◌∷◌, ◌++◌, bytes_eq, codes, ⊤}
+use Rattle.std.specs.List.{list_all}
 use Rattle.nk_lex.specs.Lex.{largest}
 use Rattle.nk_lex.specs.Spelling.{IsWord, Lexeme, Sign, numeral, sign, space, line_feed, word, equal, becomes, fat_arrow, colon, slash, dots}
 
@@ -30,8 +31,19 @@ EndsRun (word w ∷ xs) = ⊥
 EndsRun (numeral n ∷ xs) = ⊥
 EndsRun (sign s ∷ xs) = joins s ≡ false
 
+abbrev pub is_blank : Lexeme → Bool
+is_blank space = true
+is_blank line_feed = true
+is_blank x = false
+
+-- spaces and line feeds, at least one
+abbrev pub AreBlanks : List Lexeme → Type 0
+AreBlanks [] = ⊥
+AreBlanks (x ∷ xs) = (is_blank x ≡ true) × (list_all is_blank xs ≡ true)
+
 -- Each run of bytes is a name, a number, two numbers with `..`, `/` or `:` between them, a name with `:`, or `:`. A number and a
--- prefix may have an `=` before them. The word `field` is none of the names.
+-- prefix may have an `=` before them. The word `field` is none of the names: it stands before the name and the largest value of a
+-- field, and this value is a number.
 pub data ArePlain : List Lexeme → Type 0 where
   ends : ArePlain []
   blank : (xs : List Lexeme) → ArePlain xs → ArePlain (space ∷ xs)
@@ -46,4 +58,7 @@ pub data ArePlain : List Lexeme → Type 0 where
   prefixed : (a b : ℕ) (xs : List Lexeme) → a ≤ largest → b ≤ largest → EndsRun xs → ArePlain xs → ArePlain (sign equal ∷ numeral a ∷ sign slash ∷ numeral b ∷ xs)
   divided : (xs : List Lexeme) → EndsRun xs → ArePlain xs → ArePlain (sign colon ∷ xs)
   equals : (xs : List Lexeme) → EndsRun xs → ArePlain xs → ArePlain (sign equal ∷ xs)
+  declared : (first : List Lexeme) (w : List ℕ) (second : List Lexeme) (n : ℕ) (xs : List Lexeme) → AreBlanks first → IsWord w
+      → bytes_eq w (codes "field") ≡ false → AreBlanks second → n ≤ largest → EndsRun xs → ArePlain xs
+      → ArePlain (word (codes "field") ∷ (first ++ (word w ∷ (second ++ (numeral n ∷ xs)))))
   linked : (xs : List Lexeme) → ArePlain xs → ArePlain (sign fat_arrow ∷ xs)

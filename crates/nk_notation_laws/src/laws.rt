@@ -1,5 +1,5 @@
 //! What holds of every text with addresses.
-ghost use Rattle.nk_notation_laws.specs.Laws.{CertificatesAreLeft, HistoriesAreLeft, InGivesBack, InIsIdempotent, OutRefusesNothing, PlainTextsAreLeft, PoliciesAreLeft, PrintedCertificatesAreLeft, PrintedPoliciesAreLeft, TablesAreLeft};
+ghost use Rattle.nk_notation_laws.specs.Laws.{CertificatesAreLeft, HistoriesAreLeft, InGivesBack, InIsIdempotent, OutRefusesNothing, PlainTextsAreLeft, PoliciesAreLeft, PrintedCertificatesAreLeft, PrintedPoliciesAreLeft, PrintedProgramsAreLeft, TablesAreLeft};
 
 /// What `in` makes of a text, it leaves as it is, where it refuses nothing in the text.
 pub fn in_is_idempotent()
@@ -50,4 +50,9 @@ pub fn printed_policies_are_left()
 /// So is the text of a certificate, as it is printed.
 pub fn printed_certificates_are_left()
     ensures { PrintedCertificatesAreLeft }
+{}
+
+/// So is the text of each program that `gen` prints, for each size up to 1,000 and each seed.
+pub fn printed_programs_are_left()
+    ensures { PrintedProgramsAreLeft }
 {}
