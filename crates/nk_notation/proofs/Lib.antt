@@ -6,6 +6,7 @@ pub mod Kept
 pub mod Plain
 pub mod ReadBack
 pub mod SoFar
+pub mod Sound
 pub mod WholeWords
 pub mod WrittenBytes
 pub mod WrittenForms

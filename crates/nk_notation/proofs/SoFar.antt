@@ -17,7 +17,7 @@ use Rattle.nk_notation.specs.Lexemes.{TextLexeme, lexemes_of}
 use Rattle.nk_notation.specs.declared.cutter.Open.{Open}
 use Rattle.nk_notation.specs.declared.pieces.Ending.{Ending}
 use Rattle.nk_notation.specs.declared.pieces.Ending.TheVariants as ending
-use Rattle.nk_notation.specs.Run.{BeginsEach, TranslationEnds, Finishes, HasRest, AreBytesSent, Passes}
+use Rattle.nk_notation.specs.Run.{BeginsEach, TranslationEnds, Finishes, HasRest, AreBytesSent, IsSoundSoFar, Passes, piece_size}
 use Rattle.nk_notation.specs.Translation.{Translated, then_rest}
 
 -- what came of a piece was written, or the sink failed at it
@@ -254,25 +254,33 @@ ends_with_text ending.WriteFault made left s0 s1 s2 o0 o1 o2 n now k fs0 fs2 fo0
   };
 }
 
+-- the text that was read can go on without a malformed word, where the bytes that are left can
+sound_so_far : (made left : List ℕ → Translated) (text written : List ℕ) → ((more : List ℕ) → made (text ++ more) ≡ then_rest written (left more))
+    → IsSoundSoFar left [] → IsSoundSoFar made text
+sound_so_far made left text written all sound = (sound.0, ap (λ t. t.fault) (all sound.0) ∙ sound.1)
+
 -- the source failed
 pub ends_unread : (made left : List ℕ → Translated) (s0 s1 s2 o0 o1 : Option (List ℕ)) (n fs0 fs1 fs2 fo0 fo1 : ℕ)
-    → IsSoFar made left s0 s1 o0 o1 n → Keeps s1 s2 → Rose fs1 fs2 → fs1 ≡ fs0 → fo1 ≡ fo0
+    → IsSoFar made left s0 s1 o0 o1 n → IsSoundSoFar left [] → Keeps s1 s2 → Rose fs1 fs2 → fs1 ≡ fs0 → fo1 ≡ fo0
     → TranslationEnds made (record { old = s0; new = s2; before = fs0; now = fs2 }) (record { old = o0; new = o1; before = fo0; now = fo1 }) ending.ReadFault
-ends_unread made left s0 s1 s2 o0 o1 n fs0 fs1 fs2 fo0 fo1 so same rose qs qo = (
+ends_unread made left s0 s1 s2 o0 o1 n fs0 fs1 fs2 fo0 fo1 so sound same rose qs qo = (
   record {
-    text = so.text;
-    read = Consumes-kept s0 s1 s2 so.text so.read same;
-    fits = so.fits;
-    so_far = record { written = so.written; begins = begins_so_far made left so.text so.written so.all; taken = record { taken = so.taken; quiet = qo } };
+    to = record {
+      text = so.text;
+      read = Consumes-kept s0 s1 s2 so.text so.read same;
+      fits = so.fits;
+      so_far = record { written = so.written; begins = begins_so_far made left so.text so.written so.all; taken = record { taken = so.taken; quiet = qo } };
+    };
+    sound = sound_so_far made left so.text so.written so.all sound;
   },
   subst (λ m. Rose m fs2) qs rose,
 )
 
 -- the text is too long
 pub ends_too_long : (made left : List ℕ → Translated) (s0 s1 s2 o0 o1 : Option (List ℕ)) (n now before after fs0 fo0 fo1 : ℕ) (into : List ℕ)
-    → IsSoFar made left s0 s1 o0 o1 n → IsPieceCause s1 s2 n now before after into TooLong → before ≡ fs0 → fo1 ≡ fo0
+    → IsSoFar made left s0 s1 o0 o1 n → IsSoundSoFar left [] → length into ≤ piece_size → IsPieceCause s1 s2 n now before after into TooLong → before ≡ fs0 → fo1 ≡ fo0
     → TranslationEnds made (record { old = s0; new = s2; before = fs0; now = after }) (record { old = o0; new = o1; before = fo0; now = fo1 }) ending.TooLong
-ends_too_long made left s0 s1 s2 o0 o1 n now before after fs0 fo0 fo1 into so cause qs qo =
+ends_too_long made left s0 s1 s2 o0 o1 n now before after fs0 fo0 fo1 into so sound near cause qs qo =
     let piece = cause.3 in
     let count : now ≡ min (length so.text + cause.2) last_count = subst (λ m. now ≡ min (m + cause.2) last_count) so.count piece.count in (
       record {
@@ -280,8 +288,10 @@ ends_too_long made left s0 s1 s2 o0 o1 n now before after fs0 fo0 fo1 into so ca
         rest = take cause.2 into;
         read = Consumes-trans s0 s1 s2 so.text (take cause.2 into) so.read piece.bytes;
         past = subst (λ m. limit < m) (sym (length_of_piece so.text into cause.2 piece.fits)) (grind (arith, count, cause.1));
+        near = let k = length-take cause.2 into in omega (arith, k, near);
         fits = so.fits;
         so_far = record { written = so.written; begins = begins_so_far made left so.text so.written so.all; taken = record { taken = so.taken; quiet = qo } };
+        sound = sound_so_far made left so.text so.written so.all sound;
       },
       cause.0 ∙ qs,
     )

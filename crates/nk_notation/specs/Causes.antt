@@ -6,7 +6,7 @@ use Rattle.nk_reply.specs.Use.{FailedAt, HasRisen, IsQuiet, IsUntouched, Took, U
 use Rattle.nk_number_forms.specs.declared.fault.Fault.{Fault}
 use Rattle.nk_number_forms.specs.Faults.{notation_fault_line}
 use Rattle.nk_notation.specs.Answer.{address_usage, translation_by}
-use Rattle.nk_notation.specs.Run.{IsMalformedAt, IsPastLimit, IsReadTo, IsUnwritten, IsWhollyTranslated}
+use Rattle.nk_notation.specs.Run.{IsMalformedAt, IsPastLimit, IsReadTo, IsSoundTo, IsUnwritten, IsWhollyTranslated}
 use Rattle.nk_notation.specs.Translation.{Translated}
 use Rattle.nk_notation.specs.Words.{Direction}
 
@@ -20,7 +20,7 @@ IsLineMeant asked source out Usage line = (asked ≡ None) × IsUntouched source
 IsLineMeant asked source out Text line =
     (f : Fault) × IsOfAsked asked (λ made. IsMalformedAt made f source out) × (line ≡ notation_fault_line f)
 IsLineMeant asked source out ReadFault line =
-    IsOfAsked asked (λ made. IsReadTo made source out) × HasRisen source × (line ≡ codes "read fault\n")
+    IsOfAsked asked (λ made. IsSoundTo made source out) × HasRisen source × (line ≡ codes "read fault\n")
 IsLineMeant asked source out NoMemory line =
     ((IsOfAsked asked (λ made. IsReadTo made source out) × IsQuiet source) ⊎ (IsUntouched source × IsUntouched out))
     × (line ≡ codes "no memory\n")

@@ -1,5 +1,5 @@
 -- Addresses become numbers.
-use Rattle.std.specs.Prelude.{ℕ, ◌+◌, ◌-◌, ◌==◌, Bool, true, false, not, ◌||◌, List, [], ◌∷◌, ◌++◌, length, take, drop, Option, Some, None, Ok, Err, if◌then◌else◌, nat_lt, decimal, codes, bytes_eq}
+use Rattle.std.specs.Prelude.{◌≡◌, refl, map, ℕ, ◌+◌, ◌-◌, ◌==◌, Bool, true, false, not, ◌||◌, List, [], ◌∷◌, ◌++◌, length, take, drop, Option, Some, None, Ok, Err, if◌then◌else◌, nat_lt, decimal, codes, bytes_eq}
 use Rattle.std.specs.declared.result.Result.{Result}
 use Rattle.nk_io.specs.Faults.{next}
 use Rattle.nk_lex.specs.Classes.{is_white}
@@ -153,3 +153,8 @@ inward r [] = nothing
 inward r (Word w ∷ ls) = with_word w r.line (word_in r w) (inward (after_word r w) ls)
 inward r (Byte b ∷ ls) = then_rest (b ∷ []) (inward (after_byte r b) ls)
 inward r (Note b ∷ ls) = then_rest (b ∷ []) (inward r ls)
+
+-- bytes outside words are never refused
+pub inward_bytes_sound : (r : Inward) (bs : List ℕ) → (inward r (map Byte bs)).fault ≡ None
+inward_bytes_sound r [] = refl
+inward_bytes_sound r (b ∷ bs) = inward_bytes_sound (after_byte r b) bs

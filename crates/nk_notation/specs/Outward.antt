@@ -1,5 +1,5 @@
 -- Numbers become addresses.
-use Rattle.std.specs.Prelude.{ℕ, zero, suc, ◌+◌, ◌-◌, ◌==◌, Bool, false, not, ◌&&◌, List, [], ◌∷◌, ◌++◌, length, take, drop, Option, Some, None, if◌then◌else◌, nat_lt, decimal, codes, bytes_eq}
+use Rattle.std.specs.Prelude.{◌≡◌, refl, map, ℕ, zero, suc, ◌+◌, ◌-◌, ◌==◌, Bool, false, not, ◌&&◌, List, [], ◌∷◌, ◌++◌, length, take, drop, Option, Some, None, if◌then◌else◌, nat_lt, decimal, codes, bytes_eq}
 use Rattle.nk_lex.specs.Lex.{largest}
 use Rattle.nk_notation.specs.declared.context.TextKind.{TextKind}
 use Rattle.nk_notation.specs.declared.outward.Form.{Form}
@@ -150,3 +150,8 @@ outward fields kind s (Word w ∷ ls) =
     then_rest (word_out (is_tables kind) s w) (outward fields (kind_after kind w) (spot_after fields s w) ls)
 outward fields kind s (Byte b ∷ ls) = then_rest (byte_out s b) (outward fields (kind_beyond kind b) (spot_beyond s b) ls)
 outward fields kind s (Note b ∷ ls) = then_rest (held s ++ b ∷ []) (outward fields kind spot.Nothing ls)
+
+-- bytes outside words are never refused
+pub outward_bytes_sound : (fields : NamedForms) (kind : TextKind) (s : Spot) (bs : List ℕ) → (outward fields kind s (map Byte bs)).fault ≡ None
+outward_bytes_sound fields kind s [] = refl
+outward_bytes_sound fields kind s (b ∷ bs) = outward_bytes_sound fields (kind_beyond kind b) (spot_beyond s b) bs

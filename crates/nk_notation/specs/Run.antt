@@ -40,7 +40,7 @@ pub record IsMalformedAt (made : List ℕ → Translated) (f : Fault) (source ou
   pub refused : ((more : List ℕ) → made (text ++ more) ≡ faulty written f) ⊎ (IsAtEnd source.new × (made text ≡ faulty written f))
   pub taken : Took out written
 
--- the text was read up to a place, and so far all is as it should be
+-- the text was read up to a place; what was written begins what comes of each text that begins so
 pub record IsCutOff (made : List ℕ → Translated) (out : Use) (text : List ℕ) : Type 0 where
   pub written : List ℕ
   pub begins : BeginsEach made text written
@@ -63,20 +63,36 @@ pub record IsReadTo (made : List ℕ → Translated) (source out : Use) : Type 0
   pub fits : length text ≤ limit
   pub so_far : IsCutOff made out text
 
--- the same where more bytes came than an input may have: those of the text within the limit, and then those that go past it
+-- no word of the text is malformed, unless it is the last one and goes on: the text can go on as one without a malformed word
+abbrev pub IsSoundSoFar : (List ℕ → Translated) → List ℕ → Type 0
+IsSoundSoFar made text = (more : List ℕ) × ((made (text ++ more)).fault ≡ None)
+
+-- a text that was read up to a place, and no malformed word came in it
+pub record IsSoundTo (made : List ℕ → Translated) (source out : Use) : Type 0 where
+  pub to : IsReadTo made source out
+  pub sound : IsSoundSoFar made to.text
+
+-- how many bytes one call of the source is asked for
+abbrev pub piece_size : ℕ
+piece_size = 4096
+
+-- The same where more bytes came than an input may have: those of the text within the limit, and then those that go past it, which one
+-- call of the source gave.
 pub record IsPastLimit (made : List ℕ → Translated) (source out : Use) : Type 0 where
   pub text : List ℕ
   pub rest : List ℕ
   pub read : Consumes source.old source.new (text ++ rest)
   pub past : limit < length (text ++ rest)
+  pub near : length rest ≤ piece_size
   pub fits : length text ≤ limit
   pub so_far : IsCutOff made out text
+  pub sound : IsSoundSoFar made text
 
 -- why a run ends, and what was read and written
 abbrev pub TranslationEnds : (List ℕ → Translated) → (source out : Use) → Ending → Type 0
 TranslationEnds made source out ending.Done = IsWhollyTranslated made source out
 TranslationEnds made source out (ending.Refused f) = IsMalformedAt made f source out
-TranslationEnds made source out ending.ReadFault = IsReadTo made source out × HasRisen source
+TranslationEnds made source out ending.ReadFault = IsSoundTo made source out × HasRisen source
 TranslationEnds made source out ending.NoMemory = IsReadTo made source out × IsQuiet source
 TranslationEnds made source out ending.TooLong = IsPastLimit made source out × IsQuiet source
 TranslationEnds made source out ending.WriteFault = IsUnwritten made source out

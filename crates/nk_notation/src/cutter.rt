@@ -275,8 +275,8 @@ fn bytes<N: Notation>(notation: &mut N, out: &mut Vec<u8>, text: &[u8]) -> Resul
     Ok(())
 }
 
-/// How many bytes the word has that begins the bytes and ends before the last of them; 0 where there is none, or a longer one than a
-/// word may be.
+/// How many bytes the word has that begins the bytes and ends before the last of them; 0 says nothing. It is 0 where there is no such word, or a
+/// longer one than a word may be; no clause says so.
 #[inline(always)]
 fn word_length(bytes: &[u8]) -> usize
     ensures within { result ≤ length bytes.now }

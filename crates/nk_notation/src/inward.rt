@@ -2,7 +2,7 @@
 ghost use Rattle.std.specs.Prelude.{◌≡◌, ◌+◌, ◌-◌, ◌<◌, ◌≤◌, ◌^◌, ◌++◌, ◌==◌, ◌&&◌, codes, count_by, nat_lt, length, decimal, take, drop, not, Ok, Err, Option, IfErr, OnOk};
 ghost use Rattle.std.specs.List.{list_all};
 ghost use Rattle.nk_number_forms.specs.Forms.{address_of, has_dots, has_ones_after, place_of_dots};
-ghost use Rattle.nk_notation.specs.Inward.{after_byte, after_word, both_atoms, inward, is_tables, kind_after, kind_beyond, place_after, plain_in, prefix_in, prefix_with, range_in, run_in, size_at, size_of_kind, slash_in, small_size, spelled, text_start, word_in};
+ghost use Rattle.nk_notation.specs.Inward.{after_byte, after_word, both_atoms, inward, inward_bytes_sound, is_tables, kind_after, kind_beyond, place_after, plain_in, prefix_in, prefix_with, range_in, run_in, size_at, size_of_kind, slash_in, small_size, spelled, text_start, word_in};
 ghost use Rattle.nk_number_forms.specs.Numbers.{number_within};
 ghost use Rattle.nk_notation.specs.Translation.{Puts};
 
@@ -50,6 +50,8 @@ impl Inward {
 
 impl Notation for Inward {
     ghost made = { inward };
+
+    ghost sound = { inward_bytes_sound };
 
     fn word(&mut self, out: &mut Vec<u8>, text: &[u8]) -> Result<(), Stop> {
         match self.put_word(out, text) {

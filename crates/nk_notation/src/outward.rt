@@ -3,7 +3,7 @@ ghost use Rattle.std.specs.Prelude.{◌≡◌, ◌≤◌, ◌<◌, ◌+◌, ◌-
 ghost use Rattle.nk_lex.specs.Lex.{largest};
 ghost use Rattle.nk_number_forms.specs.Forms.{address_block_size, has_ones_after, place_of_dots};
 ghost use Rattle.nk_number_forms.specs.Numbers.{number_within};
-ghost use Rattle.nk_notation.specs.Outward.{address_out, byte_out, ends_out, form_of, form_text, held, interval_out, is_block, largest_in_form, length_below, length_of, measured_out, named_form, named_spot, number_out, outward, prefix_out, range_out, spot_after, spot_beyond, value_out, word_out};
+ghost use Rattle.nk_notation.specs.Outward.{address_out, byte_out, ends_out, form_of, form_text, held, interval_out, is_block, largest_in_form, length_below, length_of, measured_out, named_form, named_spot, number_out, outward, outward_bytes_sound, prefix_out, range_out, spot_after, spot_beyond, value_out, word_out};
 
 use crate::context::TextKind;
 use crate::inward::{is_tables, kind_after, kind_beyond};
@@ -77,6 +77,8 @@ impl Outward {
 
 impl Notation for Outward {
     ghost made = { λ o ls. outward (map named_form o.fields.items) o.kind o.spot ls };
+
+    ghost sound = { λ o bs. outward_bytes_sound (map named_form o.fields.items) o.kind o.spot bs };
 
     fn word(&mut self, out: &mut Vec<u8>, text: &[u8]) -> Result<(), Stop> {
         match put_word(out, is_tables(self.kind), self.spot, text) {

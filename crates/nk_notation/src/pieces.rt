@@ -32,7 +32,7 @@ pub(crate) enum Ending {
     WriteFault,
 }
 
-/// Translates the text that the source has, and writes what comes of it as it comes. The memory is that of a piece.
+/// Translates the text that the source has, and writes what comes of it as it comes. The memory is that of a piece; no clause says so.
 pub(crate) fn translate<N: Notation + Drop, S: Source, O: Sink>(
     alloc: Global,
     notation: N,

@@ -20,7 +20,7 @@ pub(crate) fn tell<E: Sink>(ending: Ending, err: &mut E) -> Status
         Ending::WriteFault => Status::WriteFault,
         Ending::Refused(fault) => match write_fault(err, fault) {
             Ok(()) => Status::Text,
-            Err(_) => Status::WriteFault,
+            Err(WriteFault) => Status::WriteFault,
         },
         Ending::ReadFault => send(err, b"read fault\n", Status::ReadFault),
         Ending::NoMemory => send(err, b"no memory\n", Status::NoMemory),
@@ -34,7 +34,7 @@ pub(crate) fn send<K: Sink>(sink: &mut K, bytes: &[u8], status: Status) -> Statu
 {
     match write_all(sink, bytes) {
         Ok(()) => status,
-        Err(_) => Status::WriteFault,
+        Err(WriteFault) => Status::WriteFault,
     }
 }
 

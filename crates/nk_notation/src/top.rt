@@ -14,7 +14,7 @@ use crate::telling::{send, tell};
 use crate::words::{Asked, read_words};
 use nk_io::{Sink, Source};
 use nk_reply::Status;
-use std::alloc::Global;
+use std::alloc::{AllocError, Global};
 
 /// Translates the text that the source has, as the words ask for: `in` writes the addresses of the text as numbers, and
 /// `out FIELD=KIND ..` the values of these fields as addresses. It reads piece by piece, and what comes of a piece is written
@@ -70,7 +70,7 @@ fn translate_words<S: Source, O: Sink, E: Sink>(
 {
     match read_words(alloc, words) {
         Ok(asked) => answer(alloc, asked, source, out, err),
-        Err(_) => send(err, b"no memory\n", Status::NoMemory),
+        Err(AllocError) => send(err, b"no memory\n", Status::NoMemory),
     }
 }
 

@@ -1,6 +1,7 @@
 use Rattle.std.proofs.Common.{rules}
 use Rattle.nk_notation.specs.Cutting.{lexemes_left}
 use Rattle.nk_notation.proofs.SoFar.{ends_at_piece, ends_too_long, ends_unread, ends_with_text, more_so_far}
+use Rattle.nk_notation.proofs.Sound.{sound_rest}
 use Rattle.nk_notation.proofs.pieces.translate_by.Goals as goal
 
 -- the source failed
@@ -10,7 +11,9 @@ returns-in-Err-ReadFault g c =
     ends_unread
     (λ text. g.N.Notation.made c.args.cutter.now.notation (lexemes_left c.args.cutter.now.state c.args.cutter.now.held.items text))
     (λ text. g.N.Notation.made c.pieces.cutter.notation (lexemes_left c.pieces.cutter.state c.pieces.cutter.held.items text))
-    _ _ _ _ _ _ _ _ _ _ _ c.pieces.invariant.so_far cause.2 cause.0 c.pieces.invariant.same c.pieces.invariant.quiet
+    _ _ _ _ _ _ _ _ _ _ _ c.pieces.invariant.so_far
+    (sound_rest g.N.Notation.made g.N.Notation.sound c.pieces.cutter.notation c.pieces.cutter.state c.pieces.cutter.held.items c.pieces.cutter.holds)
+    cause.2 cause.0 c.pieces.invariant.same c.pieces.invariant.quiet
 
 -- the text is too long
 pub returns-in-Err-TooLong : goal.returns-in-Err-TooLong
@@ -19,7 +22,9 @@ returns-in-Err-TooLong g c =
     ends_too_long
     (λ text. g.N.Notation.made c.args.cutter.now.notation (lexemes_left c.args.cutter.now.state c.args.cutter.now.held.items text))
     (λ text. g.N.Notation.made c.pieces.cutter.notation (lexemes_left c.pieces.cutter.state c.pieces.cutter.held.items text))
-    _ _ _ _ _ _ _ _ _ _ _ _ _ c.pieces.invariant.so_far cause c.pieces.invariant.same c.pieces.invariant.quiet
+    _ _ _ _ _ _ _ _ _ _ _ _ _ c.pieces.invariant.so_far
+    (sound_rest g.N.Notation.made g.N.Notation.sound c.pieces.cutter.notation c.pieces.cutter.state c.pieces.cutter.held.items c.pieces.cutter.holds)
+    (search rules) cause c.pieces.invariant.same c.pieces.invariant.quiet
 
 -- the text is at its end
 pub returns-then-count-eq0 : goal.returns-then-count-eq0
