@@ -7,6 +7,7 @@ pub mod Plain
 pub mod ReadBack
 pub mod SoFar
 pub mod Sound
+pub mod Succeeding
 pub mod WholeWords
 pub mod WrittenBytes
 pub mod WrittenForms

@@ -1,5 +1,6 @@
 -- When each status comes.
-use Rattle.std.specs.Prelude.{◌≡◌, ◌⊎◌, ℕ, List, Option, Some, None, codes}
+use Rattle.std.specs.Prelude.{◌≡◌, ◌⊎◌, ◌≤◌, ℕ, List, Option, Some, None, codes, length}
+use Rattle.nk_reply.specs.Answer.{limit}
 use Rattle.nk_reply.specs.declared.status.Status.{Status}
 use Rattle.nk_reply.specs.declared.status.Status.TheVariants.{Done, Usage, Text, ReadFault, WriteFault, NoMemory, TooLong}
 use Rattle.nk_reply.specs.Use.{FailedAt, HasRisen, IsQuiet, IsUntouched, Took, Use}
@@ -44,3 +45,13 @@ TellsFailedCalls source out err s =
 -- words that ask for no translation are said to be so, unless the sink fails or memory runs out, and no others are
 abbrev pub TellsWrongWords : Option Direction → Status → Type 0
 TellsWrongWords asked s = (s ≡ Usage → asked ≡ None) × (asked ≡ None → (s ≡ Usage) ⊎ ((s ≡ WriteFault) ⊎ (s ≡ NoMemory)))
+
+-- the status of a text by what comes of it: `Done`, or `Text` where a word is malformed; or memory ran out
+abbrev pub IsTextStatus : Translated → Status → Type 0
+IsTextStatus t s = (s ≡ NoMemory) ⊎ (((s ≡ Done) × (t.fault ≡ None)) ⊎ ((s ≡ Text) × ((f : Fault) × (t.fault ≡ Some f))))
+
+-- Where the words ask for a translation, the source tells the bytes that it has left, these are within the limit and no call fails,
+-- the status is the one that the text has.
+abbrev pub TranslatesWhole : Option Direction → (source out err : Use) → Status → Type 0
+TranslatesWhole asked source out err s = (d : Direction) (bytes : List ℕ) → asked ≡ Some d → source.old ≡ Some bytes → length bytes ≤ limit
+    → ¬ HasRisen source → ¬ HasRisen out → ¬ HasRisen err → IsTextStatus (translation_by d bytes) s

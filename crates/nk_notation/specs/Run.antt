@@ -63,21 +63,21 @@ pub record IsReadTo (made : List ℕ → Translated) (source out : Use) : Type 0
   pub fits : length text ≤ limit
   pub so_far : IsCutOff made out text
 
--- no word of the text is malformed, unless it is the last one and goes on: the text can go on as one without a malformed word
+-- The text can go on as one without a malformed word: none of its words is malformed, but that a word at its end may be, which can go on.
 abbrev pub IsSoundSoFar : (List ℕ → Translated) → List ℕ → Type 0
 IsSoundSoFar made text = (more : List ℕ) × ((made (text ++ more)).fault ≡ None)
 
--- a text that was read up to a place, and no malformed word came in it
+-- a text that was read up to a place and can go on without a malformed word
 pub record IsSoundTo (made : List ℕ → Translated) (source out : Use) : Type 0 where
   pub to : IsReadTo made source out
   pub sound : IsSoundSoFar made to.text
 
--- how many bytes one call of the source is asked for
+-- how many bytes one call of the source is asked for at most
 abbrev pub piece_size : ℕ
 piece_size = 4096
 
--- The same where more bytes came than an input may have: those of the text within the limit, and then those that go past it, which one
--- call of the source gave.
+-- The same where more bytes came than an input may have: those of the text within the limit, and then those that go past it, at most a
+-- piece.
 pub record IsPastLimit (made : List ℕ → Translated) (source out : Use) : Type 0 where
   pub text : List ℕ
   pub rest : List ℕ

@@ -3,7 +3,7 @@ ghost use Rattle.std.specs.Prelude.{◌≡◌, ◌⊎◌, ◌<◌, None, codes, 
 ghost use Rattle.nk_reply.specs.Reply.{IsDelivered};
 ghost use Rattle.nk_reply.specs.Use.{use_of};
 ghost use Rattle.nk_notation.specs.Answer.{AnswersTranslation, AnswersBy, IsTranslated, inward_text, outward_text};
-ghost use Rattle.nk_notation.specs.Causes.{IsCaused, TellsFailedCalls, TellsWrongWords};
+ghost use Rattle.nk_notation.specs.Causes.{IsCaused, TellsFailedCalls, TellsWrongWords, TranslatesWhole};
 ghost use Rattle.nk_notation.specs.Outward.{named_form};
 ghost use Rattle.nk_notation.specs.Words.{direction_in, direction_of};
 
@@ -33,6 +33,11 @@ pub fn translate_by_words<S: Source, O: Sink, E: Sink>(
         (use_of O.taken O.faults out.old out.new) (use_of E.taken E.faults err.old err.new) result }
     // When each status comes.
     ensures causes { IsCaused (direction_of (map (λ w. string_bytes w) words.now))
+        (use_of S.left S.faults source.old source.new)
+        (use_of O.taken O.faults out.old out.new) (use_of E.taken E.faults err.old err.new) result }
+    // Where the words ask for a translation, the source tells that it has these bytes left, at most 16,777,216, no call failed and memory
+    // sufficed, the status is `Done` or `Text`, as the text has no malformed word or has one.
+    ensures succeeds { TranslatesWhole (direction_of (map (λ w. string_bytes w) words.now))
         (use_of S.left S.faults source.old source.new)
         (use_of O.taken O.faults out.old out.new) (use_of E.taken E.faults err.old err.new) result }
     // A fault is told only where a call failed.

@@ -1,4 +1,5 @@
 use Rattle.nk_notation.proofs.Endings.{caused, tells_faults, tells_read, tells_usage, tells_write}
+use Rattle.nk_notation.proofs.Succeeding.{succeeds}
 use Rattle.nk_notation.proofs.top.translate_by_words.Goals as goal
 
 -- all of them follow from how the run ends
@@ -16,3 +17,6 @@ returns-clause-write_faults g c = tells_write _ _ _ _ _ c.translate_words.ensure
 
 pub returns-clause-usage : goal.returns-clause-usage
 returns-clause-usage g c = tells_usage _ _ _ _ _ c.translate_words.ensures.answers
+
+pub returns-clause-succeeds : goal.returns-clause-succeeds
+returns-clause-succeeds g c = succeeds _ _ _ _ _ c.translate_words.ensures.answers
