@@ -1,5 +1,5 @@
 //! What is asked: a text, and how the source and the sinks behave.
-use nk_io::{MemSink, MemSource};
+use nk_io::{CountSink, MemSink, MemSource};
 use nk_notation::translate_by_words;
 use std::alloc::{AllocError, Global};
 use std::io;
@@ -60,6 +60,8 @@ impl Asked {
             self.text.push('\n')?;
         } else if let Some(more) = line.strip_prefix(".") {
             self.text.push_str(more)?;
+        } else if let Some(more) = line.strip_prefix("*") {
+            repeat(&mut self.text, more)?;
         } else if let Some(numbers) = line.strip_prefix("calls ") {
             self.calls = three_of(numbers);
         } else if let Some(numbers) = line.strip_prefix("fails ") {
@@ -72,9 +74,7 @@ impl Asked {
     pub(crate) fn ask(&self, rt: &HostRuntime, words: &str) -> io::Result<()> {
         let alloc = rt.alloc();
         let words = listed(alloc, words)?;
-        let bytes = Vec::from_slice(alloc, self.text.as_bytes())?;
-        let fails = failing(alloc, self.fails.source)?;
-        let mut source = MemSource::new(bytes, self.calls.source.max(1) as usize, fails);
+        let mut source = self.source(alloc)?;
         let mut out = sink(alloc, self.calls.out, self.fails.out)?;
         let mut err = sink(alloc, self.calls.err, self.fails.err)?;
         let status = translate_by_words(alloc, &words, &mut source, &mut out, &mut err).code();
@@ -82,6 +82,37 @@ impl Asked {
         let told = String::from_utf8_lossy(alloc, err.taken())?;
         println!(rt; "status {status}\n[{printed}][{told}]")
     }
+
+    /// The same, with the number of the bytes that `out` took in place of these bytes. No call of `out` fails.
+    pub(crate) fn count(&self, rt: &HostRuntime, words: &str) -> io::Result<()> {
+        let alloc = rt.alloc();
+        let words = listed(alloc, words)?;
+        let mut source = self.source(alloc)?;
+        let mut out = CountSink::new();
+        let mut err = sink(alloc, self.calls.err, self.fails.err)?;
+        let status = translate_by_words(alloc, &words, &mut source, &mut out, &mut err).code();
+        let count = out.count();
+        let told = String::from_utf8_lossy(alloc, err.taken())?;
+        println!(rt; "status {status}\n[{count}][{told}]")
+    }
+
+    /// The text as a source.
+    fn source(&self, alloc: Global) -> Result<MemSource, AllocError> {
+        let bytes = Vec::from_slice(alloc, self.text.as_bytes())?;
+        let fails = failing(alloc, self.fails.source)?;
+        Ok(MemSource::new(bytes, self.calls.source.max(1) as usize, fails))
+    }
+}
+
+/// Puts words at the end, as often as the number before them says.
+fn repeat(text: &mut String, more: &str) -> Result<(), AllocError> {
+    if let Some((times, words)) = more.split_once(' ') {
+        let times: u32 = times.parse().unwrap_or(0);
+        for _ in 0..times {
+            text.push_str(words)?;
+        }
+    }
+    Ok(())
 }
 
 /// The numbers between spaces, 0 where one is missing.

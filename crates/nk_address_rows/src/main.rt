@@ -6,11 +6,13 @@
 //!     text                    a text begins, which is empty so far; each call takes all its bytes, and none fails
 //!     |LINE                   the text goes on with this line and a line feed
 //!     .LINE                   the text goes on with this line alone
+//!     *TIMES WORDS            the text goes on with these words, so often
 //!     calls SOURCE OUT ERR    how many bytes the source, `out` and `err` give or take at most in a call
 //!     fails SOURCE OUT ERR    which of their calls fails, counted from 1; 0 is none
 //!     $ WORD ..               asks for the answer to these words and this text
+//!     % WORD ..               the same of a long text
 //!
-//! The program prints each line `$ WORD ..`, the status, and in brackets what `out` and `err` took.
+//! The program prints each line `$ WORD ..`, the status, and in brackets what `out` and `err` took; after `%` how many bytes `out` took.
 #![tactic(auto)]
 
 mod asked;
@@ -31,6 +33,9 @@ fn answer(rt: &HostRuntime, name: &str) -> io::Result<()> {
         if let Some(words) = line.strip_prefix("$") {
             println!(rt; "{line}")?;
             asked.ask(rt, words)?;
+        } else if let Some(words) = line.strip_prefix("%") {
+            println!(rt; "{line}")?;
+            asked.count(rt, words)?;
         } else {
             asked.take(rt.alloc(), line)?;
         }
