@@ -13,7 +13,7 @@ use Rattle.nk_grammar.specs.declared.decl.Naming.{Naming}
 use Rattle.nk_grammar.specs.declared.decl.Naming.TheVariants as naming
 use Rattle.nk_grammar.specs.declared.decl.GrammarError.{GrammarError}
 use Rattle.nk_grammar.specs.declared.decl.GrammarError.TheVariants as error
-use Rattle.nk_grammar.specs.Terminal.{Terminal, name, number, tilde, opening, closing, plus_sign, semicolon, star_sign, equal, becomes, colon, fat_arrow, id_word, drop_word, dup_word, in_word, dots, outside, field_word, tag_word, switch_word, ports_word, link_word, let_word, fabric_word, virtual_word, by_word, arrow, comma, certificate_word, row_word, start_word, no_terminal, is_equal, is_colon_terminal}
+use Rattle.nk_grammar.specs.Terminal.{Terminal, outside, field_word, is_equal, is_colon_terminal}
 use Rattle.nk_grammar.specs.Tree.{Tree}
 use Rattle.nk_grammar.specs.Machine.{State, first_state, step, policy_ended, in_option, number_in, quad_step}
 use Rattle.nk_grammar.specs.File.{Declaration, field, tag, switch, declared_link, virtual_link}
@@ -52,37 +52,7 @@ more ds es d = append_assoc ds es (d ∷ [])
 
 begun : (ds es : List Declaration) (t : Terminal) → DeclaresAfter ds (begin_declaration (ds ++ es) t) (begin_declaration es t)
 begun ds es (outside field_word) = refl
-begun ds es (outside tag_word) = refl
-begun ds es (outside switch_word) = refl
-begun ds es (outside ports_word) = refl
-begun ds es (outside link_word) = refl
-begun ds es (outside (let_word line)) = refl
-begun ds es (outside (fabric_word line)) = refl
-begun ds es (outside virtual_word) = refl
-begun ds es (outside by_word) = refl
-begun ds es (outside arrow) = refl
-begun ds es (outside comma) = refl
-begun ds es (outside certificate_word) = refl
-begun ds es (outside (row_word line)) = refl
-begun ds es (outside start_word) = refl
-begun ds es (outside no_terminal) = refl
-begun ds es (name w) = refl
-begun ds es (number n) = refl
-begun ds es (tilde line) = refl
-begun ds es opening = refl
-begun ds es closing = refl
-begun ds es plus_sign = refl
-begun ds es semicolon = refl
-begun ds es star_sign = refl
-begun ds es equal = refl
-begun ds es becomes = refl
-begun ds es colon = refl
-begun ds es fat_arrow = refl
-begun ds es id_word = refl
-begun ds es drop_word = refl
-begun ds es dup_word = refl
-begun ds es in_word = refl
-begun ds es dots = refl
+begun ds es t = refl
 
 -- the same after one more declaration
 begun_more : (ds es : List Declaration) (d : Declaration) (t : Terminal)
@@ -135,22 +105,14 @@ read_after ds es (in_policy k w line s) t = policy ds es k w line (step s t) (po
 
 -- the end
 pub ended_after : (ds es : List Declaration) (p : Phase) → text_ended p (ds ++ es) ≡ option_map (λ l. ds ++ l) (text_ended p es)
-ended_after ds es between = refl
-ended_after ds es (name_wanted k) = refl
-ended_after ds es (field_named w) = refl
-ended_after ds es switch_read = refl
-ended_after ds es (switch_numbered n) = refl
-ended_after ds es (port_wanted n ps) = refl
 ended_after ds es (port_read n ps) = ap (λ l. Some l) (more ds es (switch n ps))
-ended_after ds es (link_read k q) = refl
-ended_after ds es (by_wanted a m b n) = refl
-ended_after ds es (policy_named k w line) = refl
 ended_after ds es (in_policy k w line s) = by_end (policy_ended s)
   where
     by_end : (o : Option Tree) → option_map (λ p. one_more (ds ++ es) (defined k w p line)) o
         ≡ option_map (λ l. ds ++ l) (option_map (λ p. one_more es (defined k w p line)) o)
     by_end None = refl
     by_end (Some p) = ap (λ l. Some l) (more ds es (defined k w p line))
+ended_after ds es p = refl
 
 -- a token is judged alike
 pub judged_after : (ds : List Declaration) (at : ℕ) (p p' : Phase) (es : List Declaration) (t : Terminal)

@@ -9,7 +9,7 @@ use Rattle.nk_lex.specs.declared.ident.Number.{Number}
 use Rattle.nk_lex.specs.Faults.{and_then}
 use Rattle.nk_grammar.specs.declared.decl.GrammarError.{GrammarError}
 use Rattle.nk_grammar.specs.declared.decl.GrammarError.TheVariants as error
-use Rattle.nk_grammar.specs.Terminal.{Terminal, name, number, tilde, opening, closing, plus_sign, semicolon, star_sign, equal, becomes, colon, fat_arrow, id_word, drop_word, dup_word, in_word, dots, outside, field_word, tag_word, switch_word, ports_word, link_word, let_word, fabric_word, virtual_word, by_word, arrow, comma, certificate_word, row_word, start_word, no_terminal, is_colon_terminal, terminal_of}
+use Rattle.nk_grammar.specs.Terminal.{Terminal, outside, row_word, start_word, is_colon_terminal, terminal_of}
 use Rattle.nk_grammar.specs.Tree.{Tree}
 use Rattle.nk_grammar.specs.Machine.{State, first_state, in_option, number_in, with_number, step, policy_ended}
 use Rattle.nk_grammar.specs.File.{Declaration}
@@ -172,12 +172,8 @@ module _ (ds : List Declaration) where
   end_after : (p : CertifiedPhase) (es : List Declaration) (rs : List Row) → IsInRows p
       → certified_ended p ds rs ≡ option_map certified_after (certified_ended p es rs)
   end_after (declaring r) es rs h = absurd h
-  end_after row_wanted es rs h = refl
-  end_after (start_wanted line) es rs h = refl
-  end_after (start_read line) es rs h = refl
-  end_after (number_wanted line) es rs h = refl
-  end_after (numbers_read line ns) es rs h = refl
   end_after (in_row line ns s) es rs h = last_after es rs ns line (policy_ended s)
+  end_after p es rs h = refl
 
   all_tokens : (us : List Token) → map (λ t. t) us ≡ us
   all_tokens [] = refl
@@ -215,72 +211,12 @@ module _ (lines places : ℕ) where
   certified_further c = certified c.declarations (map (row_moved lines) c.rows)
 
   row_in_moves : (t : Terminal) → row_in (terminal_moved lines t) ≡ option_map (λ n. n + lines) (row_in t)
-  row_in_moves (name w) = refl
-  row_in_moves (number n) = refl
-  row_in_moves (tilde l) = refl
-  row_in_moves opening = refl
-  row_in_moves closing = refl
-  row_in_moves plus_sign = refl
-  row_in_moves semicolon = refl
-  row_in_moves star_sign = refl
-  row_in_moves equal = refl
-  row_in_moves becomes = refl
-  row_in_moves colon = refl
-  row_in_moves fat_arrow = refl
-  row_in_moves id_word = refl
-  row_in_moves drop_word = refl
-  row_in_moves dup_word = refl
-  row_in_moves in_word = refl
-  row_in_moves dots = refl
-  row_in_moves (outside field_word) = refl
-  row_in_moves (outside tag_word) = refl
-  row_in_moves (outside switch_word) = refl
-  row_in_moves (outside ports_word) = refl
-  row_in_moves (outside link_word) = refl
-  row_in_moves (outside (let_word l)) = refl
-  row_in_moves (outside (fabric_word l)) = refl
-  row_in_moves (outside virtual_word) = refl
-  row_in_moves (outside by_word) = refl
-  row_in_moves (outside arrow) = refl
-  row_in_moves (outside comma) = refl
-  row_in_moves (outside certificate_word) = refl
   row_in_moves (outside (row_word l)) = refl
-  row_in_moves (outside start_word) = refl
-  row_in_moves (outside no_terminal) = refl
+  row_in_moves t = refl
 
   start_moves : (t : Terminal) → is_start_word (terminal_moved lines t) ≡ is_start_word t
-  start_moves (name w) = refl
-  start_moves (number n) = refl
-  start_moves (tilde l) = refl
-  start_moves opening = refl
-  start_moves closing = refl
-  start_moves plus_sign = refl
-  start_moves semicolon = refl
-  start_moves star_sign = refl
-  start_moves equal = refl
-  start_moves becomes = refl
-  start_moves colon = refl
-  start_moves fat_arrow = refl
-  start_moves id_word = refl
-  start_moves drop_word = refl
-  start_moves dup_word = refl
-  start_moves in_word = refl
-  start_moves dots = refl
-  start_moves (outside field_word) = refl
-  start_moves (outside tag_word) = refl
-  start_moves (outside switch_word) = refl
-  start_moves (outside ports_word) = refl
-  start_moves (outside link_word) = refl
-  start_moves (outside (let_word l)) = refl
-  start_moves (outside (fabric_word l)) = refl
-  start_moves (outside virtual_word) = refl
-  start_moves (outside by_word) = refl
-  start_moves (outside arrow) = refl
-  start_moves (outside comma) = refl
-  start_moves (outside certificate_word) = refl
-  start_moves (outside (row_word l)) = refl
   start_moves (outside start_word) = refl
-  start_moves (outside no_terminal) = refl
+  start_moves t = refl
 
   -- a row that is done
   row_further : (rs : List Row) (ns : List ℕ) (p : Tree) (line : ℕ)
@@ -343,13 +279,8 @@ module _ (lines places : ℕ) where
 
   opens_further : (p : CertifiedPhase) (ds : List Declaration) (rs : List Row)
       → open_certified (certifying (phase_moved p) ds (map (row_moved lines) rs)) ≡ open_certified (certifying p ds rs)
-  opens_further (declaring r) ds rs = refl
-  opens_further row_wanted ds rs = refl
-  opens_further (start_wanted line) ds rs = refl
-  opens_further (start_read line) ds rs = refl
-  opens_further (number_wanted line) ds rs = refl
-  opens_further (numbers_read line ns) ds rs = refl
   opens_further (in_row line ns s) ds rs = open_moves lines s
+  opens_further p ds rs = refl
 
   last_further : (ds : List Declaration) (rs : List Row) (ns : List ℕ) (line : ℕ) (o : Option Tree)
       → certificate_ends ds (map (row_moved lines) rs) ns (line + lines) (option_map (tree_moved lines) o) ≡ option_map certified_further (certificate_ends ds rs ns line o)
@@ -359,13 +290,9 @@ module _ (lines places : ℕ) where
   end_further : (p : CertifiedPhase) (ds : List Declaration) (rs : List Row) → IsInRows p
       → certified_ended (phase_moved p) ds (map (row_moved lines) rs) ≡ option_map certified_further (certified_ended p ds rs)
   end_further (declaring r) ds rs h = absurd h
-  end_further row_wanted ds rs h = refl
-  end_further (start_wanted line) ds rs h = refl
-  end_further (start_read line) ds rs h = refl
-  end_further (number_wanted line) ds rs h = refl
-  end_further (numbers_read line ns) ds rs h = refl
   end_further (in_row line ns s) ds rs h =
       ap (certificate_ends ds (map (row_moved lines) rs) ns (line + lines)) (end_moves lines s) ∙ last_further ds rs ns line (policy_ended s)
+  end_further p ds rs h = refl
 
   -- the rows that are read of tokens further on
   pub rows_further : (us : List Token) (rs : List Row) (line : ℕ)

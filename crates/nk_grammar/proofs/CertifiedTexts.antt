@@ -5,12 +5,12 @@ use Rattle.nk_lex.specs.declared.ident.Ident.{Ident}
 use Rattle.nk_lex.specs.declared.ident.Number.{Number}
 use Rattle.nk_grammar.specs.declared.place.Quad.TheVariants as quad
 use Rattle.nk_grammar.specs.declared.decl.PolicyKeyword.{PolicyKeyword}
-use Rattle.nk_grammar.specs.Terminal.{Terminal, name, number, tilde, opening, closing, plus_sign, semicolon, star_sign, equal, becomes, colon, fat_arrow, id_word, drop_word, dup_word, in_word, dots, outside, is_colon_terminal, field_word, tag_word, switch_word, ports_word, link_word, let_word, fabric_word, virtual_word, by_word, arrow, comma, certificate_word, row_word, start_word, no_terminal}
+use Rattle.nk_grammar.specs.Terminal.{Terminal, number, colon, id_word, outside, is_colon_terminal, certificate_word, row_word, start_word}
 use Rattle.nk_grammar.specs.Tree.{Tree}
 use Rattle.nk_grammar.specs.Grammar.{Pol, spell_pol, pol_tree, HasTree}
 use Rattle.nk_grammar.specs.Machine.{State, first_state, with_number, step, run, policy_ended}
 use Rattle.nk_grammar.specs.File.{Declaration, declared, spell_file, HasDeclarations}
-use Rattle.nk_grammar.specs.FileMachine.{Phase, between, name_wanted, field_named, switch_read, switch_numbered, port_wanted, port_read, link_read, by_wanted, policy_named, in_policy, Reading, policy_on, policy_done, next_reading, read_one, read_all, first_reading, declarations_at_end}
+use Rattle.nk_grammar.specs.FileMachine.{Phase, link_read, in_policy, Reading, policy_on, policy_done, next_reading, read_one, read_all, first_reading, declarations_at_end}
 use Rattle.nk_grammar.specs.Certified.{Row, row, WrittenRow, written_row, spell_numbers, spell_row, spell_rows, number_value, row_of, spell_certificate, rows_said, Certified, certified, HasCertificate, CertifiedGoesOn}
 use Rattle.nk_grammar.specs.CertifiedMachine.{CertifiedPhase, declaring, row_wanted, start_wanted, start_read, number_wanted, numbers_read, in_row, Certifying, certifying, is_certificate, is_start_word, with_row, certificate_begins, still_declaring, row_done, row_on, next_certifying, certify_one, certify_all, first_certifying, certificate_ends, certified_ended, certified_at_end}
 use Rattle.nk_grammar.proofs.Fronts.{reads_only, goes_on, run_append, none_some}
@@ -27,59 +27,15 @@ policy_certificate k w line ds (Some p) = refl
 
 -- no declaration takes the word `certificate`
 certificate_refused : (p : Phase) (ds : List Declaration) → next_reading p ds (outside certificate_word) ≡ None
-certificate_refused between ds = refl
-certificate_refused (name_wanted k) ds = refl
-certificate_refused (field_named w) ds = refl
-certificate_refused switch_read ds = refl
-certificate_refused (switch_numbered n) ds = refl
-certificate_refused (port_wanted n ps) ds = refl
-certificate_refused (port_read n ps) ds = refl
 certificate_refused (link_read k quad.Start) ds = refl
-certificate_refused (link_read k (quad.Switch a)) ds = refl
-certificate_refused (link_read k (quad.SwitchColon a)) ds = refl
-certificate_refused (link_read k (quad.Port a m)) ds = refl
-certificate_refused (link_read k (quad.Arrow a m)) ds = refl
-certificate_refused (link_read k (quad.ToSwitch a m b)) ds = refl
-certificate_refused (link_read k (quad.ToColon a m b)) ds = refl
-certificate_refused (by_wanted a m b n) ds = refl
-certificate_refused (policy_named k w line) ds = refl
 certificate_refused (in_policy k w line s) ds =
     ap (λ o. policy_on k w line ds o (policy_ended s) (outside certificate_word)) (outside_refused s.place s.frames s.terms s.factors certificate_word) ∙ policy_certificate k w line ds (policy_ended s)
+certificate_refused p ds = refl
 
 -- a token that declarations take is not that word
 pub not_certificate : (r s : Reading) (t : Terminal) → read_one r t ≡ Some s → is_certificate t ≡ false
-not_certificate r s (name x) e = refl
-not_certificate r s (number x) e = refl
-not_certificate r s (tilde l) e = refl
-not_certificate r s opening e = refl
-not_certificate r s closing e = refl
-not_certificate r s plus_sign e = refl
-not_certificate r s semicolon e = refl
-not_certificate r s star_sign e = refl
-not_certificate r s equal e = refl
-not_certificate r s becomes e = refl
-not_certificate r s colon e = refl
-not_certificate r s fat_arrow e = refl
-not_certificate r s id_word e = refl
-not_certificate r s drop_word e = refl
-not_certificate r s dup_word e = refl
-not_certificate r s in_word e = refl
-not_certificate r s dots e = refl
-not_certificate r s (outside field_word) e = refl
-not_certificate r s (outside tag_word) e = refl
-not_certificate r s (outside switch_word) e = refl
-not_certificate r s (outside ports_word) e = refl
-not_certificate r s (outside link_word) e = refl
-not_certificate r s (outside (let_word l)) e = refl
-not_certificate r s (outside (fabric_word l)) e = refl
-not_certificate r s (outside virtual_word) e = refl
-not_certificate r s (outside by_word) e = refl
-not_certificate r s (outside arrow) e = refl
-not_certificate r s (outside comma) e = refl
 not_certificate r s (outside certificate_word) e = absurd (none_some s (sym (certificate_refused r.phase r.declarations) ∙ e))
-not_certificate r s (outside (row_word l)) e = refl
-not_certificate r s (outside start_word) e = refl
-not_certificate r s (outside no_terminal) e = refl
+not_certificate r s t e = refl
 
 -- declarations are read before a certificate as they are alone
 declaring_inside : (xs rest : List Terminal) (r r' : Reading) (rs : List Row) → read_all xs r ≡ Some r'
@@ -243,178 +199,28 @@ CertifiedLeads (Some c) ts = IsCertifiedFront ts c.phase c.declarations c.rows
 
 -- where a number is wanted
 number_leads : (t : Terminal) (ts : List Terminal) (f : Number → Certifying) → ((n : Number) → t ≡ number n → CertifiedLeads (Some (f n)) ts) → CertifiedLeads (with_number t None (λ n. Some (f n))) ts
-number_leads (name x) ts f e = tt
 number_leads (number x) ts f e = e x refl
-number_leads (tilde l) ts f e = tt
-number_leads opening ts f e = tt
-number_leads closing ts f e = tt
-number_leads plus_sign ts f e = tt
-number_leads semicolon ts f e = tt
-number_leads star_sign ts f e = tt
-number_leads equal ts f e = tt
-number_leads becomes ts f e = tt
-number_leads colon ts f e = tt
-number_leads fat_arrow ts f e = tt
-number_leads id_word ts f e = tt
-number_leads drop_word ts f e = tt
-number_leads dup_word ts f e = tt
-number_leads in_word ts f e = tt
-number_leads dots ts f e = tt
-number_leads (outside field_word) ts f e = tt
-number_leads (outside tag_word) ts f e = tt
-number_leads (outside switch_word) ts f e = tt
-number_leads (outside ports_word) ts f e = tt
-number_leads (outside link_word) ts f e = tt
-number_leads (outside (let_word l)) ts f e = tt
-number_leads (outside (fabric_word l)) ts f e = tt
-number_leads (outside virtual_word) ts f e = tt
-number_leads (outside by_word) ts f e = tt
-number_leads (outside arrow) ts f e = tt
-number_leads (outside comma) ts f e = tt
-number_leads (outside certificate_word) ts f e = tt
-number_leads (outside (row_word l)) ts f e = tt
-number_leads (outside start_word) ts f e = tt
-number_leads (outside no_terminal) ts f e = tt
+number_leads t ts f e = tt
 
 -- where the word `row` is wanted
 row_leads : (t : Terminal) (ts : List Terminal) (f : ℕ → Certifying) → ((l : ℕ) → t ≡ outside (row_word l) → CertifiedLeads (Some (f l)) ts) → CertifiedLeads (with_row t None (λ l. Some (f l))) ts
-row_leads (name x) ts f e = tt
-row_leads (number x) ts f e = tt
-row_leads (tilde l) ts f e = tt
-row_leads opening ts f e = tt
-row_leads closing ts f e = tt
-row_leads plus_sign ts f e = tt
-row_leads semicolon ts f e = tt
-row_leads star_sign ts f e = tt
-row_leads equal ts f e = tt
-row_leads becomes ts f e = tt
-row_leads colon ts f e = tt
-row_leads fat_arrow ts f e = tt
-row_leads id_word ts f e = tt
-row_leads drop_word ts f e = tt
-row_leads dup_word ts f e = tt
-row_leads in_word ts f e = tt
-row_leads dots ts f e = tt
-row_leads (outside field_word) ts f e = tt
-row_leads (outside tag_word) ts f e = tt
-row_leads (outside switch_word) ts f e = tt
-row_leads (outside ports_word) ts f e = tt
-row_leads (outside link_word) ts f e = tt
-row_leads (outside (let_word l)) ts f e = tt
-row_leads (outside (fabric_word l)) ts f e = tt
-row_leads (outside virtual_word) ts f e = tt
-row_leads (outside by_word) ts f e = tt
-row_leads (outside arrow) ts f e = tt
-row_leads (outside comma) ts f e = tt
-row_leads (outside certificate_word) ts f e = tt
 row_leads (outside (row_word l)) ts f e = e l refl
-row_leads (outside start_word) ts f e = tt
-row_leads (outside no_terminal) ts f e = tt
+row_leads t ts f e = tt
 
--- where the word `first_state` is wanted
+-- where the word `start` is wanted
 start_leads : (t : Terminal) (ts : List Terminal) (c : Certifying) → (t ≡ outside start_word → CertifiedLeads (Some c) ts) → CertifiedLeads (if is_start_word t then Some c else None) ts
-start_leads (name x) ts c e = tt
-start_leads (number x) ts c e = tt
-start_leads (tilde l) ts c e = tt
-start_leads opening ts c e = tt
-start_leads closing ts c e = tt
-start_leads plus_sign ts c e = tt
-start_leads semicolon ts c e = tt
-start_leads star_sign ts c e = tt
-start_leads equal ts c e = tt
-start_leads becomes ts c e = tt
-start_leads colon ts c e = tt
-start_leads fat_arrow ts c e = tt
-start_leads id_word ts c e = tt
-start_leads drop_word ts c e = tt
-start_leads dup_word ts c e = tt
-start_leads in_word ts c e = tt
-start_leads dots ts c e = tt
-start_leads (outside field_word) ts c e = tt
-start_leads (outside tag_word) ts c e = tt
-start_leads (outside switch_word) ts c e = tt
-start_leads (outside ports_word) ts c e = tt
-start_leads (outside link_word) ts c e = tt
-start_leads (outside (let_word l)) ts c e = tt
-start_leads (outside (fabric_word l)) ts c e = tt
-start_leads (outside virtual_word) ts c e = tt
-start_leads (outside by_word) ts c e = tt
-start_leads (outside arrow) ts c e = tt
-start_leads (outside comma) ts c e = tt
-start_leads (outside certificate_word) ts c e = tt
-start_leads (outside (row_word l)) ts c e = tt
 start_leads (outside start_word) ts c e = e refl
-start_leads (outside no_terminal) ts c e = tt
+start_leads t ts c e = tt
 
 -- where a colon may come
 colon_leads : (t : Terminal) (ts : List Terminal) (c : Certifying) (o : Option Certifying) → (t ≡ colon → CertifiedLeads (Some c) ts) → CertifiedLeads o ts → CertifiedLeads (if is_colon_terminal t then Some c else o) ts
-colon_leads (name x) ts c o e f = f
-colon_leads (number x) ts c o e f = f
-colon_leads (tilde l) ts c o e f = f
-colon_leads opening ts c o e f = f
-colon_leads closing ts c o e f = f
-colon_leads plus_sign ts c o e f = f
-colon_leads semicolon ts c o e f = f
-colon_leads star_sign ts c o e f = f
-colon_leads equal ts c o e f = f
-colon_leads becomes ts c o e f = f
 colon_leads colon ts c o e f = e refl
-colon_leads fat_arrow ts c o e f = f
-colon_leads id_word ts c o e f = f
-colon_leads drop_word ts c o e f = f
-colon_leads dup_word ts c o e f = f
-colon_leads in_word ts c o e f = f
-colon_leads dots ts c o e f = f
-colon_leads (outside field_word) ts c o e f = f
-colon_leads (outside tag_word) ts c o e f = f
-colon_leads (outside switch_word) ts c o e f = f
-colon_leads (outside ports_word) ts c o e f = f
-colon_leads (outside link_word) ts c o e f = f
-colon_leads (outside (let_word l)) ts c o e f = f
-colon_leads (outside (fabric_word l)) ts c o e f = f
-colon_leads (outside virtual_word) ts c o e f = f
-colon_leads (outside by_word) ts c o e f = f
-colon_leads (outside arrow) ts c o e f = f
-colon_leads (outside comma) ts c o e f = f
-colon_leads (outside certificate_word) ts c o e f = f
-colon_leads (outside (row_word l)) ts c o e f = f
-colon_leads (outside start_word) ts c o e f = f
-colon_leads (outside no_terminal) ts c o e f = f
+colon_leads t ts c o e f = f
 
 -- where the word `certificate` may come
 certificate_leads : (t : Terminal) (ts : List Terminal) (o o' : Option Certifying) → (t ≡ outside certificate_word → CertifiedLeads o ts) → CertifiedLeads o' ts → CertifiedLeads (if is_certificate t then o else o') ts
-certificate_leads (name x) ts o o' e f = f
-certificate_leads (number x) ts o o' e f = f
-certificate_leads (tilde l) ts o o' e f = f
-certificate_leads opening ts o o' e f = f
-certificate_leads closing ts o o' e f = f
-certificate_leads plus_sign ts o o' e f = f
-certificate_leads semicolon ts o o' e f = f
-certificate_leads star_sign ts o o' e f = f
-certificate_leads equal ts o o' e f = f
-certificate_leads becomes ts o o' e f = f
-certificate_leads colon ts o o' e f = f
-certificate_leads fat_arrow ts o o' e f = f
-certificate_leads id_word ts o o' e f = f
-certificate_leads drop_word ts o o' e f = f
-certificate_leads dup_word ts o o' e f = f
-certificate_leads in_word ts o o' e f = f
-certificate_leads dots ts o o' e f = f
-certificate_leads (outside field_word) ts o o' e f = f
-certificate_leads (outside tag_word) ts o o' e f = f
-certificate_leads (outside switch_word) ts o o' e f = f
-certificate_leads (outside ports_word) ts o o' e f = f
-certificate_leads (outside link_word) ts o o' e f = f
-certificate_leads (outside (let_word l)) ts o o' e f = f
-certificate_leads (outside (fabric_word l)) ts o o' e f = f
-certificate_leads (outside virtual_word) ts o o' e f = f
-certificate_leads (outside by_word) ts o o' e f = f
-certificate_leads (outside arrow) ts o o' e f = f
-certificate_leads (outside comma) ts o o' e f = f
 certificate_leads (outside certificate_word) ts o o' e f = e refl
-certificate_leads (outside (row_word l)) ts o o' e f = f
-certificate_leads (outside start_word) ts o o' e f = f
-certificate_leads (outside no_terminal) ts o o' e f = f
+certificate_leads t ts o o' e f = f
 
 -- the next token after the word `certificate`
 same_text : (xs ts us vs : List Terminal) (t : Terminal) → ts ≡ xs ++ outside certificate_word ∷ us → us ++ t ∷ [] ≡ vs → ts ++ t ∷ [] ≡ xs ++ outside certificate_word ∷ vs
@@ -632,12 +438,6 @@ certified_goes_on ts c e = phase_completes c.phase c.declarations c.rows ts (fro
 
 -- what may end is a text
 phase_ends : (p : CertifiedPhase) (ds : List Declaration) (rows : List Row) (x : Certified) (ts : List Terminal) → IsCertifiedFront ts p ds rows → certified_ended p ds rows ≡ Some x → HasCertificate ts x
-phase_ends (declaring r) ds rows x ts h e = absurd (none_some x e)
-phase_ends row_wanted ds rows x ts h e = absurd (none_some x e)
-phase_ends (start_wanted line) ds rows x ts h e = absurd (none_some x e)
-phase_ends (start_read line) ds rows x ts h e = absurd (none_some x e)
-phase_ends (number_wanted line) ds rows x ts h e = absurd (none_some x e)
-phase_ends (numbers_read line ns) ds rows x ts h e = absurd (none_some x e)
 phase_ends (in_row line ns s) ds rows x ts h e = by_end (policy_ended s) refl e
   where
     same : {a b : Certified} → ◌≡◌ {A = Option Certified} (Some a) (Some b) → a ≡ b
@@ -650,6 +450,7 @@ phase_ends (in_row line ns s) ds rows x ts h e = by_end (policy_ended s) refl e
         let done = row_complete line ns rows k.0 k.1 p k.4 (reads_only k.1 p (ap (option_and_then policy_ended) k.3 ∙ f)) in
         subst (HasCertificate ts) (same e)
         (all_of h.0 ts h.1 ds (rows ++ row ns p line ∷ []) h.2 h.3 (subst (λ y. AreRows y (rows ++ row ns p line ∷ [])) (sym k.2) done))
+phase_ends p ds rows x ts h e = absurd (none_some x e)
 
 -- what may end is a text with a certificate
 pub ends_certified : (ts : List Terminal) (c : Certifying) (x : Certified) → certify_all ts first_certifying ≡ Some c → certified_at_end c ≡ Some x → HasCertificate ts x

@@ -17,7 +17,7 @@ use Rattle.nk_grammar.specs.declared.decl.LinkKeyword.TheVariants as links
 use Rattle.nk_grammar.specs.declared.decl.Naming.{Naming}
 use Rattle.nk_grammar.specs.declared.decl.Naming.TheVariants as naming
 use Rattle.nk_grammar.specs.declared.decl.GrammarError.TheVariants as error
-use Rattle.nk_grammar.specs.Terminal.{Terminal, name, number, tilde, opening, closing, plus_sign, semicolon, star_sign, equal, becomes, colon, fat_arrow, id_word, drop_word, dup_word, in_word, dots, outside, field_word, tag_word, switch_word, ports_word, link_word, let_word, fabric_word, virtual_word, by_word, arrow, comma, certificate_word, row_word, start_word, no_terminal, is_equal, is_colon_terminal, terminal_of}
+use Rattle.nk_grammar.specs.Terminal.{Terminal, number, opening, outside, field_word, tag_word, switch_word, link_word, let_word, fabric_word, virtual_word, is_equal, is_colon_terminal, terminal_of}
 use Rattle.nk_grammar.specs.Tree.{Tree, dup}
 use Rattle.nk_grammar.specs.Machine.{State, first_state, step, policy_ended, in_option, number_in, quad_step}
 use Rattle.nk_grammar.specs.File.{Declaration, IsWritten, declaration_of, field, tag, switch, declared_link, definition, fabric, virtual_link}
@@ -89,41 +89,11 @@ test_kept I false x y h i = i
 -- ---- numbers
 
 a_small_number : (t : Terminal) (m : Number) → number_in t ≡ Some m → IsSmall t → m.value ≤ largest
-a_small_number (outside field_word) m e h = absurd (none_some m e)
-a_small_number (outside tag_word) m e h = absurd (none_some m e)
-a_small_number (outside switch_word) m e h = absurd (none_some m e)
-a_small_number (outside ports_word) m e h = absurd (none_some m e)
-a_small_number (outside link_word) m e h = absurd (none_some m e)
-a_small_number (outside (let_word line)) m e h = absurd (none_some m e)
-a_small_number (outside (fabric_word line)) m e h = absurd (none_some m e)
-a_small_number (outside virtual_word) m e h = absurd (none_some m e)
-a_small_number (outside by_word) m e h = absurd (none_some m e)
-a_small_number (outside arrow) m e h = absurd (none_some m e)
-a_small_number (outside comma) m e h = absurd (none_some m e)
-a_small_number (outside certificate_word) m e h = absurd (none_some m e)
-a_small_number (outside (row_word line)) m e h = absurd (none_some m e)
-a_small_number (outside start_word) m e h = absurd (none_some m e)
-a_small_number (outside no_terminal) m e h = absurd (none_some m e)
-a_small_number (name w) m e h = absurd (none_some m e)
 a_small_number (number n) m e h = subst (λ x. x.value ≤ largest) (same n m e) h
   where
     same : (a b : Number) → ◌≡◌ {A = Option Number} (Some a) (Some b) → a ≡ b
     same a b e = cc
-a_small_number (tilde line) m e h = absurd (none_some m e)
-a_small_number opening m e h = absurd (none_some m e)
-a_small_number closing m e h = absurd (none_some m e)
-a_small_number plus_sign m e h = absurd (none_some m e)
-a_small_number semicolon m e h = absurd (none_some m e)
-a_small_number star_sign m e h = absurd (none_some m e)
-a_small_number equal m e h = absurd (none_some m e)
-a_small_number becomes m e h = absurd (none_some m e)
-a_small_number colon m e h = absurd (none_some m e)
-a_small_number fat_arrow m e h = absurd (none_some m e)
-a_small_number id_word m e h = absurd (none_some m e)
-a_small_number drop_word m e h = absurd (none_some m e)
-a_small_number dup_word m e h = absurd (none_some m e)
-a_small_number in_word m e h = absurd (none_some m e)
-a_small_number dots m e h = absurd (none_some m e)
+a_small_number t m e h = absurd (none_some m e)
 
 -- the declarations have numbers of a text
 abbrev DeclaresWritten : Option Reading → Type 0
@@ -150,35 +120,11 @@ begun : (ds : List Declaration) (t : Terminal) → All IsWritten ds → Declares
 begun ds (outside field_word) h = h
 begun ds (outside tag_word) h = h
 begun ds (outside switch_word) h = h
-begun ds (outside ports_word) h = tt
 begun ds (outside link_word) h = h
 begun ds (outside (let_word line)) h = h
 begun ds (outside (fabric_word line)) h = h
 begun ds (outside virtual_word) h = h
-begun ds (outside by_word) h = tt
-begun ds (outside arrow) h = tt
-begun ds (outside comma) h = tt
-begun ds (outside certificate_word) h = tt
-begun ds (outside (row_word line)) h = tt
-begun ds (outside start_word) h = tt
-begun ds (outside no_terminal) h = tt
-begun ds (name w) h = tt
-begun ds (number n) h = tt
-begun ds (tilde line) h = tt
-begun ds opening h = tt
-begun ds closing h = tt
-begun ds plus_sign h = tt
-begun ds semicolon h = tt
-begun ds star_sign h = tt
-begun ds equal h = tt
-begun ds becomes h = tt
-begun ds colon h = tt
-begun ds fat_arrow h = tt
-begun ds id_word h = tt
-begun ds drop_word h = tt
-begun ds dup_word h = tt
-begun ds in_word h = tt
-begun ds dots h = tt
+begun ds t h = tt
 
 named_written : (ds : List Declaration) (k : Naming) (w : Ident) → All IsWritten ds → All IsWritten (named k w ds).declarations
 named_written ds naming.Field w h = h
@@ -231,20 +177,13 @@ IsWrittenSoFar p ds rs = All IsWritten ds × All IsWrittenRow rs × HasSmallPosi
 certificate_written : (rs : List Row) (ds : List Declaration) (p : Phase) → All IsWritten ds → All IsWrittenRow rs
     → OfState IsWrittenSoFar (certificate_begins rs (text_ended p ds))
 certificate_written rs ds between h i = (h, i, tt)
-certificate_written rs ds (name_wanted k) h i = tt
-certificate_written rs ds (field_named w) h i = tt
-certificate_written rs ds switch_read h i = tt
-certificate_written rs ds (switch_numbered n) h i = tt
-certificate_written rs ds (port_wanted n ps) h i = tt
 certificate_written rs ds (port_read n ps) h i = (pushed ds (switch n ps) h tt, i, tt)
-certificate_written rs ds (link_read k q) h i = tt
-certificate_written rs ds (by_wanted a m b n) h i = tt
-certificate_written rs ds (policy_named k w line) h i = tt
 certificate_written rs ds (in_policy k w line s) h i = by_end (policy_ended s)
   where
     by_end : (o : Option Tree) → OfState IsWrittenSoFar (certificate_begins rs (option_map (λ p. one_more ds (defined k w p line)) o))
     by_end None = tt
     by_end (Some p) = (policy_pushed ds k w p line h, i, tt)
+certificate_written rs ds p h i = tt
 
 still_written : (rs : List Row) (o : Option Reading) → DeclaresWritten o → All IsWrittenRow rs → OfState IsWrittenSoFar (still_declaring rs o)
 still_written rs None h i = tt
@@ -341,13 +280,10 @@ begins_before [] qs h = tt
 begins_before (row ns p line ∷ rs) qs h = h
 
 begins_so : (p : CertifiedPhase) (ds : List Declaration) (rs : List Row) → IsStarted p ds rs → BeginsWithStart rs
-begins_so (declaring r) ds rs h = subst BeginsWithStart (sym h) tt
-begins_so row_wanted ds rs h = subst BeginsWithStart (sym h) tt
-begins_so (start_wanted line) ds rs h = subst BeginsWithStart (sym h) tt
-begins_so (start_read line) ds rs h = subst BeginsWithStart (sym h) tt
 begins_so (number_wanted line) ds rs h = begins_with rs h
 begins_so (numbers_read line ns) ds rs h = begins_with rs h
 begins_so (in_row line ns s) ds rs h = begins_before rs (row ns dup line ∷ []) (h dup)
+begins_so p ds rs h = subst BeginsWithStart (sym h) tt
 
 -- ---- what is read
 

@@ -9,7 +9,7 @@ use Rattle.nk_grammar.specs.declared.place.Quad.{Quad}
 use Rattle.nk_grammar.specs.declared.place.Quad.TheVariants as quad
 use Rattle.nk_grammar.specs.declared.place.QuadNext.{QuadNext}
 use Rattle.nk_grammar.specs.declared.place.QuadNext.TheVariants as next
-use Rattle.nk_grammar.specs.Terminal.{Terminal, name, number, tilde, opening, closing, plus_sign, semicolon, star_sign, equal, becomes, colon, fat_arrow, id_word, drop_word, dup_word, in_word, dots, outside, is_equal, is_in_word, is_dots, is_becomes}
+use Rattle.nk_grammar.specs.Terminal.{Terminal, name, number, tilde, opening, closing, plus_sign, semicolon, star_sign, equal, becomes, colon, fat_arrow, id_word, drop_word, dup_word, in_word, dots, is_equal, is_in_word, is_dots, is_becomes}
 use Rattle.nk_grammar.specs.Tree.{Tree, Trees, name_of, test, range, assign, no_part, with_part, sum_from, seq_from}
 use Rattle.nk_grammar.specs.Grammar.{Pol, Term, Factor, Atom, one_term, plus, one_factor, semi, plain, starred, written_not, written_id, written_drop, written_dup, written_name, written_test, written_range, written_set, written_link, paren, spell_pol, spell_term, spell_factor, spell_atom, terms_of, factors_of, factor_tree, atom_tree, HasTree, PolicyGoesOn}
 use Rattle.nk_grammar.specs.Machine.{Open, group, negation, State, state, first_state, atom_ended, terms_joined, close, with_number, quad_step, begin, linked, step, run, settled, policy_ended, done}
@@ -251,46 +251,19 @@ close_state (in_group c) sp st f =
 -- the machine goes as the fronts do
 standing_state : (o : Outer) (sp : Option Pol) (st : Option Term) (f : Factor) (t : Terminal)
     → step (state_of (stands o sp st f)) t ≡ option_map state_of (next_standing o sp st f t)
-standing_state o sp st f (name x) = refl
-standing_state o sp st f (number x) = refl
-standing_state o sp st f (tilde l) = refl
-standing_state o sp st f opening = refl
 standing_state o sp st f closing = close_state o sp st f
 standing_state o sp st f plus_sign = some (ap (λ x. state place.Want (outer_frames o) x no_part) (all_terms sp st f))
 standing_state o sp st f semicolon = some (ap (λ x. state place.Want (outer_frames o) (done_terms sp) x) (term_trees st f))
 standing_state o sp st f star_sign = some (ap (λ x. state (place.After true) (outer_frames o) (done_terms sp) x) (one_star f (done_factors st)))
-standing_state o sp st f equal = refl
-standing_state o sp st f becomes = refl
-standing_state o sp st f colon = refl
-standing_state o sp st f fat_arrow = refl
-standing_state o sp st f id_word = refl
-standing_state o sp st f drop_word = refl
-standing_state o sp st f dup_word = refl
-standing_state o sp st f in_word = refl
-standing_state o sp st f dots = refl
-standing_state o sp st f (outside z) = refl
+standing_state o sp st f t = refl
 
 -- the machine begins an atom alike
 wanted_state : (c : Before) (t : Terminal)
     → begin (frames_of c) (before_terms c) (before_factors c) t ≡ option_map state_of (next_wanted c t)
-wanted_state c (name x) = refl
-wanted_state c (number x) = refl
-wanted_state c (tilde l) = refl
-wanted_state c opening = refl
-wanted_state c closing = refl
-wanted_state c plus_sign = refl
-wanted_state c semicolon = refl
-wanted_state c star_sign = refl
-wanted_state c equal = refl
-wanted_state c becomes = refl
-wanted_state c colon = refl
-wanted_state c fat_arrow = refl
 wanted_state c id_word = some (sym (fill_state c written_id))
 wanted_state c drop_word = some (sym (fill_state c written_drop))
 wanted_state c dup_word = some (sym (fill_state c written_dup))
-wanted_state c in_word = refl
-wanted_state c dots = refl
-wanted_state c (outside z) = refl
+wanted_state c t = refl
 
 -- the machine goes on in a link alike
 linked_state : (c : Before) (q : QuadNext)
@@ -303,24 +276,8 @@ linked_state c (next.Full a m b n) = some (sym (fill_state c (written_link a m b
 number_state : (t : Terminal) (g : Number → State) (h : Number → Front)
     → ((n : Number) → g n ≡ state_of (h n))
     → with_number t None (λ n. Some (g n)) ≡ option_map state_of (with_number t None (λ n. Some (h n)))
-number_state (name x) g h e = refl
 number_state (number x) g h e = some (e x)
-number_state (tilde l) g h e = refl
-number_state opening g h e = refl
-number_state closing g h e = refl
-number_state plus_sign g h e = refl
-number_state semicolon g h e = refl
-number_state star_sign g h e = refl
-number_state equal g h e = refl
-number_state becomes g h e = refl
-number_state colon g h e = refl
-number_state fat_arrow g h e = refl
-number_state id_word g h e = refl
-number_state drop_word g h e = refl
-number_state dup_word g h e = refl
-number_state in_word g h e = refl
-number_state dots g h e = refl
-number_state (outside z) g h e = refl
+number_state t g h e = refl
 
 -- the machine goes on after an atom alike
 done_state : (c : Before) (a : Atom) (t : Terminal)
@@ -387,24 +344,11 @@ closed_spell (in_group c) sp st f =
 -- after a factor, the next front has the token
 standing_spell : (o : Outer) (sp : Option Pol) (st : Option Term) (f : Factor) (t : Terminal)
     → IsSpelledWith ((spell_outer o ++ pre sp st) ++ spell_factor f) t (next_standing o sp st f t)
-standing_spell o sp st f (name x) = tt
-standing_spell o sp st f (number x) = tt
-standing_spell o sp st f (tilde l) = tt
-standing_spell o sp st f opening = tt
 standing_spell o sp st f closing = closed_spell o sp st f
 standing_spell o sp st f plus_sign = following (spell_outer o) (pre sp st) (spell_factor f) plus_sign _ (plus_spell sp st f)
 standing_spell o sp st f semicolon = following (spell_outer o) (pre sp st) (spell_factor f) semicolon _ (semi_spell sp st f)
 standing_spell o sp st f star_sign = sym (append_assoc (spell_outer o ++ pre sp st) (spell_factor f) (star_sign ∷ []))
-standing_spell o sp st f equal = tt
-standing_spell o sp st f becomes = tt
-standing_spell o sp st f colon = tt
-standing_spell o sp st f fat_arrow = tt
-standing_spell o sp st f id_word = tt
-standing_spell o sp st f drop_word = tt
-standing_spell o sp st f dup_word = tt
-standing_spell o sp st f in_word = tt
-standing_spell o sp st f dots = tt
-standing_spell o sp st f (outside z) = tt
+standing_spell o sp st f t = tt
 
 -- where an atom is wanted, the next front has the token
 wanted_spell : (c : Before) (t : Terminal) → IsSpelledWith (spell_before c) t (next_wanted c t)
@@ -412,43 +356,17 @@ wanted_spell c (name x) = refl
 wanted_spell c (number x) = refl
 wanted_spell c (tilde l) = refl
 wanted_spell c opening = append-nil _
-wanted_spell c closing = tt
-wanted_spell c plus_sign = tt
-wanted_spell c semicolon = tt
-wanted_spell c star_sign = tt
-wanted_spell c equal = tt
-wanted_spell c becomes = tt
-wanted_spell c colon = tt
-wanted_spell c fat_arrow = tt
 wanted_spell c id_word = fill_spell c written_id
 wanted_spell c drop_word = fill_spell c written_drop
 wanted_spell c dup_word = fill_spell c written_dup
-wanted_spell c in_word = tt
-wanted_spell c dots = tt
-wanted_spell c (outside z) = tt
+wanted_spell c t = tt
 
 -- where a number is wanted, the next front has it
 number_spell : (t : Terminal) (ts : List Terminal) (h : Number → Front)
     → ((n : Number) → spell_front (h n) ≡ ts ++ number n ∷ [])
     → IsSpelledWith ts t (with_number t None (λ n. Some (h n)))
-number_spell (name x) ts h e = tt
 number_spell (number x) ts h e = e x
-number_spell (tilde l) ts h e = tt
-number_spell opening ts h e = tt
-number_spell closing ts h e = tt
-number_spell plus_sign ts h e = tt
-number_spell semicolon ts h e = tt
-number_spell star_sign ts h e = tt
-number_spell equal ts h e = tt
-number_spell becomes ts h e = tt
-number_spell colon ts h e = tt
-number_spell fat_arrow ts h e = tt
-number_spell id_word ts h e = tt
-number_spell drop_word ts h e = tt
-number_spell dup_word ts h e = tt
-number_spell in_word ts h e = tt
-number_spell dots ts h e = tt
-number_spell (outside z) ts h e = tt
+number_spell t ts h e = tt
 
 -- in a link literal, the next front has the token
 linked_spell : (c : Before) (ts : List Terminal) (t : Terminal) (q : QuadNext)
@@ -472,93 +390,29 @@ named_spell c w t = subst (λ ts. IsSpelledWith ts t (next_done (fill c (written
 equal_spell : (t : Terminal) (ts : List Terminal) (p : Front) (o : Option Front)
     → spell_front p ≡ ts ++ equal ∷ [] → IsSpelledWith ts t o
     → IsSpelledWith ts t (if is_equal t then Some p else o)
-equal_spell (name x) ts p o e f = f
-equal_spell (number x) ts p o e f = f
-equal_spell (tilde l) ts p o e f = f
-equal_spell opening ts p o e f = f
-equal_spell closing ts p o e f = f
-equal_spell plus_sign ts p o e f = f
-equal_spell semicolon ts p o e f = f
-equal_spell star_sign ts p o e f = f
 equal_spell equal ts p o e f = e
-equal_spell becomes ts p o e f = f
-equal_spell colon ts p o e f = f
-equal_spell fat_arrow ts p o e f = f
-equal_spell id_word ts p o e f = f
-equal_spell drop_word ts p o e f = f
-equal_spell dup_word ts p o e f = f
-equal_spell in_word ts p o e f = f
-equal_spell dots ts p o e f = f
-equal_spell (outside z) ts p o e f = f
+equal_spell t ts p o e f = f
 
 -- where `in` may come
 in_spell : (t : Terminal) (ts : List Terminal) (p : Front) (o : Option Front)
     → spell_front p ≡ ts ++ in_word ∷ [] → IsSpelledWith ts t o
     → IsSpelledWith ts t (if is_in_word t then Some p else o)
-in_spell (name x) ts p o e f = f
-in_spell (number x) ts p o e f = f
-in_spell (tilde l) ts p o e f = f
-in_spell opening ts p o e f = f
-in_spell closing ts p o e f = f
-in_spell plus_sign ts p o e f = f
-in_spell semicolon ts p o e f = f
-in_spell star_sign ts p o e f = f
-in_spell equal ts p o e f = f
-in_spell becomes ts p o e f = f
-in_spell colon ts p o e f = f
-in_spell fat_arrow ts p o e f = f
-in_spell id_word ts p o e f = f
-in_spell drop_word ts p o e f = f
-in_spell dup_word ts p o e f = f
 in_spell in_word ts p o e f = e
-in_spell dots ts p o e f = f
-in_spell (outside z) ts p o e f = f
+in_spell t ts p o e f = f
 
 -- where `..` may come
 dots_spell : (t : Terminal) (ts : List Terminal) (p : Front) (o : Option Front)
     → spell_front p ≡ ts ++ dots ∷ [] → IsSpelledWith ts t o
     → IsSpelledWith ts t (if is_dots t then Some p else o)
-dots_spell (name x) ts p o e f = f
-dots_spell (number x) ts p o e f = f
-dots_spell (tilde l) ts p o e f = f
-dots_spell opening ts p o e f = f
-dots_spell closing ts p o e f = f
-dots_spell plus_sign ts p o e f = f
-dots_spell semicolon ts p o e f = f
-dots_spell star_sign ts p o e f = f
-dots_spell equal ts p o e f = f
-dots_spell becomes ts p o e f = f
-dots_spell colon ts p o e f = f
-dots_spell fat_arrow ts p o e f = f
-dots_spell id_word ts p o e f = f
-dots_spell drop_word ts p o e f = f
-dots_spell dup_word ts p o e f = f
-dots_spell in_word ts p o e f = f
 dots_spell dots ts p o e f = e
-dots_spell (outside z) ts p o e f = f
+dots_spell t ts p o e f = f
 
 -- where `:=` may come
 becomes_spell : (t : Terminal) (ts : List Terminal) (p : Front) (o : Option Front)
     → spell_front p ≡ ts ++ becomes ∷ [] → IsSpelledWith ts t o
     → IsSpelledWith ts t (if is_becomes t then Some p else o)
-becomes_spell (name x) ts p o e f = f
-becomes_spell (number x) ts p o e f = f
-becomes_spell (tilde l) ts p o e f = f
-becomes_spell opening ts p o e f = f
-becomes_spell closing ts p o e f = f
-becomes_spell plus_sign ts p o e f = f
-becomes_spell semicolon ts p o e f = f
-becomes_spell star_sign ts p o e f = f
-becomes_spell equal ts p o e f = f
 becomes_spell becomes ts p o e f = e
-becomes_spell colon ts p o e f = f
-becomes_spell fat_arrow ts p o e f = f
-becomes_spell id_word ts p o e f = f
-becomes_spell drop_word ts p o e f = f
-becomes_spell dup_word ts p o e f = f
-becomes_spell in_word ts p o e f = f
-becomes_spell dots ts p o e f = f
-becomes_spell (outside z) ts p o e f = f
+becomes_spell t ts p o e f = f
 
 -- the next front is spelled with the token
 next_spell : (p : Front) (t : Terminal) → IsSpelledWith (spell_front p) t (next_front p t)
@@ -708,16 +562,10 @@ filled_ends (negated c line) a t e = filled_ends c (written_not line a) t e
 
 -- a front that may end is a policy
 front_ends : (p : Front) (t : Tree) → policy_ended (state_of p) ≡ Some t → HasTree (spell_front p) t
-front_ends (wants c) t e = absurd (none_some t e)
-front_ends (tested c w) t e = absurd (none_some t e)
-front_ends (ranged c w) t e = absurd (none_some t e)
-front_ends (ranged_from c w a) t e = absurd (none_some t e)
-front_ends (ranged_to c w a) t e = absurd (none_some t e)
-front_ends (assigned c w) t e = absurd (none_some t e)
-front_ends (partly_linked c q) t e = absurd (none_some t e)
 front_ends (stands o sp st f) t e = standing_ends o sp st f t e
 front_ends (named c w) t e =
     subst (λ ts. HasTree ts t) (fill_spell c (written_name w)) (filled_ends c (written_name w) t (ap done (fill_state c (written_name w)) ∙ e))
+front_ends p t e = absurd (none_some t e)
 
 -- what the machine reads as a policy is one
 pub reads_only : (ts : List Terminal) (t : Tree) → option_and_then policy_ended (run ts first_state) ≡ Some t

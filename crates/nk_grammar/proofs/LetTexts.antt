@@ -43,11 +43,8 @@ number_apart n (Lexeme.sign s ∷ ys) h = refl
 -- a symbol but the colon may stand before anything
 sign_apart : (s : Sign) (r : List Lexeme) → is_colon s ≡ false → IsApart (Lexeme.sign s) r
 sign_apart s [] h = tt
-sign_apart s (Lexeme.space ∷ ys) h = refl
-sign_apart s (Lexeme.line_feed ∷ ys) h = refl
-sign_apart s (Lexeme.word v ∷ ys) h = refl
-sign_apart s (Lexeme.numeral m ∷ ys) h = refl
 sign_apart s (Lexeme.sign t ∷ ys) h = ap (λ b. b && begins_with_equal t) h
+sign_apart s r h = refl
 
 -- a space may stand before anything
 pub space_apart : (r : List Lexeme) → IsApart Lexeme.space r

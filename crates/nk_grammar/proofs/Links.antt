@@ -6,7 +6,7 @@ use Rattle.nk_grammar.specs.declared.place.Quad.{Quad}
 use Rattle.nk_grammar.specs.declared.place.Quad.TheVariants as quad
 use Rattle.nk_grammar.specs.declared.place.QuadNext.{QuadNext}
 use Rattle.nk_grammar.specs.declared.place.QuadNext.TheVariants as next
-use Rattle.nk_grammar.specs.Terminal.{Terminal, name, number, tilde, opening, closing, plus_sign, semicolon, star_sign, equal, becomes, colon, fat_arrow, id_word, drop_word, dup_word, in_word, dots, outside, is_colon_terminal, is_link_sign, field_word, tag_word, switch_word, ports_word, link_word, let_word, fabric_word, virtual_word, by_word, arrow, comma, certificate_word, row_word, start_word, no_terminal}
+use Rattle.nk_grammar.specs.Terminal.{Terminal, number, colon, fat_arrow, outside, is_colon_terminal, is_link_sign, arrow}
 use Rattle.nk_grammar.specs.Machine.{with_number, quad_step}
 
 -- the sign between the two ends of a link
@@ -38,102 +38,23 @@ IsQuadSpelledWith literal ts t (next.Full a m b n) = spell_link literal a m b n 
 number_quad : (literal : Bool) (t : Terminal) (ts : List Terminal) (h : Number → QuadNext)
     → ((n : Number) → IsQuadSpelledWith literal ts (number n) (h n))
     → IsQuadSpelledWith literal ts t (with_number t next.Refused h)
-number_quad literal (name x) ts h e = tt
 number_quad literal (number x) ts h e = e x
-number_quad literal (tilde l) ts h e = tt
-number_quad literal opening ts h e = tt
-number_quad literal closing ts h e = tt
-number_quad literal plus_sign ts h e = tt
-number_quad literal semicolon ts h e = tt
-number_quad literal star_sign ts h e = tt
-number_quad literal equal ts h e = tt
-number_quad literal becomes ts h e = tt
-number_quad literal colon ts h e = tt
-number_quad literal fat_arrow ts h e = tt
-number_quad literal id_word ts h e = tt
-number_quad literal drop_word ts h e = tt
-number_quad literal dup_word ts h e = tt
-number_quad literal in_word ts h e = tt
-number_quad literal dots ts h e = tt
-number_quad literal (outside z) ts h e = tt
+number_quad literal t ts h e = tt
 
 -- where a link wants a colon, it has it
 colon_quad : (literal : Bool) (t : Terminal) (ts : List Terminal) (q : Quad)
     → spell_quad literal q ≡ ts ++ colon ∷ []
     → IsQuadSpelledWith literal ts t (if is_colon_terminal t then next.Going q else next.Refused)
-colon_quad literal (name x) ts q e = tt
-colon_quad literal (number x) ts q e = tt
-colon_quad literal (tilde l) ts q e = tt
-colon_quad literal opening ts q e = tt
-colon_quad literal closing ts q e = tt
-colon_quad literal plus_sign ts q e = tt
-colon_quad literal semicolon ts q e = tt
-colon_quad literal star_sign ts q e = tt
-colon_quad literal equal ts q e = tt
-colon_quad literal becomes ts q e = tt
 colon_quad literal colon ts q e = e
-colon_quad literal fat_arrow ts q e = tt
-colon_quad literal id_word ts q e = tt
-colon_quad literal drop_word ts q e = tt
-colon_quad literal dup_word ts q e = tt
-colon_quad literal in_word ts q e = tt
-colon_quad literal dots ts q e = tt
-colon_quad literal (outside z) ts q e = tt
+colon_quad literal t ts q e = tt
 
 -- where a link wants its middle sign, it has it
 between_quad : (literal : Bool) (t : Terminal) (ts : List Terminal) (q : Quad)
     → spell_quad literal q ≡ ts ++ between literal ∷ []
     → IsQuadSpelledWith literal ts t (if is_link_sign literal t then next.Going q else next.Refused)
-between_quad true (name x) ts q e = tt
-between_quad false (name x) ts q e = tt
-between_quad true (number x) ts q e = tt
-between_quad false (number x) ts q e = tt
-between_quad true (tilde l) ts q e = tt
-between_quad false (tilde l) ts q e = tt
-between_quad true opening ts q e = tt
-between_quad false opening ts q e = tt
-between_quad true closing ts q e = tt
-between_quad false closing ts q e = tt
-between_quad true plus_sign ts q e = tt
-between_quad false plus_sign ts q e = tt
-between_quad true semicolon ts q e = tt
-between_quad false semicolon ts q e = tt
-between_quad true star_sign ts q e = tt
-between_quad false star_sign ts q e = tt
-between_quad true equal ts q e = tt
-between_quad false equal ts q e = tt
-between_quad true becomes ts q e = tt
-between_quad false becomes ts q e = tt
-between_quad true colon ts q e = tt
-between_quad false colon ts q e = tt
 between_quad true fat_arrow ts q e = e
-between_quad false fat_arrow ts q e = tt
-between_quad true id_word ts q e = tt
-between_quad false id_word ts q e = tt
-between_quad true drop_word ts q e = tt
-between_quad false drop_word ts q e = tt
-between_quad true dup_word ts q e = tt
-between_quad true in_word ts q e = tt
-between_quad true dots ts q e = tt
-between_quad false dup_word ts q e = tt
-between_quad false in_word ts q e = tt
-between_quad false dots ts q e = tt
-between_quad true (outside z) ts q e = tt
-between_quad false (outside field_word) ts q e = tt
-between_quad false (outside tag_word) ts q e = tt
-between_quad false (outside switch_word) ts q e = tt
-between_quad false (outside ports_word) ts q e = tt
-between_quad false (outside link_word) ts q e = tt
-between_quad false (outside (let_word l)) ts q e = tt
-between_quad false (outside (fabric_word l)) ts q e = tt
-between_quad false (outside virtual_word) ts q e = tt
-between_quad false (outside by_word) ts q e = tt
 between_quad false (outside arrow) ts q e = e
-between_quad false (outside comma) ts q e = tt
-between_quad false (outside certificate_word) ts q e = tt
-between_quad false (outside (row_word l)) ts q e = tt
-between_quad false (outside start_word) ts q e = tt
-between_quad false (outside no_terminal) ts q e = tt
+between_quad literal t ts q e = tt
 
 -- a link's next part has the token
 pub quad_spell : (literal : Bool) (q : Quad) (t : Terminal)

@@ -13,7 +13,7 @@ use Rattle.nk_grammar.specs.declared.place.Quad.{Quad}
 use Rattle.nk_grammar.specs.declared.place.Quad.TheVariants as quad
 use Rattle.nk_grammar.specs.declared.place.QuadNext.{QuadNext}
 use Rattle.nk_grammar.specs.declared.place.QuadNext.TheVariants as next
-use Rattle.nk_grammar.specs.Terminal.{Terminal, Outside, name, number, tilde, opening, closing, plus_sign, semicolon, star_sign, equal, becomes, colon, fat_arrow, id_word, drop_word, dup_word, in_word, dots, outside, let_word, fabric_word, row_word, terminal_from, terminal_of, is_equal, is_in_word, is_dots, is_becomes, is_colon_terminal, is_link_sign}
+use Rattle.nk_grammar.specs.Terminal.{Terminal, Outside, name, number, tilde, closing, plus_sign, star_sign, equal, becomes, colon, fat_arrow, id_word, drop_word, dup_word, in_word, dots, outside, let_word, fabric_word, row_word, terminal_from, terminal_of, is_equal, is_in_word, is_dots, is_becomes, is_colon_terminal, is_link_sign}
 use Rattle.nk_grammar.specs.Tree.{Tree, Trees, name_of, test, range, assign, sum_of, seq_of, not_of, dup, link, no_part, part, with_part, with_star, sum_from, seq_from}
 use Rattle.nk_grammar.specs.Machine.{Open, group, negation, State, state, atom_ended, terms_joined, close, number_in, in_option, with_number, quad_step, begin, after_factor, linked, step_done, go_on_from, step_at, step, settled_at, settled, done_at, done, policy_ended}
 use Rattle.nk_grammar.specs.Moved.{word_moved, number_moved, tree_moved, trees_moved}
@@ -76,187 +76,39 @@ module _ (lines : ℕ) where
   from_moves : (k : Kind) (line value : ℕ) (text : List ℕ)
       → terminal_from k (line + lines) value text ≡ terminal_moved (terminal_from k line value text)
   from_moves kind.Name line value text = refl
-  from_moves kind.Number line value text = refl
-  from_moves kind.Field line value text = refl
-  from_moves kind.Tag line value text = refl
-  from_moves kind.Switch line value text = refl
-  from_moves kind.Ports line value text = refl
-  from_moves kind.Link line value text = refl
-  from_moves kind.Let line value text = refl
-  from_moves kind.Certificate line value text = refl
-  from_moves kind.Row line value text = refl
-  from_moves kind.Start line value text = refl
-  from_moves kind.Id line value text = refl
-  from_moves kind.Drop line value text = refl
-  from_moves kind.Dup line value text = refl
-  from_moves kind.Tables line value text = refl
-  from_moves kind.Table line value text = refl
-  from_moves kind.Group line value text = refl
-  from_moves kind.Out line value text = refl
-  from_moves kind.In line value text = refl
-  from_moves kind.Virtual line value text = refl
-  from_moves kind.Fabric line value text = refl
-  from_moves kind.By line value text = refl
-  from_moves kind.Plus line value text = refl
-  from_moves kind.Semicolon line value text = refl
-  from_moves kind.Star line value text = refl
-  from_moves kind.Tilde line value text = refl
-  from_moves kind.OpenParen line value text = refl
-  from_moves kind.CloseParen line value text = refl
-  from_moves kind.Equal line value text = refl
-  from_moves kind.Assign line value text = refl
-  from_moves kind.FatArrow line value text = refl
-  from_moves kind.Arrow line value text = refl
-  from_moves kind.Colon line value text = refl
-  from_moves kind.Comma line value text = refl
-  from_moves kind.Slash line value text = refl
-  from_moves kind.DotDot line value text = refl
-  from_moves kind.OpenBracket line value text = refl
-  from_moves kind.CloseBracket line value text = refl
+  from_moves k line value text = refl
 
   pub token_terminal : (places : ℕ) (t : Token) → terminal_of (token_moved lines places t) ≡ terminal_moved (terminal_of t)
   token_terminal places t = from_moves t.kind t.line t.value t.text
 
   pub number_in_moves : (t : Terminal) → number_in (terminal_moved t) ≡ option_map (number_moved lines) (number_in t)
-  number_in_moves (name w) = refl
   number_in_moves (number n) = refl
-  number_in_moves (tilde l) = refl
-  number_in_moves opening = refl
-  number_in_moves closing = refl
-  number_in_moves plus_sign = refl
-  number_in_moves semicolon = refl
-  number_in_moves star_sign = refl
-  number_in_moves equal = refl
-  number_in_moves becomes = refl
-  number_in_moves colon = refl
-  number_in_moves fat_arrow = refl
-  number_in_moves id_word = refl
-  number_in_moves drop_word = refl
-  number_in_moves dup_word = refl
-  number_in_moves in_word = refl
-  number_in_moves dots = refl
-  number_in_moves (outside z) = refl
+  number_in_moves t = refl
 
   equal_moves : (t : Terminal) → is_equal (terminal_moved t) ≡ is_equal t
-  equal_moves (name w) = refl
-  equal_moves (number n) = refl
-  equal_moves (tilde l) = refl
-  equal_moves opening = refl
-  equal_moves closing = refl
-  equal_moves plus_sign = refl
-  equal_moves semicolon = refl
-  equal_moves star_sign = refl
   equal_moves equal = refl
-  equal_moves becomes = refl
-  equal_moves colon = refl
-  equal_moves fat_arrow = refl
-  equal_moves id_word = refl
-  equal_moves drop_word = refl
-  equal_moves dup_word = refl
-  equal_moves in_word = refl
-  equal_moves dots = refl
-  equal_moves (outside z) = refl
+  equal_moves t = refl
 
   in_moves : (t : Terminal) → is_in_word (terminal_moved t) ≡ is_in_word t
-  in_moves (name w) = refl
-  in_moves (number n) = refl
-  in_moves (tilde l) = refl
-  in_moves opening = refl
-  in_moves closing = refl
-  in_moves plus_sign = refl
-  in_moves semicolon = refl
-  in_moves star_sign = refl
-  in_moves equal = refl
-  in_moves becomes = refl
-  in_moves colon = refl
-  in_moves fat_arrow = refl
-  in_moves id_word = refl
-  in_moves drop_word = refl
-  in_moves dup_word = refl
   in_moves in_word = refl
-  in_moves dots = refl
-  in_moves (outside z) = refl
+  in_moves t = refl
 
   dots_moves : (t : Terminal) → is_dots (terminal_moved t) ≡ is_dots t
-  dots_moves (name w) = refl
-  dots_moves (number n) = refl
-  dots_moves (tilde l) = refl
-  dots_moves opening = refl
-  dots_moves closing = refl
-  dots_moves plus_sign = refl
-  dots_moves semicolon = refl
-  dots_moves star_sign = refl
-  dots_moves equal = refl
-  dots_moves becomes = refl
-  dots_moves colon = refl
-  dots_moves fat_arrow = refl
-  dots_moves id_word = refl
-  dots_moves drop_word = refl
-  dots_moves dup_word = refl
-  dots_moves in_word = refl
   dots_moves dots = refl
-  dots_moves (outside z) = refl
+  dots_moves t = refl
 
   becomes_moves : (t : Terminal) → is_becomes (terminal_moved t) ≡ is_becomes t
-  becomes_moves (name w) = refl
-  becomes_moves (number n) = refl
-  becomes_moves (tilde l) = refl
-  becomes_moves opening = refl
-  becomes_moves closing = refl
-  becomes_moves plus_sign = refl
-  becomes_moves semicolon = refl
-  becomes_moves star_sign = refl
-  becomes_moves equal = refl
   becomes_moves becomes = refl
-  becomes_moves colon = refl
-  becomes_moves fat_arrow = refl
-  becomes_moves id_word = refl
-  becomes_moves drop_word = refl
-  becomes_moves dup_word = refl
-  becomes_moves in_word = refl
-  becomes_moves dots = refl
-  becomes_moves (outside z) = refl
+  becomes_moves t = refl
 
   pub colon_moves : (t : Terminal) → is_colon_terminal (terminal_moved t) ≡ is_colon_terminal t
-  colon_moves (name w) = refl
-  colon_moves (number n) = refl
-  colon_moves (tilde l) = refl
-  colon_moves opening = refl
-  colon_moves closing = refl
-  colon_moves plus_sign = refl
-  colon_moves semicolon = refl
-  colon_moves star_sign = refl
-  colon_moves equal = refl
-  colon_moves becomes = refl
   colon_moves colon = refl
-  colon_moves fat_arrow = refl
-  colon_moves id_word = refl
-  colon_moves drop_word = refl
-  colon_moves dup_word = refl
-  colon_moves in_word = refl
-  colon_moves dots = refl
-  colon_moves (outside z) = refl
+  colon_moves t = refl
 
   -- a literal's sign alone is asked for in a policy
   between_moves : (t : Terminal) → is_link_sign true (terminal_moved t) ≡ is_link_sign true t
-  between_moves (name w) = refl
-  between_moves (number n) = refl
-  between_moves (tilde l) = refl
-  between_moves opening = refl
-  between_moves closing = refl
-  between_moves plus_sign = refl
-  between_moves semicolon = refl
-  between_moves star_sign = refl
-  between_moves equal = refl
-  between_moves becomes = refl
-  between_moves colon = refl
   between_moves fat_arrow = refl
-  between_moves id_word = refl
-  between_moves drop_word = refl
-  between_moves dup_word = refl
-  between_moves in_word = refl
-  between_moves dots = refl
-  between_moves (outside z) = refl
+  between_moves t = refl
 
   -- ---- trees
 
@@ -330,13 +182,10 @@ module _ (lines : ℕ) where
       by_test false = h
 
   quad_moves : (q : Quad) (t : Terminal) → quad_step true (quad_moved q) (terminal_moved t) ≡ next_moved (quad_step true q t)
-  quad_moves quad.Start t = with_number_moves t next_moved next.Refused _ _ refl (λ n. refl)
   quad_moves (quad.Switch a) t = if_moves (is_colon_terminal t) _ next_moved _ next.Refused _ _ (colon_moves t) refl refl
-  quad_moves (quad.SwitchColon a) t = with_number_moves t next_moved next.Refused _ _ refl (λ n. refl)
   quad_moves (quad.Port a m) t = if_moves (is_link_sign true t) _ next_moved _ next.Refused _ _ (between_moves t) refl refl
-  quad_moves (quad.Arrow a m) t = with_number_moves t next_moved next.Refused _ _ refl (λ n. refl)
   quad_moves (quad.ToSwitch a m b) t = if_moves (is_colon_terminal t) _ next_moved _ next.Refused _ _ (colon_moves t) refl refl
-  quad_moves (quad.ToColon a m b) t = with_number_moves t next_moved next.Refused _ _ refl (λ n. refl)
+  quad_moves q t = with_number_moves t next_moved next.Refused _ _ refl (λ n. refl)
 
   linked_moves : (fs : List Open) (ts us : Trees) (q : QuadNext)
       → linked (map open_moved fs) (trees_moved lines ts) (trees_moved lines us) (next_moved q) ≡ option_map state_moved (linked fs ts us q)
@@ -346,45 +195,17 @@ module _ (lines : ℕ) where
 
   begin_moves : (fs : List Open) (ts us : Trees) (t : Terminal)
       → begin (map open_moved fs) (trees_moved lines ts) (trees_moved lines us) (terminal_moved t) ≡ option_map state_moved (begin fs ts us t)
-  begin_moves fs ts us (name w) = refl
-  begin_moves fs ts us (number n) = refl
-  begin_moves fs ts us (tilde l) = refl
-  begin_moves fs ts us opening = refl
-  begin_moves fs ts us closing = refl
-  begin_moves fs ts us plus_sign = refl
-  begin_moves fs ts us semicolon = refl
-  begin_moves fs ts us star_sign = refl
-  begin_moves fs ts us equal = refl
-  begin_moves fs ts us becomes = refl
-  begin_moves fs ts us colon = refl
-  begin_moves fs ts us fat_arrow = refl
   begin_moves fs ts us id_word = some _ _ (ended_moves (seq_of no_part) fs ts us)
   begin_moves fs ts us drop_word = some _ _ (ended_moves (sum_of no_part) fs ts us)
   begin_moves fs ts us dup_word = some _ _ (ended_moves dup fs ts us)
-  begin_moves fs ts us in_word = refl
-  begin_moves fs ts us dots = refl
-  begin_moves fs ts us (outside z) = refl
+  begin_moves fs ts us t = refl
 
   go_on_moves : (b : Bool) (fs : List Open) (ts us : Trees) (t : Terminal)
       → after_factor b (map open_moved fs) (trees_moved lines ts) (trees_moved lines us) (terminal_moved t) ≡ option_map state_moved (after_factor b fs ts us t)
-  go_on_moves b fs ts us (name w) = refl
-  go_on_moves b fs ts us (number n) = refl
-  go_on_moves b fs ts us (tilde l) = refl
-  go_on_moves b fs ts us opening = refl
   go_on_moves b fs ts us closing = ap (close (map open_moved fs)) (joined_moves ts us) ∙ close_moves fs (terms_joined ts us)
   go_on_moves b fs ts us plus_sign = ap (λ x. Some (state place.Want (map open_moved fs) x no_part)) (ap (λ x. with_part (trees_moved lines ts) x) (seq_moves us) ∙ part_moves ts (seq_from us))
-  go_on_moves b fs ts us semicolon = refl
   go_on_moves b fs ts us star_sign = ap (λ x. Some (state (place.After true) (map open_moved fs) (trees_moved lines ts) x)) (star_if b us)
-  go_on_moves b fs ts us equal = refl
-  go_on_moves b fs ts us becomes = refl
-  go_on_moves b fs ts us colon = refl
-  go_on_moves b fs ts us fat_arrow = refl
-  go_on_moves b fs ts us id_word = refl
-  go_on_moves b fs ts us drop_word = refl
-  go_on_moves b fs ts us dup_word = refl
-  go_on_moves b fs ts us in_word = refl
-  go_on_moves b fs ts us dots = refl
-  go_on_moves b fs ts us (outside z) = refl
+  go_on_moves b fs ts us t = refl
 
   done_moves : (s : State) (t : Terminal) → step_done (state_moved s) (terminal_moved t) ≡ option_map state_moved (step_done s t)
   done_moves s t = by_place s.place
@@ -392,15 +213,8 @@ module _ (lines : ℕ) where
       by_place : (p : Place)
           → go_on_from (place_moved p) (map open_moved s.frames) (trees_moved lines s.terms) (trees_moved lines s.factors) (terminal_moved t)
           ≡ option_map state_moved (go_on_from p s.frames s.terms s.factors t)
-      by_place place.Want = refl
-      by_place (place.Named w) = refl
-      by_place (place.Tested w) = refl
-      by_place (place.Ranged w) = refl
-      by_place (place.RangedFrom w a) = refl
-      by_place (place.RangedTo w a) = refl
-      by_place (place.Assigned w) = refl
-      by_place (place.Linked q) = refl
       by_place (place.After b) = go_on_moves b s.frames s.terms s.factors t
+      by_place p = refl
 
   at_moves : (p : Place) (fs : List Open) (ts us : Trees) (t : Terminal)
       → step_at (place_moved p) (map open_moved fs) (trees_moved lines ts) (trees_moved lines us) (terminal_moved t)
@@ -432,28 +246,13 @@ module _ (lines : ℕ) where
   settled_moves s = by_place s.place
     where
       by_place : (p : Place) → settled_at (place_moved p) (state_moved s) ≡ state_moved (settled_at p s)
-      by_place place.Want = refl
       by_place (place.Named w) = ended_moves (name_of w) s.frames s.terms s.factors
-      by_place (place.Tested w) = refl
-      by_place (place.Ranged w) = refl
-      by_place (place.RangedFrom w a) = refl
-      by_place (place.RangedTo w a) = refl
-      by_place (place.Assigned w) = refl
-      by_place (place.Linked q) = refl
-      by_place (place.After b) = refl
+      by_place p = refl
 
   at_end_moves : (p : Place) (fs : List Open) (t : Tree)
       → done_at (place_moved p) (map open_moved fs) (tree_moved lines t) ≡ option_map (tree_moved lines) (done_at p fs t)
-  at_end_moves place.Want fs t = refl
-  at_end_moves (place.Named w) fs t = refl
-  at_end_moves (place.Tested w) fs t = refl
-  at_end_moves (place.Ranged w) fs t = refl
-  at_end_moves (place.RangedFrom w a) fs t = refl
-  at_end_moves (place.RangedTo w a) fs t = refl
-  at_end_moves (place.Assigned w) fs t = refl
-  at_end_moves (place.Linked q) fs t = refl
   at_end_moves (place.After b) [] t = refl
-  at_end_moves (place.After b) (f ∷ fs) t = refl
+  at_end_moves p fs t = refl
 
   -- the end
   pub end_moves : (s : State) → policy_ended (state_moved s) ≡ option_map (tree_moved lines) (policy_ended s)

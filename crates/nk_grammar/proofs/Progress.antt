@@ -31,12 +31,7 @@ use Rattle.nk_grammar.proofs.After.{following, certify_after}
 pub at_done : (x : CertifiedStage) (p : Phase) (s : State) (ds : List Declaration) (rs : List Row) (line : ℕ)
     → so_far_at (with_done (certified_phase_of x p s) ds rs) line ≡ so_far (Going (certified_phase_of x p s) line) ds rs
 at_done stage.Declaring p s ds rs line = refl
-at_done stage.RowWanted p s ds rs line = refl
-at_done (stage.StartWanted l) p s ds rs line = refl
-at_done (stage.StartRead l) p s ds rs line = refl
-at_done (stage.NumberWanted l) p s ds rs line = refl
-at_done (stage.NumbersRead l ns) p s ds rs line = refl
-at_done (stage.InRow l ns) p s ds rs line = refl
+at_done x p s ds rs line = refl
 
 -- ---- what a reader takes
 
@@ -103,23 +98,13 @@ nothing_following p ds rs = ap (λ l. so_far p l rs) (sym (append-nil ds)) ∙ a
 open_after : (ds : List Declaration) (rs : List Row) (p : CertifiedPhase) (es : List Declaration) (qs : List Row)
     → open_certified (following ds rs (certifying p es qs)) ≡ open_certified (certifying p es qs)
 open_after ds rs (declaring r) es qs = refl
-open_after ds rs row_wanted es qs = refl
-open_after ds rs (start_wanted line) es qs = refl
-open_after ds rs (start_read line) es qs = refl
-open_after ds rs (number_wanted line) es qs = refl
-open_after ds rs (numbers_read line ns) es qs = refl
-open_after ds rs (in_row line ns s) es qs = refl
+open_after ds rs p es qs = refl
 
 -- the same is said of it
 at_after : (ds : List Declaration) (rs : List Row) (p : CertifiedPhase) (es : List Declaration) (qs : List Row) (line : ℕ)
     → so_far_at (following ds rs (certifying p es qs)) line ≡ so_far_following ds rs (so_far_at (certifying p es qs) line)
 at_after ds rs (declaring r) es qs line = refl
-at_after ds rs row_wanted es qs line = refl
-at_after ds rs (start_wanted l) es qs line = refl
-at_after ds rs (start_read l) es qs line = refl
-at_after ds rs (number_wanted l) es qs line = refl
-at_after ds rs (numbers_read l ns) es qs line = refl
-at_after ds rs (in_row l ns s) es qs line = refl
+at_after ds rs p es qs line = refl
 
 -- what a token leads to
 judged_after : (p : CertifiedProgress) (ds : List Declaration) (rs : List Row) (at : ℕ) (o : Option Certifying)
@@ -161,13 +146,6 @@ on_ok (Err e) f h = tt
 
 end_after : (p : CertifiedProgress) (ds : List Declaration) (rs : List Row) (r : Row) → certified_so_far p [] [] ≡ Ok (certified [] (r ∷ []))
     → certified_so_far p ds rs ≡ Ok (certified ds (rs ++ r ∷ []))
-end_after (Stopped e) ds rs r h = absurd cc
-end_after (Going (declaring x) line) ds rs r h = absurd cc
-end_after (Going row_wanted line) ds rs r h = absurd cc
-end_after (Going (start_wanted l) line) ds rs r h = absurd cc
-end_after (Going (start_read l) line) ds rs r h = absurd cc
-end_after (Going (number_wanted l) line) ds rs r h = absurd cc
-end_after (Going (numbers_read l ns) line) ds rs r h = absurd cc
 end_after (Going (in_row l ns s) line) ds rs r h = by_end (policy_ended s) h
   where
     first : (x y : Row) → ◌≡◌ {A = Result Certified GrammarError} (Ok (certified [] (x ∷ []))) (Ok (certified [] (y ∷ []))) → x ≡ y
@@ -186,6 +164,7 @@ end_after (Going (in_row l ns s) line) ds rs r h = by_end (policy_ended s) h
         → certified_end_at line (certificate_ends ds rs ns l o) ≡ Ok (certified ds (rs ++ r ∷ []))
     by_end None e = absurd cc
     by_end (Some q) e = ap (λ x. Ok (certified ds (rs ++ x ∷ []))) (first (row ns q l) r e)
+end_after p ds rs r h = absurd cc
 
 fault_after : (p : CertifiedProgress) (ds : List Declaration) (rs : List Row) (f : GrammarError) → certified_so_far p [] [] ≡ Err f
     → certified_so_far p ds rs ≡ Err f
@@ -193,18 +172,13 @@ fault_after (Stopped e) ds rs f h = again e h
   where
     again : (g : GrammarError) → ◌≡◌ {A = Result Certified GrammarError} (Err g) (Err f) → ◌≡◌ {A = Result Certified GrammarError} (Err g) (Err f)
     again g e = e
-fault_after (Going (declaring x) line) ds rs f h = h
-fault_after (Going row_wanted line) ds rs f h = h
-fault_after (Going (start_wanted l) line) ds rs f h = h
-fault_after (Going (start_read l) line) ds rs f h = h
-fault_after (Going (number_wanted l) line) ds rs f h = h
-fault_after (Going (numbers_read l ns) line) ds rs f h = h
 fault_after (Going (in_row l ns s) line) ds rs f h = by_end (policy_ended s) h
   where
     by_end : (o : Option Tree) → certified_end_at line (certificate_ends [] [] ns l o) ≡ Err f
         → certified_end_at line (certificate_ends ds rs ns l o) ≡ Err f
     by_end None e = e
     by_end (Some q) e = absurd cc
+fault_after p ds rs f h = h
 
 -- the last row, or the fault
 returns_following : (p : CertifiedProgress) (ds : List Declaration) (rs : List Row) (r : Result CertRow GrammarError)

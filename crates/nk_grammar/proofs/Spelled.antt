@@ -5,7 +5,7 @@ use Rattle.nk_lex.specs.declared.ident.Ident.{Ident}
 use Rattle.nk_grammar.specs.declared.place.Place.TheVariants as place
 use Rattle.nk_grammar.specs.Terminal.{Terminal, plus_sign, semicolon, star_sign, closing, is_equal, is_in_word, is_becomes}
 use Rattle.nk_grammar.specs.Tree.{Tree, Trees, name_of, not_of, star_of, no_part, part, with_part, with_star, sum_from, seq_from}
-use Rattle.nk_grammar.specs.Grammar.{Pol, Term, Factor, Atom, one_term, plus, one_factor, semi, plain, starred, written_not, written_id, written_drop, written_dup, written_name, written_test, written_range, written_set, written_link, paren, spell_pol, spell_term, spell_factor, spell_atom, terms_of, factors_of, factor_tree, atom_tree, HasTree}
+use Rattle.nk_grammar.specs.Grammar.{Pol, Term, Factor, Atom, one_term, plus, one_factor, semi, plain, starred, written_not, written_name, paren, spell_pol, spell_term, spell_factor, spell_atom, terms_of, factors_of, factor_tree, atom_tree, HasTree}
 use Rattle.nk_grammar.specs.Machine.{Open, group, negation, State, state, first_state, atom_ended, run, step, step_done, settled, policy_ended, done, HasNoNegation}
 
 -- what the tokens come to, a name at the end being an atom
@@ -111,18 +111,12 @@ mutual
   pub atom_passes : (a : Atom) (fs : List Open) (ts us : Trees) (r : List Terminal) → IsFree r
       → outcome (spell_atom a ++ r) (state place.Want fs ts us) ≡ outcome r (atom_ended (atom_tree a) fs ts us)
   atom_passes (written_not l a) fs ts us r free = atom_passes a (negation l ∷ fs) ts us r free
-  atom_passes written_id fs ts us r free = refl
-  atom_passes written_drop fs ts us r free = refl
-  atom_passes written_dup fs ts us r free = refl
   atom_passes (written_name w) fs ts us r free = named_free w fs ts us r free
-  atom_passes (written_test w n) fs ts us r free = refl
-  atom_passes (written_range w a b) fs ts us r free = refl
-  atom_passes (written_set w n) fs ts us r free = refl
-  atom_passes (written_link a m b n) fs ts us r free = refl
   atom_passes (paren p) fs ts us r free =
       rw (append_assoc (spell_pol p) (closing ∷ []) r)
       (pol_passes p (group ts us ∷ fs) (closing ∷ r) (λ t ts us. refl) (refl, refl, refl)
       ∙ ap (λ x. outcome r (atom_ended (sum_from x) fs ts us)) (early_late p))
+  atom_passes a fs ts us r free = refl
 
 -- a policy's tokens leave the policy done
 pub reads : (p : Pol)

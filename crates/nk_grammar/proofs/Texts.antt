@@ -15,7 +15,7 @@ use Rattle.nk_grammar.specs.declared.decl.LinkKeyword.{LinkKeyword}
 use Rattle.nk_grammar.specs.declared.decl.LinkKeyword.TheVariants as links
 use Rattle.nk_grammar.specs.declared.decl.Naming.{Naming}
 use Rattle.nk_grammar.specs.declared.decl.Naming.TheVariants as naming
-use Rattle.nk_grammar.specs.Terminal.{Terminal, Outside, name, number, tilde, opening, closing, plus_sign, semicolon, star_sign, equal, becomes, colon, fat_arrow, id_word, drop_word, dup_word, in_word, dots, outside, is_equal, field_word, tag_word, switch_word, ports_word, link_word, let_word, fabric_word, virtual_word, by_word, arrow, comma, certificate_word, row_word, start_word, no_terminal}
+use Rattle.nk_grammar.specs.Terminal.{Terminal, Outside, name, number, equal, colon, id_word, outside, is_equal, field_word, tag_word, switch_word, ports_word, link_word, let_word, fabric_word, virtual_word, by_word, arrow, comma}
 use Rattle.nk_grammar.specs.Tree.{Tree, Trees, name_of, not_of, sum_from}
 use Rattle.nk_grammar.specs.Grammar.{Pol, spell_pol, pol_tree, one_term, one_factor, plain, written_id}
 use Rattle.nk_grammar.specs.Machine.{Open, group, negation, State, state, first_state, atom_ended, with_number, quad_step, step, step_at, step_done, run, settled, policy_ended, done}
@@ -39,12 +39,7 @@ IsAfter (t ∷ r) = ⊥
 file_after : (ws : List Written) → IsAfter (spell_file ws)
 file_after [] = tt
 file_after (written_field w n ∷ ws) = refl
-file_after (written_tag w ∷ ws) = refl
-file_after (written_switch n p ps ∷ ws) = refl
-file_after (written_declared_link a m b n ∷ ws) = refl
-file_after (written_let line w p ∷ ws) = refl
-file_after (written_fabric line w p ∷ ws) = refl
-file_after (written_virtual a m b n w ∷ ws) = refl
+file_after (w ∷ ws) = refl
 
 -- no policy goes on with such a word after an atom
 refused_after_atom : (t : Tree) (fs : List Open) (ts us : Trees) (z : Outside)
@@ -56,21 +51,9 @@ refused_after_atom t (negation l ∷ fs) ts us z = refused_after_atom (not_of t 
 -- no policy takes a token of declarations
 pub outside_refused : (p : Place) (fs : List Open) (ts us : Trees) (z : Outside)
     → step_at p fs ts us (outside z) ≡ None
-outside_refused place.Want fs ts us z = refl
 outside_refused (place.Named w) fs ts us z = refused_after_atom (name_of w) fs ts us z
-outside_refused (place.Tested w) fs ts us z = refl
-outside_refused (place.Ranged w) fs ts us z = refl
-outside_refused (place.RangedFrom w a) fs ts us z = refl
-outside_refused (place.RangedTo w a) fs ts us z = refl
-outside_refused (place.Assigned w) fs ts us z = refl
 outside_refused (place.Linked quad.Start) fs ts us z = refl
-outside_refused (place.Linked (quad.Switch a)) fs ts us z = refl
-outside_refused (place.Linked (quad.SwitchColon a)) fs ts us z = refl
-outside_refused (place.Linked (quad.Port a m)) fs ts us z = refl
-outside_refused (place.Linked (quad.Arrow a m)) fs ts us z = refl
-outside_refused (place.Linked (quad.ToSwitch a m b)) fs ts us z = refl
-outside_refused (place.Linked (quad.ToColon a m b)) fs ts us z = refl
-outside_refused (place.After b) fs ts us z = refl
+outside_refused p fs ts us z = refl
 
 -- a policy's tokens are read inside a declaration as they are alone
 inside : (k : PolicyKeyword) (w : Ident) (line : ℕ) (ds : List Declaration) (xs r : List Terminal) (s s' : State)
@@ -93,23 +76,7 @@ policy_ends k w line ds p s [] e b = ap (λ o. option_map (λ p. one_more ds (de
 policy_ends k w line ds p s (outside z ∷ r) e b =
     ap (λ o. finish (option_and_then (read_all r) (policy_on k w line ds o (policy_ended s) (outside z)))) (outside_refused s.place s.frames s.terms s.factors z)
     ∙ ap (λ o. finish (option_and_then (read_all r) (policy_done k w line ds o (outside z)))) e
-policy_ends k w line ds p s ((name x) ∷ r) e b = absurd b
-policy_ends k w line ds p s ((number x) ∷ r) e b = absurd b
-policy_ends k w line ds p s ((tilde l) ∷ r) e b = absurd b
-policy_ends k w line ds p s (opening ∷ r) e b = absurd b
-policy_ends k w line ds p s (closing ∷ r) e b = absurd b
-policy_ends k w line ds p s (plus_sign ∷ r) e b = absurd b
-policy_ends k w line ds p s (semicolon ∷ r) e b = absurd b
-policy_ends k w line ds p s (star_sign ∷ r) e b = absurd b
-policy_ends k w line ds p s (equal ∷ r) e b = absurd b
-policy_ends k w line ds p s (becomes ∷ r) e b = absurd b
-policy_ends k w line ds p s (colon ∷ r) e b = absurd b
-policy_ends k w line ds p s (fat_arrow ∷ r) e b = absurd b
-policy_ends k w line ds p s (id_word ∷ r) e b = absurd b
-policy_ends k w line ds p s (drop_word ∷ r) e b = absurd b
-policy_ends k w line ds p s (dup_word ∷ r) e b = absurd b
-policy_ends k w line ds p s (in_word ∷ r) e b = absurd b
-policy_ends k w line ds p s (dots ∷ r) e b = absurd b
+policy_ends k w line ds p s r e b = absurd b
 
 -- further ports
 ports_pass : (n : Number) (qs ps : List Number) (ds : List Declaration) (r : List Terminal) → IsAfter r
@@ -121,23 +88,7 @@ ports_pass n qs [] ds [] b = ap (λ x. Some (one_more ds (switch n x))) (sym (ap
 ports_pass n qs [] ds (outside z ∷ r) b =
     ap (λ x. finish (option_and_then (read_all r) (if x then Some (reading (port_wanted n qs) ds) else begin_declaration (one_more ds (switch n qs)) (outside z)))) b
     ∙ ap (λ x. finish (option_and_then (read_all r) (begin_declaration (one_more ds (switch n x)) (outside z)))) (sym (append-nil qs))
-ports_pass n qs [] ds ((name x) ∷ r) b = absurd b
-ports_pass n qs [] ds ((number x) ∷ r) b = absurd b
-ports_pass n qs [] ds ((tilde l) ∷ r) b = absurd b
-ports_pass n qs [] ds (opening ∷ r) b = absurd b
-ports_pass n qs [] ds (closing ∷ r) b = absurd b
-ports_pass n qs [] ds (plus_sign ∷ r) b = absurd b
-ports_pass n qs [] ds (semicolon ∷ r) b = absurd b
-ports_pass n qs [] ds (star_sign ∷ r) b = absurd b
-ports_pass n qs [] ds (equal ∷ r) b = absurd b
-ports_pass n qs [] ds (becomes ∷ r) b = absurd b
-ports_pass n qs [] ds (colon ∷ r) b = absurd b
-ports_pass n qs [] ds (fat_arrow ∷ r) b = absurd b
-ports_pass n qs [] ds (id_word ∷ r) b = absurd b
-ports_pass n qs [] ds (drop_word ∷ r) b = absurd b
-ports_pass n qs [] ds (dup_word ∷ r) b = absurd b
-ports_pass n qs [] ds (in_word ∷ r) b = absurd b
-ports_pass n qs [] ds (dots ∷ r) b = absurd b
+ports_pass n qs [] ds r b = absurd b
 
 -- what the tokens of a policy leave
 pub left_by : (p : Pol) → (s : State) × (run (spell_pol p) first_state ≡ Some s) × (policy_ended s ≡ Some (pol_tree p))
@@ -280,184 +231,40 @@ Leads (Some r) ts = IsFront ts r.phase r.declarations
 -- a declaration that begins after others
 begins : (ts : List Terminal) (ds : List Declaration) (t : Terminal) → HasDeclarations ts ds
     → Leads (begin_declaration ds t) (ts ++ t ∷ [])
-begins ts ds (name x) h = tt
-begins ts ds (number x) h = tt
-begins ts ds (tilde l) h = tt
-begins ts ds opening h = tt
-begins ts ds closing h = tt
-begins ts ds plus_sign h = tt
-begins ts ds semicolon h = tt
-begins ts ds star_sign h = tt
-begins ts ds equal h = tt
-begins ts ds becomes h = tt
-begins ts ds colon h = tt
-begins ts ds fat_arrow h = tt
-begins ts ds id_word h = tt
-begins ts ds drop_word h = tt
-begins ts ds dup_word h = tt
-begins ts ds in_word h = tt
-begins ts ds dots h = tt
 begins ts ds (outside field_word) h = (h.0, outside field_word ∷ [], h.2, ap (λ x. x ++ outside field_word ∷ []) h.1, refl)
 begins ts ds (outside tag_word) h = (h.0, outside tag_word ∷ [], h.2, ap (λ x. x ++ outside tag_word ∷ []) h.1, refl)
 begins ts ds (outside switch_word) h = (h.0, outside switch_word ∷ [], h.2, ap (λ x. x ++ outside switch_word ∷ []) h.1, refl)
-begins ts ds (outside ports_word) h = tt
 begins ts ds (outside link_word) h = (h.0, outside link_word ∷ [], h.2, ap (λ x. x ++ outside link_word ∷ []) h.1, refl)
 begins ts ds (outside (let_word l)) h = (h.0, outside (let_word l) ∷ [], h.2, ap (λ x. x ++ outside (let_word l) ∷ []) h.1, refl)
 begins ts ds (outside (fabric_word l)) h = (h.0, outside (fabric_word l) ∷ [], h.2, ap (λ x. x ++ outside (fabric_word l) ∷ []) h.1, refl)
 begins ts ds (outside virtual_word) h = (h.0, outside virtual_word ∷ [], h.2, ap (λ x. x ++ outside virtual_word ∷ []) h.1, refl)
-begins ts ds (outside by_word) h = tt
-begins ts ds (outside arrow) h = tt
-begins ts ds (outside comma) h = tt
-begins ts ds (outside certificate_word) h = tt
-begins ts ds (outside (row_word l)) h = tt
-begins ts ds (outside start_word) h = tt
-begins ts ds (outside no_terminal) h = tt
+begins ts ds t h = tt
 
 -- a name, a number or a sign that is wanted
 name_leads : (t : Terminal) (ts : List Terminal) (f : Ident → Reading)
     → ((w : Ident) → t ≡ name w → Leads (Some (f w)) ts)
     → Leads (with_name t None (λ w. Some (f w))) ts
 name_leads (name x) ts f e = e x refl
-name_leads (number x) ts f e = tt
-name_leads (tilde l) ts f e = tt
-name_leads opening ts f e = tt
-name_leads closing ts f e = tt
-name_leads plus_sign ts f e = tt
-name_leads semicolon ts f e = tt
-name_leads star_sign ts f e = tt
-name_leads equal ts f e = tt
-name_leads becomes ts f e = tt
-name_leads colon ts f e = tt
-name_leads fat_arrow ts f e = tt
-name_leads id_word ts f e = tt
-name_leads drop_word ts f e = tt
-name_leads dup_word ts f e = tt
-name_leads in_word ts f e = tt
-name_leads dots ts f e = tt
-name_leads (outside field_word) ts f e = tt
-name_leads (outside tag_word) ts f e = tt
-name_leads (outside switch_word) ts f e = tt
-name_leads (outside ports_word) ts f e = tt
-name_leads (outside link_word) ts f e = tt
-name_leads (outside (let_word l)) ts f e = tt
-name_leads (outside (fabric_word l)) ts f e = tt
-name_leads (outside virtual_word) ts f e = tt
-name_leads (outside by_word) ts f e = tt
-name_leads (outside arrow) ts f e = tt
-name_leads (outside comma) ts f e = tt
-name_leads (outside certificate_word) ts f e = tt
-name_leads (outside (row_word l)) ts f e = tt
-name_leads (outside start_word) ts f e = tt
-name_leads (outside no_terminal) ts f e = tt
+name_leads t ts f e = tt
 
 -- where a number is wanted
 number_leads : (t : Terminal) (ts : List Terminal) (f : Number → Reading)
     → ((n : Number) → t ≡ number n → Leads (Some (f n)) ts)
     → Leads (with_number t None (λ n. Some (f n))) ts
-number_leads (name x) ts f e = tt
 number_leads (number x) ts f e = e x refl
-number_leads (tilde l) ts f e = tt
-number_leads opening ts f e = tt
-number_leads closing ts f e = tt
-number_leads plus_sign ts f e = tt
-number_leads semicolon ts f e = tt
-number_leads star_sign ts f e = tt
-number_leads equal ts f e = tt
-number_leads becomes ts f e = tt
-number_leads colon ts f e = tt
-number_leads fat_arrow ts f e = tt
-number_leads id_word ts f e = tt
-number_leads drop_word ts f e = tt
-number_leads dup_word ts f e = tt
-number_leads in_word ts f e = tt
-number_leads dots ts f e = tt
-number_leads (outside field_word) ts f e = tt
-number_leads (outside tag_word) ts f e = tt
-number_leads (outside switch_word) ts f e = tt
-number_leads (outside ports_word) ts f e = tt
-number_leads (outside link_word) ts f e = tt
-number_leads (outside (let_word l)) ts f e = tt
-number_leads (outside (fabric_word l)) ts f e = tt
-number_leads (outside virtual_word) ts f e = tt
-number_leads (outside by_word) ts f e = tt
-number_leads (outside arrow) ts f e = tt
-number_leads (outside comma) ts f e = tt
-number_leads (outside certificate_word) ts f e = tt
-number_leads (outside (row_word l)) ts f e = tt
-number_leads (outside start_word) ts f e = tt
-number_leads (outside no_terminal) ts f e = tt
+number_leads t ts f e = tt
 
 -- where the word `ports` is wanted
 ports_leads : (t : Terminal) (ts : List Terminal) (r : Reading)
     → (t ≡ outside ports_word → Leads (Some r) ts) → Leads (if is_ports t then Some r else None) ts
-ports_leads (name x) ts r e = tt
-ports_leads (number x) ts r e = tt
-ports_leads (tilde l) ts r e = tt
-ports_leads opening ts r e = tt
-ports_leads closing ts r e = tt
-ports_leads plus_sign ts r e = tt
-ports_leads semicolon ts r e = tt
-ports_leads star_sign ts r e = tt
-ports_leads equal ts r e = tt
-ports_leads becomes ts r e = tt
-ports_leads colon ts r e = tt
-ports_leads fat_arrow ts r e = tt
-ports_leads id_word ts r e = tt
-ports_leads drop_word ts r e = tt
-ports_leads dup_word ts r e = tt
-ports_leads in_word ts r e = tt
-ports_leads dots ts r e = tt
-ports_leads (outside field_word) ts r e = tt
-ports_leads (outside tag_word) ts r e = tt
-ports_leads (outside switch_word) ts r e = tt
 ports_leads (outside ports_word) ts r e = e refl
-ports_leads (outside link_word) ts r e = tt
-ports_leads (outside (let_word l)) ts r e = tt
-ports_leads (outside (fabric_word l)) ts r e = tt
-ports_leads (outside virtual_word) ts r e = tt
-ports_leads (outside by_word) ts r e = tt
-ports_leads (outside arrow) ts r e = tt
-ports_leads (outside comma) ts r e = tt
-ports_leads (outside certificate_word) ts r e = tt
-ports_leads (outside (row_word l)) ts r e = tt
-ports_leads (outside start_word) ts r e = tt
-ports_leads (outside no_terminal) ts r e = tt
+ports_leads t ts r e = tt
 
 -- where `=` is wanted
 equal_leads : (t : Terminal) (ts : List Terminal) (r : Reading) → (t ≡ equal → Leads (Some r) ts)
     → Leads (if is_equal t then Some r else None) ts
-equal_leads (name x) ts r e = tt
-equal_leads (number x) ts r e = tt
-equal_leads (tilde l) ts r e = tt
-equal_leads opening ts r e = tt
-equal_leads closing ts r e = tt
-equal_leads plus_sign ts r e = tt
-equal_leads semicolon ts r e = tt
-equal_leads star_sign ts r e = tt
 equal_leads equal ts r e = e refl
-equal_leads becomes ts r e = tt
-equal_leads colon ts r e = tt
-equal_leads fat_arrow ts r e = tt
-equal_leads id_word ts r e = tt
-equal_leads drop_word ts r e = tt
-equal_leads dup_word ts r e = tt
-equal_leads in_word ts r e = tt
-equal_leads dots ts r e = tt
-equal_leads (outside field_word) ts r e = tt
-equal_leads (outside tag_word) ts r e = tt
-equal_leads (outside switch_word) ts r e = tt
-equal_leads (outside ports_word) ts r e = tt
-equal_leads (outside link_word) ts r e = tt
-equal_leads (outside (let_word l)) ts r e = tt
-equal_leads (outside (fabric_word l)) ts r e = tt
-equal_leads (outside virtual_word) ts r e = tt
-equal_leads (outside by_word) ts r e = tt
-equal_leads (outside arrow) ts r e = tt
-equal_leads (outside comma) ts r e = tt
-equal_leads (outside certificate_word) ts r e = tt
-equal_leads (outside (row_word l)) ts r e = tt
-equal_leads (outside start_word) ts r e = tt
-equal_leads (outside no_terminal) ts r e = tt
+equal_leads t ts r e = tt
 
 -- where the word `by` is wanted
 by_leads : (t : Terminal) (ts : List Terminal) (r : Reading) → (t ≡ outside by_word → Leads (Some r) ts)
@@ -469,38 +276,8 @@ by_leads t ts r e = tt
 comma_leads : (t : Terminal) (ts : List Terminal) (r : Reading) (o : Option Reading)
     → (t ≡ outside comma → Leads (Some r) ts) → Leads o ts
     → Leads (if is_comma t then Some r else o) ts
-comma_leads (name x) ts r o e f = f
-comma_leads (number x) ts r o e f = f
-comma_leads (tilde l) ts r o e f = f
-comma_leads opening ts r o e f = f
-comma_leads closing ts r o e f = f
-comma_leads plus_sign ts r o e f = f
-comma_leads semicolon ts r o e f = f
-comma_leads star_sign ts r o e f = f
-comma_leads equal ts r o e f = f
-comma_leads becomes ts r o e f = f
-comma_leads colon ts r o e f = f
-comma_leads fat_arrow ts r o e f = f
-comma_leads id_word ts r o e f = f
-comma_leads drop_word ts r o e f = f
-comma_leads dup_word ts r o e f = f
-comma_leads in_word ts r o e f = f
-comma_leads dots ts r o e f = f
-comma_leads (outside field_word) ts r o e f = f
-comma_leads (outside tag_word) ts r o e f = f
-comma_leads (outside switch_word) ts r o e f = f
-comma_leads (outside ports_word) ts r o e f = f
-comma_leads (outside link_word) ts r o e f = f
-comma_leads (outside (let_word l)) ts r o e f = f
-comma_leads (outside (fabric_word l)) ts r o e f = f
-comma_leads (outside virtual_word) ts r o e f = f
-comma_leads (outside by_word) ts r o e f = f
-comma_leads (outside arrow) ts r o e f = f
 comma_leads (outside comma) ts r o e f = e refl
-comma_leads (outside certificate_word) ts r o e f = f
-comma_leads (outside (row_word l)) ts r o e f = f
-comma_leads (outside start_word) ts r o e f = f
-comma_leads (outside no_terminal) ts r o e f = f
+comma_leads t ts r o e f = f
 
 -- further ports, and one more
 ports_more : (ps : List Number) (p : Number)
@@ -717,11 +494,6 @@ phase_ends between ds es ts h e = (h.0, h.3 ∙ ap (λ x. spell_file h.0 ++ x) h
   where
     same : {xs ys : List Declaration} → ◌≡◌ {A = Option (List Declaration)} (Some xs) (Some ys) → xs ≡ ys
     same e = cc
-phase_ends (name_wanted k) ds es ts h e = absurd (none_some es e)
-phase_ends (field_named w) ds es ts h e = absurd (none_some es e)
-phase_ends switch_read ds es ts h e = absurd (none_some es e)
-phase_ends (switch_numbered n) ds es ts h e = absurd (none_some es e)
-phase_ends (port_wanted n ps) ds es ts h e = absurd (none_some es e)
 phase_ends (port_read n ps) ds es ts h e =
     let s : IsPhaseSpelled (port_read n ps) h.1 = h.4 in
     subst (HasDeclarations ts) (same e)
@@ -729,9 +501,6 @@ phase_ends (port_read n ps) ds es ts h e =
   where
     same : {xs ys : List Declaration} → ◌≡◌ {A = Option (List Declaration)} (Some xs) (Some ys) → xs ≡ ys
     same e = cc
-phase_ends (link_read k q) ds es ts h e = absurd (none_some es e)
-phase_ends (by_wanted a m b n) ds es ts h e = absurd (none_some es e)
-phase_ends (policy_named k w line) ds es ts h e = absurd (none_some es e)
 phase_ends (in_policy k w line s) ds es ts h e = by_end (policy_ended s) refl e
   where
     same : {xs ys : List Declaration} → ◌≡◌ {A = Option (List Declaration)} (Some xs) (Some ys) → xs ≡ ys
@@ -743,6 +512,7 @@ phase_ends (in_policy k w line s) ds es ts h e = by_end (policy_ended s) refl e
     by_end (Some q) f e =
         let p : IsPhaseSpelled (in_policy k w line s) h.1 = h.4 in
         subst (HasDeclarations ts) (same e) (policy_here k h.0 ds ts h.1 p.0 w line s q h.2 h.3 p.1 p.2 f)
+phase_ends p ds es ts h e = absurd (none_some es e)
 
 -- what may end is a text
 pub ends_file : (ts : List Terminal) (r : Reading) (ds : List Declaration)

@@ -7,7 +7,7 @@ use Rattle.nk_lex.specs.declared.kind.Kind.TheVariants as kind
 use Rattle.nk_lex.specs.declared.token.Token.{Token}
 use Rattle.nk_lex.specs.Lex.{largest}
 use Rattle.nk_grammar.specs.Terminal.{Terminal, number, opening, terminal_from, terminal_of}
-use Rattle.nk_grammar.specs.File.{Declaration, IsWritten, Written, written_field, written_tag, written_switch, written_declared_link, written_let, written_fabric, written_virtual, spell_declaration, spell_file, declared}
+use Rattle.nk_grammar.specs.File.{Declaration, IsWritten, Written, written_field, spell_declaration, spell_file, declared}
 use Rattle.nk_grammar.specs.FileMachine.{file_of}
 use Rattle.nk_grammar.specs.Answer.{terminals, IsParse}
 use Rattle.nk_grammar.proofs.Answering.{answers}
@@ -36,12 +36,7 @@ all_following (x ∷ xs) ys h = all_following xs ys (All-tail IsSmall x (xs ++ y
 -- a declaration spelled with them
 written_one : (w : Written) (rest : List Terminal) → All IsSmall (spell_declaration w ++ rest) → IsWritten (declared w)
 written_one (written_field w n) rest h = h 2 opening (omega arith)
-written_one (written_tag w) rest h = tt
-written_one (written_switch n p ps) rest h = tt
-written_one (written_declared_link a m b n) rest h = tt
-written_one (written_let line w p) rest h = tt
-written_one (written_fabric line w p) rest h = tt
-written_one (written_virtual a m b n w) rest h = tt
+written_one w rest h = tt
 
 pub written_all : (ws : List Written) → All IsSmall (spell_file ws) → All IsWritten (map declared ws)
 written_all [] h = All-nil IsWritten

@@ -39,7 +39,7 @@ abbrev pub is_certificate : Terminal → Bool
 is_certificate (outside certificate_word) = true
 is_certificate t = false
 
--- the word `first_state`
+-- the word `start`
 abbrev pub is_start_word : Terminal → Bool
 is_start_word (outside start_word) = true
 is_start_word t = false
