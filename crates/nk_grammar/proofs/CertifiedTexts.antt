@@ -12,8 +12,9 @@ use Rattle.nk_grammar.specs.Machine.{State, first_state, with_number, step, run,
 use Rattle.nk_grammar.specs.File.{Declaration, declared, spell_file, HasDeclarations}
 use Rattle.nk_grammar.specs.FileMachine.{Phase, link_read, in_policy, Reading, policy_on, policy_done, next_reading, read_one, read_all, first_reading, declarations_at_end}
 use Rattle.nk_grammar.specs.Certified.{Row, row, WrittenRow, written_row, spell_numbers, spell_row, spell_rows, number_value, row_of, spell_certificate, rows_said, Certified, certified, HasCertificate, CertifiedGoesOn}
-use Rattle.nk_grammar.specs.CertifiedMachine.{CertifiedPhase, declaring, row_wanted, start_wanted, start_read, number_wanted, numbers_read, in_row, Certifying, certifying, is_certificate, is_start_word, with_row, certificate_begins, still_declaring, row_done, row_on, next_certifying, certify_one, certify_all, first_certifying, certificate_ends, certified_ended, certified_at_end}
+use Rattle.nk_grammar.specs.CertifiedMachine.{CertifiedPhase, declaring, row_wanted, start_wanted, start_read, number_wanted, numbers_read, in_row, Certifying, certifying, is_certificate, is_start_word, with_row, certificate_begins, still_declaring, row_done, row_on, next_certifying, certify_one, certify_all, first_certifying, certificate_ends, certified_ended, certified_at_end, open_certified}
 use Rattle.nk_grammar.proofs.Fronts.{reads_only, goes_on, run_append, none_some}
+use Rattle.nk_grammar.proofs.Machines.{Machine, all_append}
 use Rattle.nk_grammar.proofs.Texts.{outside_refused, left_by, reads_file, ends_file, file_goes_on, read_append, a_number, id_pol}
 
 -- what the tokens come to at their end
@@ -456,14 +457,21 @@ phase_ends p ds rows x ts h e = absurd (none_some x e)
 pub ends_certified : (ts : List Terminal) (c : Certifying) (x : Certified) → certify_all ts first_certifying ≡ Some c → certified_at_end c ≡ Some x → HasCertificate ts x
 ends_certified ts c x e f = phase_ends c.phase c.declarations c.rows x ts (front_of ts c e) f
 
+-- the machine of texts with a certificate
+abbrev pub certified_machine : Machine Certifying
+certified_machine = record {
+  one = certify_one;
+  all = certify_all;
+  first = first_certifying;
+  open_in = open_certified;
+  of_none = λ c. refl;
+  of_more = λ t ts c. refl;
+  none_open = refl;
+}
+
 -- tokens in two parts
 pub certify_append : (xs ys : List Terminal) (c : Certifying) → certify_all (xs ++ ys) c ≡ option_and_then (certify_all ys) (certify_all xs c)
-certify_append [] ys c = refl
-certify_append (x ∷ xs) ys c = by_step (certify_one c x) (certify_append xs ys)
-  where
-    by_step : (o : Option Certifying) → ((c : Certifying) → certify_all (xs ++ ys) c ≡ option_and_then (certify_all ys) (certify_all xs c)) → option_and_then (certify_all (xs ++ ys)) o ≡ option_and_then (certify_all ys) (option_and_then (certify_all xs) o)
-    by_step None go = refl
-    by_step (Some c) go = go c
+certify_append xs ys c = all_append certified_machine xs ys c
 
 -- tokens that are refused are the front of none
 pub certified_stops : (ts : List Terminal) → certify_all ts first_certifying ≡ None → CertifiedGoesOn ts → ⊥

@@ -4,6 +4,7 @@ pub mod Fronts
 pub mod Trees
 pub mod Stack
 pub mod Files
+pub mod Machines
 pub mod After
 pub mod Progress
 pub mod Texts

@@ -10,8 +10,8 @@ use Rattle.nk_grammar.specs.Certified.{Row, CertifiedGoesOn}
 use Rattle.nk_grammar.specs.CertifiedAnswer.{IsCertifiedShallow}
 use Rattle.nk_grammar.specs.CertifiedMachine.{Certifying, certify_one, certify_all, first_certifying, open_certified, judged_certified}
 use Rattle.nk_grammar.specs.CertifiedProgress.{CertifiedProgress, Going, Stopped, with_done, SoFar, so_far, nothing_so_far, so_far_judged, so_far_after, IsRead, IsStopped, StopsWithCertifiedTexts}
-use Rattle.nk_grammar.proofs.CertifiedAnswering.{terminals_more, shallow_more, shallow_first, within, beyond}
-use Rattle.nk_grammar.proofs.CertifiedTexts.{certified_goes_on, certified_stops, certify_append}
+use Rattle.nk_grammar.proofs.Machines.{terminals_more, all_more, shallow_more, shallow_first, within, beyond}
+use Rattle.nk_grammar.proofs.CertifiedTexts.{certified_machine, certified_goes_on, certified_stops, certify_append}
 use Rattle.nk_grammar.proofs.Progress.{AreTidy, tidy}
 
 -- no text goes on with the tokens, or too much is open after a front of them
@@ -26,15 +26,6 @@ IsKnownOf ts (Stopped e) ds rs = IsRefused ts
 abbrev IsKnownAt : List Terminal → SoFar → Type 0
 IsKnownAt ts s = IsKnownOf ts s.progress s.declarations s.rows
 
--- the state after one more token
-all_more : (ts : List Terminal) (t : Terminal) (c : Certifying) → certify_all ts first_certifying ≡ Some c
-    → certify_all (ts ++ t ∷ []) first_certifying ≡ certify_one c t
-all_more ts t c e = certify_append ts (t ∷ []) first_certifying ∙ ap (option_and_then (certify_all (t ∷ []))) e ∙ same (certify_one c t)
-  where
-    same : (o : Option Certifying) → option_and_then (certify_all []) o ≡ o
-    same None = refl
-    same (Some s) = refl
-
 -- fronts of a shallow front are shallow
 shallow_front : (ts us : List Terminal) → IsCertifiedShallow (ts ++ us) → IsCertifiedShallow ts
 shallow_front ts us h = λ xs ys e deep. h xs (ys ++ us) (ap (λ l. l ++ us) e ∙ append_assoc xs ys us) deep
@@ -48,7 +39,7 @@ one_more : (ts : List Terminal) (x : CertifiedProgress) (ds : List Declaration) 
     → IsKnownAt (ts ++ terminal_of t ∷ []) (so_far_after (so_far x ds rs) t)
 one_more ts (Stopped e) ds rs t h = refused_more ts (terminal_of t) h
 one_more ts (Going p line) ds rs t h =
-    by_step (certify_one (with_done p ds rs) (terminal_of t)) (all_more ts (terminal_of t) (with_done p ds rs) h.0) (tidy p ds rs (terminal_of t))
+    by_step (certify_one (with_done p ds rs) (terminal_of t)) (all_more certified_machine ts (terminal_of t) (with_done p ds rs) h.0) (tidy p ds rs (terminal_of t))
   where
     now : List Terminal
     now = ts ++ terminal_of t ∷ []
@@ -60,7 +51,7 @@ one_more ts (Going p line) ds rs t h =
       where
         by_count : (b : Bool) → nat_le (open_certified c) 256 ≡ b
             → IsKnownAt now (so_far_judged (if b then Ok c else Err (error.TooDeep t.line)) (so_far (Going p line) ds rs) t.line)
-        by_count true f = (e ∙ ap (λ s. Some s) (sym i), shallow_more ts (terminal_of t) c h.1 e (within (open_certified c) f))
+        by_count true f = (e ∙ ap (λ s. Some s) (sym i), shallow_more certified_machine ts (terminal_of t) c h.1 e (within (open_certified c) f))
         by_count false f = inr (λ s. s now [] (sym (append-nil now)) (c, e, beyond (open_certified c) f))
 
 all_known : (us ts : List Token) (s : SoFar) → IsKnownAt (terminals us) s
@@ -74,7 +65,7 @@ all_known us (t ∷ ts) s h =
 
 known_of : (ts : List Token) (ds : List Declaration) (rs : List Row) (p : CertifiedProgress) → IsRead ts ds rs p → IsKnownOf (terminals ts) p ds rs
 known_of ts ds rs p h =
-    subst (IsKnownAt (terminals ts)) h (all_known [] ts nothing_so_far (refl, shallow_first))
+    subst (IsKnownAt (terminals ts)) h (all_known [] ts nothing_so_far (refl, shallow_first certified_machine))
 
 pub stops_with_texts : StopsWithCertifiedTexts
 stops_with_texts ts ds rs p h = by p (known_of ts ds rs p h)

@@ -20,8 +20,9 @@ use Rattle.nk_grammar.specs.Tree.{Tree, Trees, name_of, not_of, sum_from}
 use Rattle.nk_grammar.specs.Grammar.{Pol, spell_pol, pol_tree, one_term, one_factor, plain, written_id}
 use Rattle.nk_grammar.specs.Machine.{Open, group, negation, State, state, first_state, atom_ended, with_number, quad_step, step, step_at, step_done, run, settled, policy_ended, done}
 use Rattle.nk_grammar.specs.File.{Declaration, field, tag, switch, virtual_link, Written, written_field, written_tag, written_switch, written_declared_link, written_let, written_fabric, written_virtual, spell_ports, spell_declaration, declared, spell_file, HasDeclarations, FileGoesOn}
-use Rattle.nk_grammar.specs.FileMachine.{Phase, between, name_wanted, field_named, switch_read, switch_numbered, port_wanted, port_read, link_read, by_wanted, policy_named, in_policy, Reading, reading, is_ports, is_by, is_comma, with_name, begin_declaration, one_more, defined, link_on, policy_done, policy_on, next_reading, read_one, read_all, first_reading, text_ended, declarations_at_end}
+use Rattle.nk_grammar.specs.FileMachine.{Phase, between, name_wanted, field_named, switch_read, switch_numbered, port_wanted, port_read, link_read, by_wanted, policy_named, in_policy, Reading, reading, is_ports, is_by, is_comma, with_name, begin_declaration, one_more, defined, link_on, policy_done, policy_on, next_reading, read_one, read_all, first_reading, text_ended, declarations_at_end, open_count}
 use Rattle.nk_grammar.proofs.Spelled.{reads, early_late, pol_has_star, early, late}
+use Rattle.nk_grammar.proofs.Machines.{Machine, all_append}
 use Rattle.nk_grammar.proofs.Links.{spell_link, spell_quad, quad_spell, IsQuadSpelledWith}
 use Rattle.nk_grammar.proofs.Fronts.{reads_only, goes_on, run_append, none_some}
 
@@ -519,17 +520,22 @@ pub ends_file : (ts : List Terminal) (r : Reading) (ds : List Declaration)
     → read_all ts first_reading ≡ Some r → declarations_at_end r ≡ Some ds → HasDeclarations ts ds
 ends_file ts r ds e f = phase_ends r.phase r.declarations ds ts (front_of ts r e) f
 
+-- the machine of texts
+abbrev pub file_machine : Machine Reading
+file_machine = record {
+  one = read_one;
+  all = read_all;
+  first = first_reading;
+  open_in = open_count;
+  of_none = λ r. refl;
+  of_more = λ t ts r. refl;
+  none_open = refl;
+}
+
 -- tokens in two parts
 pub read_append : (xs ys : List Terminal) (r : Reading)
     → read_all (xs ++ ys) r ≡ option_and_then (read_all ys) (read_all xs r)
-read_append [] ys r = refl
-read_append (x ∷ xs) ys r = by_step (read_one r x) (read_append xs ys)
-  where
-    by_step : (o : Option Reading)
-        → ((r : Reading) → read_all (xs ++ ys) r ≡ option_and_then (read_all ys) (read_all xs r))
-        → option_and_then (read_all (xs ++ ys)) o ≡ option_and_then (read_all ys) (option_and_then (read_all xs) o)
-    by_step None go = refl
-    by_step (Some r) go = go r
+read_append xs ys r = all_append file_machine xs ys r
 
 -- tokens that are refused are the front of no text
 pub file_stops : (ts : List Terminal) → read_all ts first_reading ≡ None → FileGoesOn ts → ⊥
