@@ -7,9 +7,9 @@ use Rattle.nk_grammar.specs.Terminal.{Terminal}
 use Rattle.nk_grammar.specs.File.{Declaration, HasDeclarations}
 use Rattle.nk_grammar.specs.FileMachine.{Reading, first_reading, read_all, declarations_at_end, judged, ended_at, rest_of_file, file_of}
 use Rattle.nk_grammar.specs.Answer.{terminals, IsShallow, IsParse}
-use Rattle.nk_grammar.proofs.Machines.{Answers, some_same, all_answers}
+use Rattle.nk_grammar.proofs.Machines.{Answers, all_answers}
 use Rattle.nk_grammar.proofs.Texts.{file_machine, reads_file, ends_file, file_goes_on, file_stops}
-use Rattle.nk_grammar.proofs.Fronts.{none_some}
+use Rattle.nk_grammar.proofs.Fronts.{none_some, some_same}
 
 abbrev answers_of_texts : Answers file_machine (List Declaration)
 answers_of_texts = record {

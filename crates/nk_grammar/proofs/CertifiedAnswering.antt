@@ -8,9 +8,9 @@ use Rattle.nk_grammar.specs.Certified.{Certified, HasCertificate}
 use Rattle.nk_grammar.specs.CertifiedMachine.{Certifying, first_certifying, certify_all, certified_at_end, judged_certified, certified_end_at, rest_of_certified, certified_of}
 use Rattle.nk_grammar.specs.Answer.{terminals}
 use Rattle.nk_grammar.specs.CertifiedAnswer.{IsCertifiedShallow, IsCertifiedAnswer}
-use Rattle.nk_grammar.proofs.Machines.{Answers, some_same, all_answers}
+use Rattle.nk_grammar.proofs.Machines.{Answers, all_answers}
 use Rattle.nk_grammar.proofs.CertifiedTexts.{certified_machine, reads_certified, ends_certified, certified_goes_on, certified_stops}
-use Rattle.nk_grammar.proofs.Fronts.{none_some}
+use Rattle.nk_grammar.proofs.Fronts.{none_some, some_same}
 
 abbrev answers_of_certified : Answers certified_machine Certified
 answers_of_certified = record {

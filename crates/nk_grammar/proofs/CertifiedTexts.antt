@@ -13,7 +13,7 @@ use Rattle.nk_grammar.specs.File.{Declaration, declared, spell_file, HasDeclarat
 use Rattle.nk_grammar.specs.FileMachine.{Phase, link_read, in_policy, Reading, policy_on, policy_done, next_reading, read_one, read_all, first_reading, declarations_at_end}
 use Rattle.nk_grammar.specs.Certified.{Row, row, WrittenRow, written_row, spell_numbers, spell_row, spell_rows, number_value, row_of, spell_certificate, rows_said, Certified, certified, HasCertificate, CertifiedGoesOn}
 use Rattle.nk_grammar.specs.CertifiedMachine.{CertifiedPhase, declaring, row_wanted, start_wanted, start_read, number_wanted, numbers_read, in_row, Certifying, certifying, is_certificate, is_start_word, with_row, certificate_begins, still_declaring, row_done, row_on, next_certifying, certify_one, certify_all, first_certifying, certificate_ends, certified_ended, certified_at_end, open_certified}
-use Rattle.nk_grammar.proofs.Fronts.{reads_only, goes_on, run_append, none_some}
+use Rattle.nk_grammar.proofs.Fronts.{reads_only, goes_on, run_append, none_some, some_same}
 use Rattle.nk_grammar.proofs.Machines.{Machine, all_append}
 use Rattle.nk_grammar.proofs.Texts.{outside_refused, left_by, reads_file, ends_file, file_goes_on, read_append, a_number, id_pol}
 
@@ -41,10 +41,7 @@ not_certificate r s t e = refl
 -- declarations are read before a certificate as they are alone
 declaring_inside : (xs rest : List Terminal) (r r' : Reading) (rs : List Row) → read_all xs r ≡ Some r'
     → certify_all (xs ++ rest) (certifying (declaring r) [] rs) ≡ certify_all rest (certifying (declaring r') [] rs)
-declaring_inside [] rest r r' rs e = ap (λ x. certify_all rest (certifying (declaring x) [] rs)) (same r r' e)
-  where
-    same : (x y : Reading) → ◌≡◌ {A = Option Reading} (Some x) (Some y) → x ≡ y
-    same x y e = cc
+declaring_inside [] rest r r' rs e = ap (λ x. certify_all rest (certifying (declaring x) [] rs)) (some_same r r' e)
 declaring_inside (x ∷ xs) rest r r' rs e = by_step (read_one r x) refl e (λ s f. declaring_inside xs rest s r' rs f)
   where
     by_step : (o : Option Reading) → read_one r x ≡ o → option_and_then (read_all xs) o ≡ Some r'
@@ -59,10 +56,7 @@ declaring_inside (x ∷ xs) rest r r' rs e = by_step (read_one r x) refl e (λ s
 -- a policy's tokens are read inside a row as they are alone
 inside_row : (line : ℕ) (ns : List ℕ) (ds : List Declaration) (rs : List Row) (xs r : List Terminal) (s s' : State) → run xs s ≡ Some s'
     → certify_all (xs ++ r) (certifying (in_row line ns s) ds rs) ≡ certify_all r (certifying (in_row line ns s') ds rs)
-inside_row line ns ds rs [] r s s' e = ap (λ x. certify_all r (certifying (in_row line ns x) ds rs)) (same s s' e)
-  where
-    same : (x y : State) → ◌≡◌ {A = Option State} (Some x) (Some y) → x ≡ y
-    same x y e = cc
+inside_row line ns ds rs [] r s s' e = ap (λ x. certify_all r (certifying (in_row line ns x) ds rs)) (some_same s s' e)
 inside_row line ns ds rs (x ∷ xs) r s s' e = by_step (step s x) (policy_ended s) e (inside_row line ns ds rs xs r)
   where
     by_step : (o : Option State) (t : Option Tree) → option_and_then (run xs) o ≡ Some s'
@@ -352,10 +346,7 @@ front_leads (in_row line ns s) ds rows ts t h =
 -- all tokens
 fronts : (us ts : List Terminal) (c c' : Certifying) → IsCertifiedFront ts c.phase c.declarations c.rows → certify_all us c ≡ Some c' → IsCertifiedFront (ts ++ us) c'.phase c'.declarations c'.rows
 fronts [] ts c c' h e =
-    subst (λ x. IsCertifiedFront x c'.phase c'.declarations c'.rows) (sym (append-nil ts)) (subst (λ x. IsCertifiedFront ts x.phase x.declarations x.rows) (same c c' e) h)
-  where
-    same : (x y : Certifying) → ◌≡◌ {A = Option Certifying} (Some x) (Some y) → x ≡ y
-    same x y e = cc
+    subst (λ x. IsCertifiedFront x c'.phase c'.declarations c'.rows) (sym (append-nil ts)) (subst (λ x. IsCertifiedFront ts x.phase x.declarations x.rows) (some_same c c' e) h)
 fronts (t ∷ us) ts c c' h e = by_step (certify_one c t) (front_leads c.phase c.declarations c.rows ts t h) e (λ s k f. fronts us (ts ++ t ∷ []) s c' k f)
   where
     by_step : (o : Option Certifying) → CertifiedLeads o (ts ++ t ∷ []) → option_and_then (certify_all us) o ≡ Some c'
@@ -441,15 +432,12 @@ certified_goes_on ts c e = phase_completes c.phase c.declarations c.rows ts (fro
 phase_ends : (p : CertifiedPhase) (ds : List Declaration) (rows : List Row) (x : Certified) (ts : List Terminal) → IsCertifiedFront ts p ds rows → certified_ended p ds rows ≡ Some x → HasCertificate ts x
 phase_ends (in_row line ns s) ds rows x ts h e = by_end (policy_ended s) refl e
   where
-    same : {a b : Certified} → ◌≡◌ {A = Option Certified} (Some a) (Some b) → a ≡ b
-    same e = cc
-
     by_end : (o : Option Tree) → policy_ended s ≡ o → certificate_ends ds rows ns line o ≡ Some x → HasCertificate ts x
     by_end None f e = absurd (none_some x e)
     by_end (Some p) f e =
         let k : IsCertifiedSpelled (in_row line ns s) rows h.1 = h.4 in
         let done = row_complete line ns rows k.0 k.1 p k.4 (reads_only k.1 p (ap (option_and_then policy_ended) k.3 ∙ f)) in
-        subst (HasCertificate ts) (same e)
+        subst (HasCertificate ts) (some_same _ x e)
         (all_of h.0 ts h.1 ds (rows ++ row ns p line ∷ []) h.2 h.3 (subst (λ y. AreRows y (rows ++ row ns p line ∷ [])) (sym k.2) done))
 phase_ends p ds rows x ts h e = absurd (none_some x e)
 

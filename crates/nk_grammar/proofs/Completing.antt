@@ -26,7 +26,7 @@ use Rattle.nk_grammar.specs.Answer.{terminals}
 use Rattle.nk_grammar.specs.Certified.{Row, row, row_value, IsWrittenRow}
 use Rattle.nk_grammar.specs.CertifiedMachine.{CertifiedPhase, declaring, row_wanted, start_wanted, start_read, number_wanted, numbers_read, in_row, Certifying, certifying, is_certificate, is_start_word, row_in, in_line, certificate_begins, still_declaring, row_on, certify_one, open_certified, judged_certified}
 use Rattle.nk_grammar.specs.CertifiedProgress.{CertifiedProgress, Going, Stopped, bare, with_done, done_declarations, SoFar, so_far, nothing_so_far, so_far_judged, so_far_after, IsRead, declarations_by, rows_by, IsWrittenPart, BeginsWithStart, CompletesWritten}
-use Rattle.nk_grammar.proofs.Fronts.{none_some}
+use Rattle.nk_grammar.proofs.Fronts.{none_some, some_same}
 use Rattle.nk_grammar.proofs.Written.{IsSmall, are_small}
 
 -- ---- what each token keeps holds of all
@@ -89,10 +89,7 @@ test_kept I false x y h i = i
 -- ---- numbers
 
 a_small_number : (t : Terminal) (m : Number) → number_in t ≡ Some m → IsSmall t → m.value ≤ largest
-a_small_number (number n) m e h = subst (λ x. x.value ≤ largest) (same n m e) h
-  where
-    same : (a b : Number) → ◌≡◌ {A = Option Number} (Some a) (Some b) → a ≡ b
-    same a b e = cc
+a_small_number (number n) m e h = subst (λ x. x.value ≤ largest) (some_same n m e) h
 a_small_number t m e h = absurd (none_some m e)
 
 -- the declarations have numbers of a text

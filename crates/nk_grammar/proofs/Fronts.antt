@@ -436,6 +436,10 @@ next_spell (stands o sp st f) t = standing_spell o sp st f t
 pub none_some : {A : Type 0} (s : A) → ◌≡◌ {A = Option A} None (Some s) → ⊥
 none_some s e = cc
 
+-- values that are there and equal are equal
+pub some_same : {A : Type 0} (x y : A) → ◌≡◌ {A = Option A} (Some x) (Some y) → x ≡ y
+some_same x y e = cc
+
 -- every state that the machine comes to is that of a front with these tokens
 pub reached : (ts : List Terminal) (p : Front) (s : State) → run ts (state_of p) ≡ Some s
     → (q : Front) × (spell_front q ≡ spell_front p ++ ts) × (s ≡ state_of q)
@@ -541,10 +545,6 @@ pub stops : (ts : List Terminal) → run ts first_state ≡ None → PolicyGoesO
 stops ts e g =
     let refused : run (ts ++ g.0) first_state ≡ None = run_append ts g.0 first_state ∙ ap (option_and_then (run g.0)) e in
     none_some _ (ap (option_map settled) (sym refused) ∙ ap (λ x. option_map settled (run x first_state)) g.2 ∙ reads g.1)
-
--- values that are there and equal are equal
-some_same : {A : Type 0} (x y : A) → ◌≡◌ {A = Option A} (Some x) (Some y) → x ≡ y
-some_same x y e = cc
 
 -- a front that ends after a factor is a policy
 standing_ends : (o : Outer) (sp : Option Pol) (st : Option Term) (f : Factor) (t : Tree)

@@ -10,6 +10,7 @@ use Rattle.nk_grammar.specs.declared.decl.GrammarError.{GrammarError}
 use Rattle.nk_grammar.specs.declared.decl.GrammarError.TheVariants as error
 use Rattle.nk_grammar.specs.Terminal.{Terminal, terminal_of}
 use Rattle.nk_grammar.specs.Answer.{terminals}
+use Rattle.nk_grammar.proofs.Fronts.{some_same}
 
 -- one more token, all tokens of a list, the state before the first token, and how many parentheses and `~` are open
 pub record Machine (S : Type 0) : Type 0 where
@@ -48,10 +49,6 @@ pub record TokenAt {S : Type 0} (m : Machine S) (ts : List Token) : Type 0 where
   pub state : S
   pub taken : m.all (terminals before) m.first ≡ Some state
   pub shallow : IsShallowIn m (terminals before)
-
--- values that are there and equal are equal
-pub some_same : {A : Type 0} (x y : A) → ◌≡◌ {A = Option A} (Some x) (Some y) → x ≡ y
-some_same x y e = cc
 
 -- the terminals of one more token
 pub terminals_more : (xs : List Token) (t : Token) → terminals (xs ++ t ∷ []) ≡ terminals xs ++ terminal_of t ∷ []

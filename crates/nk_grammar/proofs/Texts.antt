@@ -24,7 +24,7 @@ use Rattle.nk_grammar.specs.FileMachine.{Phase, between, name_wanted, field_name
 use Rattle.nk_grammar.proofs.Spelled.{reads, early_late, pol_has_star, early, late}
 use Rattle.nk_grammar.proofs.Machines.{Machine, all_append}
 use Rattle.nk_grammar.proofs.Links.{spell_link, spell_quad, quad_spell, IsQuadSpelledWith}
-use Rattle.nk_grammar.proofs.Fronts.{reads_only, goes_on, run_append, none_some}
+use Rattle.nk_grammar.proofs.Fronts.{reads_only, goes_on, run_append, none_some, some_same}
 
 -- the declarations that the tokens come to
 abbrev finish : Option Reading → Option (List Declaration)
@@ -95,9 +95,6 @@ ports_pass n qs [] ds r b = absurd b
 pub left_by : (p : Pol) → (s : State) × (run (spell_pol p) first_state ≡ Some s) × (policy_ended s ≡ Some (pol_tree p))
 left_by p = by_state (run (spell_pol p) first_state) refl (reads p)
   where
-    some_same : {A : Type 0} (x y : A) → ◌≡◌ {A = Option A} (Some x) (Some y) → x ≡ y
-    some_same x y e = cc
-
     by_state : (o : Option State) → run (spell_pol p) first_state ≡ o
         → option_map settled o ≡ Some (state (place.After (pol_has_star p)) [] (early p) (late p))
         → (s : State) × (run (spell_pol p) first_state ≡ Some s) × (policy_ended s ≡ Some (pol_tree p))
@@ -385,10 +382,7 @@ front_leads (in_policy k w line s) ds ts t h =
 fronts : (us ts : List Terminal) (r r' : Reading) → IsFront ts r.phase r.declarations
     → read_all us r ≡ Some r' → IsFront (ts ++ us) r'.phase r'.declarations
 fronts [] ts r r' h e =
-    subst (λ x. IsFront x r'.phase r'.declarations) (sym (append-nil ts)) (subst (λ x. IsFront ts x.phase x.declarations) (some_reading r r' e) h)
-  where
-    some_reading : (x y : Reading) → ◌≡◌ {A = Option Reading} (Some x) (Some y) → x ≡ y
-    some_reading x y e = cc
+    subst (λ x. IsFront x r'.phase r'.declarations) (sym (append-nil ts)) (subst (λ x. IsFront ts x.phase x.declarations) (some_same r r' e) h)
 fronts (t ∷ us) ts r r' h e = by_step (read_one r t) (front_leads r.phase r.declarations ts t h) e (λ s k f. fronts us (ts ++ t ∷ []) s r' k f)
   where
     by_step : (o : Option Reading) → Leads o (ts ++ t ∷ []) → option_and_then (read_all us) o ≡ Some r'
@@ -491,28 +485,19 @@ file_goes_on ts r e = phase_completes r.phase r.declarations ts (front_of ts r e
 -- what may end is a text
 phase_ends : (p : Phase) (ds es : List Declaration) (ts : List Terminal) → IsFront ts p ds
     → text_ended p ds ≡ Some es → HasDeclarations ts es
-phase_ends between ds es ts h e = (h.0, h.3 ∙ ap (λ x. spell_file h.0 ++ x) h.4 ∙ append-nil (spell_file h.0), sym (same e) ∙ h.2)
-  where
-    same : {xs ys : List Declaration} → ◌≡◌ {A = Option (List Declaration)} (Some xs) (Some ys) → xs ≡ ys
-    same e = cc
+phase_ends between ds es ts h e = (h.0, h.3 ∙ ap (λ x. spell_file h.0 ++ x) h.4 ∙ append-nil (spell_file h.0), sym (some_same ds es e) ∙ h.2)
 phase_ends (port_read n ps) ds es ts h e =
     let s : IsPhaseSpelled (port_read n ps) h.1 = h.4 in
-    subst (HasDeclarations ts) (same e)
+    subst (HasDeclarations ts) (some_same _ es e)
     (subst (λ x. HasDeclarations ts (one_more ds (switch n x))) (sym s.2) (done_more h.0 (written_switch n s.0 s.1) ts h.1 ds h.2 h.3 s.3))
-  where
-    same : {xs ys : List Declaration} → ◌≡◌ {A = Option (List Declaration)} (Some xs) (Some ys) → xs ≡ ys
-    same e = cc
 phase_ends (in_policy k w line s) ds es ts h e = by_end (policy_ended s) refl e
   where
-    same : {xs ys : List Declaration} → ◌≡◌ {A = Option (List Declaration)} (Some xs) (Some ys) → xs ≡ ys
-    same e = cc
-
     by_end : (o : Option Tree) → policy_ended s ≡ o
         → option_map (λ p. one_more ds (defined k w p line)) o ≡ Some es → HasDeclarations ts es
     by_end None f e = absurd (none_some es e)
     by_end (Some q) f e =
         let p : IsPhaseSpelled (in_policy k w line s) h.1 = h.4 in
-        subst (HasDeclarations ts) (same e) (policy_here k h.0 ds ts h.1 p.0 w line s q h.2 h.3 p.1 p.2 f)
+        subst (HasDeclarations ts) (some_same _ es e) (policy_here k h.0 ds ts h.1 p.0 w line s q h.2 h.3 p.1 p.2 f)
 phase_ends p ds es ts h e = absurd (none_some es e)
 
 -- what may end is a text
