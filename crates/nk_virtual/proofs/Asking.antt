@@ -2,7 +2,7 @@
 use Rattle.std.proofs.Common.{◌≡◌, ◌⊎◌, inl, inr, ⊎_elim, List, [], length, refl, sym, ap, subst, ◌∙◌, arith}
 use Rattle.nk_field.specs.declared.packet.Packet.{Packet}
 use Rattle.nk_field.specs.Packet.{FieldTable, IsPacket}
-use Rattle.nk_field.specs.Order.{Found, Precedes, IsLess}
+use Rattle.nk_field.specs.Order.{Found, IsLess}
 use Rattle.nk_policy.specs.Policy.{Policy}
 use Rattle.nk_policy.specs.Meaning.{Gives}
 use Rattle.nk_policy.specs.After.{drop_policy}
@@ -13,7 +13,7 @@ use Rattle.nk_names.specs.ProgramValue.{VirtualLink}
 use Rattle.nk_virtual.specs.Fabrics.{moved_along, IsCarried}
 use Rattle.nk_virtual.specs.Endings.{without_records}
 use Rattle.nk_virtual.specs.Questions.{from_entry, move, ends_or_move, elsewhere}
-use Rattle.nk_virtual.specs.Carriage.{Enters, IsOnTarget, IsOffTarget, IsNotCarried, IsFirstOffTarget, IsFirstNotCarried, IsLeastFrom}
+use Rattle.nk_virtual.specs.Carriage.{Enters, IsOnTarget, IsOffTarget, IsNotCarried, IsFirstNotCarried, IsLeastFrom}
 use Rattle.nk_virtual.proofs.Endings.{same_ends}
 use Rattle.nk_virtual.proofs.Entries.{entered, move_way}
 use Rattle.nk_virtual.proofs.Only.{elsewhere_way}
@@ -216,16 +216,3 @@ module _ (fields : FieldTable) (k : VirtualLink) where
             → IsOffTarget fields k f × (f.start ≡ x)
         some on_left f a = off_target f a
         some on_right f a = absurd a.1
-
--- the least history from the least start is the first one
-pub first_one : (fields : FieldTable) (k : VirtualLink) (x : Packet) (f : Found)
-    → ((g : Found) → IsOffTarget fields k g → PrecedesOrEquals x g.start) → IsLeastFrom fields k x f
-    → IsFirstOffTarget fields k f
-first_one fields k x f least l = (
-  l.0,
-  λ g o.
-      ⊎_elim
-      (λ e. ⊎_elim (λ same. inl same) (λ less. inr (inr (l.1 ∙ e, less))) (l.2 g o (sym e)))
-      (λ before. inr (inl (subst (λ z. Precedes z g.start) (sym l.1) before)))
-      (least g o),
-)
