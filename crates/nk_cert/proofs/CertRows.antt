@@ -25,7 +25,7 @@ use Rattle.nk_reach.specs.Sides.{alone, alone_sided, ends_of, ends_same, AreOneS
 use Rattle.nk_determ.specs.Breaks.{MakesWithTarget}
 use Rattle.nk_goal.proofs.Growing.{place_of}
 use Rattle.nk_runs.proofs.Numbers.{dup_within}
-use Rattle.nk_runs.proofs.Listings.{all_listed, some_decided, sends_decided}
+use Rattle.nk_runs.proofs.Listings.{all_listed, some_decided, sends_decided, empty_from, first_of_some, both_decided, decided_for, above_zero}
 use Rattle.nk_runs.proofs.Stands.{stands, state_on, are_states}
 use Rattle.nk_runs.proofs.Steps.{start_leads, members_lead, led_in_range}
 use Rattle.nk_cert.specs.Together.{either_of, EndsWithin}
@@ -33,7 +33,8 @@ use Rattle.nk_cert.specs.Certificates.{RowPosition, at_start, at_dups, CertRow, 
 use Rattle.nk_cert.specs.Levelled.{IsAutomatonOfBoth, IsOneSided}
 use Rattle.nk_cert.specs.Checked.{labels_at, IsSetAt, HasNoViolation, StepsLeadToRows}
 use Rattle.nk_cert.proofs.Together.{sides_of, either_distinct, held_left, held_right, after_left, after_right, left_state, right_state}
-use Rattle.nk_cert.proofs.Levels.{side_ends, empty_from, first_of_some, ends_decided, below_from, above_from, mark_below, mark_above, above_start, both_decided, decided_for, above_zero}
+use Rattle.nk_reach.proofs.SideLabels.{below_from, above_from, mark_below, mark_above}
+use Rattle.nk_cert.proofs.Levels.{side_ends, ends_decided, above_start}
 
 -- the goal of sides, in the store in which levels begin, is one-sided
 pub goal_is_one_sided : (first made old : StoreState) (states : List ℕ) (left right bound : ℕ) (ends : List ℕ)

@@ -13,8 +13,7 @@ use Rattle.nk_store.specs.StoreState.{StoreState, Grows, AreTidy}
 use Rattle.nk_store.proofs.Stores.{grows_on}
 use Rattle.nk_sets.specs.PacketSets.{is_in}
 use Rattle.nk_determ.specs.Sets.{HasEachSetOnce}
-use Rattle.nk_determ.specs.Pairs.{AreStates, EachPair, IsPair}
-use Rattle.nk_goal.specs.Entries.{HaveSets}
+use Rattle.nk_determ.specs.Pairs.{AreStates}
 use Rattle.nk_determ.specs.Levels.{AreLevels}
 use Rattle.nk_reach.specs.Sides.{alone, ends_of}
 use Rattle.nk_determ.specs.Breaks.{IsBreak, Breaks}
@@ -48,11 +47,6 @@ use Rattle.nk_cert.specs.declared.compared.Compared.TheVariants.{Related, Broken
 same_target : (side : Side) → witness_target side ≡ target_of_side (whose side)
 same_target Left = refl
 same_target Right = refl
-
--- entries over states have sets of packets
-pub packets_are_sets : (st : StoreState) (ss : List (List ℕ)) (states : ℕ) (ps : List (ℕ × ℕ)) → EachPair (IsPair st ss states) ps → HaveSets st ps
-packets_are_sets st ss states [] h = tt
-packets_are_sets st ss states (p ∷ ps) h = (h.0.packets, packets_are_sets st ss states ps h.1)
 
 -- what the goal finds bad in a store
 abbrev pub violations_in : StoreState → List ℕ → List ℕ → List ℕ → List Out

@@ -1,7 +1,6 @@
 -- Levels of both policies together tell whether they do the same.
-use Rattle.std.proofs.Common.{◌≡◌, ℕ, zero, suc, ◌+◌, ◌-◌, ◌<◌, ◌≤◌, Bool, true, false, cond, ◌⊎◌, inl, inr, ⊎_elim, List, [], ◌∷◌, ◌++◌, length, refl, sym, ap, subst, ◌∙◌, arith}
-use Rattle.std.specs.Prelude.{◌↔◌, nat_lt, Contains, slice_index}
-use Rattle.std.proofs.lemmas.Bool.{ltb-true, ltb-false, lt-ltb, le-ltb}
+use Rattle.std.proofs.Common.{◌≡◌, ℕ, zero, suc, ◌+◌, ◌-◌, ◌<◌, Bool, true, false, ◌⊎◌, inl, inr, ⊎_elim, List, [], ◌∷◌, ◌++◌, length, refl, sym, ap, subst, ◌∙◌, arith}
+use Rattle.std.specs.Prelude.{◌↔◌, Contains, slice_index}
 use Rattle.nk_field.specs.declared.packet.Packet.{Packet}
 use Rattle.nk_field.specs.Act.{applied}
 use Rattle.nk_field.specs.Packet.{FieldTable}
@@ -24,8 +23,10 @@ use Rattle.nk_auto.proofs.Stating.{label_within}
 use Rattle.nk_determ.specs.Pairs.{Node, AreLabelsBelow}
 use Rattle.nk_determ.specs.Levels.{At, AreLevels}
 use Rattle.nk_reach.specs.Sides.{label_side, EndsAt}
+pub use Rattle.nk_reach.proofs.SideLabels.{mark_below, mark_above, below_from, above_from}
 use Rattle.nk_determ.specs.Breaks.{MakesWithTarget}
-use Rattle.nk_runs.proofs.Listings.{some_decided, sends_decided}
+pub use Rattle.nk_runs.proofs.Listings.{both_decided, decided_for, above_zero, empty_from, first_of_some}
+use Rattle.nk_runs.proofs.Listings.{either_decided, some_decided, sends_decided}
 use Rattle.nk_runs.proofs.Stands.{stands, packet_back}
 use Rattle.nk_runs.proofs.Labelled.{met_in_range, met_labels, labels_met}
 use Rattle.nk_runs.proofs.Ends.{never_violation, level_places}
@@ -34,64 +35,10 @@ use Rattle.nk_cert.specs.Together.{either_of, IsAtEither, EndsWithin, AgreeBySet
 use Rattle.nk_cert.specs.Levelled.{IsAutomatonOfBoth, AreLevelsOfBoth}
 use Rattle.nk_cert.proofs.Together.{sides_of, exact_for, either_at, either_position, last_is_last, position_dup, either_distinct, same_from, left_state, right_state, have_sets}
 
--- the mark by the side
-abbrev mark_by : Bool → ℕ
-mark_by b = cond b 1 2
-
--- labels below the bound have mark 1, and the others mark 2
-pub mark_below : (bound l : ℕ) → l < bound → label_side bound l ≡ 1
-mark_below bound l lt = ap mark_by (lt-ltb l bound lt)
-
-pub mark_above : (bound l : ℕ) → bound ≤ l → label_side bound l ≡ 2
-mark_above bound l le = ap mark_by (le-ltb l bound le)
-
-pub below_from : (bound l : ℕ) → label_side bound l ≡ 1 → l < bound
-below_from bound l e = by (nat_lt l bound) refl
-  where
-    by : (b : Bool) → nat_lt l bound ≡ b → l < bound
-    by true is = ltb-true l bound is
-    by false is = let two : 2 ≡ 1 = sym (ap mark_by is) ∙ e in absurd (omega (arith, two))
-
-pub above_from : (bound l : ℕ) → label_side bound l ≡ 2 → bound ≤ l
-above_from bound l e = by (nat_lt l bound) refl
-  where
-    by : (b : Bool) → nat_lt l bound ≡ b → bound ≤ l
-    by true is = let one : 1 ≡ 2 = sym (ap mark_by is) ∙ e in absurd (omega (arith, one))
-    by false is = ltb-false l bound is
-
 -- at a position above 0 what is left is what is left after the dup
 pub above_start : (p : Policy) (l : ℕ) → 0 < l → at_position p l ≡ after p l
 above_start p zero lt = absurd (omega (arith, lt))
 above_start p (suc l) lt = refl
-
--- both, either and an equivalent of what is decided are decided
-pub both_decided : {P Q : Type 0} → Decided P → Decided Q → Decided (P × Q)
-both_decided (inl p) (inl q) = inl (p, q)
-both_decided (inl p) (inr other) = inr (λ h. other h.1)
-both_decided (inr other) d = inr (λ h. other h.0)
-
-either_decided : {P Q : Type 0} → Decided P → Decided Q → Decided (P ⊎ Q)
-either_decided (inl p) d = inl (inl p)
-either_decided (inr other) (inl q) = inl (inr q)
-either_decided (inr other) (inr not) = inr (λ h. ⊎_elim (λ p. other p) (λ q. not q) h)
-
-pub decided_for : {P Q : Type 0} → (P → Q) → (Q → P) → Decided P → Decided Q
-decided_for f g (inl p) = inl (f p)
-decided_for f g (inr other) = inr (λ q. other (g q))
-
-pub above_zero : (l : ℕ) → Decided (0 < l)
-above_zero zero = inr (λ lt. omega (arith, lt))
-above_zero (suc l) = inl (omega arith)
-
--- a list that can't but be empty is empty
-pub empty_from : {X : Type 0} (xs : List X) → ((xs ≡ [] → ⊥) → ⊥) → xs ≡ []
-empty_from [] h = refl
-empty_from (x ∷ xs) h = absurd (h (λ e. cc))
-
--- a list that isn't empty has a first element
-pub first_of_some : {X : Type 0} (xs : List X) → (xs ≡ [] → ⊥) → (x : X) × Contains xs x
-first_of_some [] h = absurd (h refl)
-first_of_some (x ∷ xs) h = (x, contains_from_in (x ∷ xs) x (inl refl))
 
 -- whether a side ends at a packet is decided
 pub ends_decided : (st : StoreState) (states : List ℕ) (d bound k : ℕ) (s x y : List ℕ) → Decided (EndsAt st states d bound k s x y)

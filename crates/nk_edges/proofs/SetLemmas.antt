@@ -2,30 +2,14 @@
 use Rattle.std.proofs.Common.{◌≡◌, ℕ, zero, suc, ◌+◌, ◌<◌, ◌≤◌, Bool, true, false, not, ◌||◌, List, [], ◌∷◌, ◌++◌, inl, inr, length, get_or, drop, refl, sym, ap, subst, ◌∙◌, arith, length-drop, drop-cons, add-one}
 use Rattle.std.specs.Prelude.{slice_index}
 use Rattle.std.specs.List.{list_any}
-use Rattle.std.specs.declared.cmp.Ordering.{Ordering}
-use Rattle.std.specs.declared.cmp.Ordering.TheVariants.{Less, Equal, Greater}
 use Rattle.std.proofs.lemmas.Bool.Decides.{leb_tells}
 use Rattle.std.proofs.lemmas.List.{drop_all, get_or_default, get_or_append_left, get_or_at}
-use Rattle.nk_store.specs.Leaves.{out_cmp}
 use Rattle.nk_store.specs.Nodes.{InRange}
-use Rattle.nk_store.specs.declared.node.Out.{Out}
 use Rattle.nk_store.specs.StoreState.{StoreState, IsStorePacket, look, Grows, HasLeaves}
-use Rattle.nk_apply.specs.Leaves.{weave, merged, by_order}
+use Rattle.nk_apply.specs.Leaves.{merged}
 use Rattle.nk_apply.specs.Unions.{unions}
+use Rattle.nk_sets.proofs.SetLemmas.{merged_out}
 use Rattle.nk_edges.specs.PacketSets.{has_some_out, IsSetInRange}
-
--- two leaves together
-pub merged_out : (xs ys : List Out) → has_some_out (merged xs ys) ≡ has_some_out xs || has_some_out ys
-merged_out [] ys = refl
-merged_out (x ∷ xs) [] = refl
-merged_out (x ∷ xs) (y ∷ ys) = by (out_cmp x y)
-  where
-    by :
-        (r : Ordering)
-        → has_some_out (by_order r (x ∷ merged xs (y ∷ ys)) (x ∷ merged xs ys) (y ∷ weave x xs (merged xs) ys)) ≡ true
-    by Less = refl
-    by Equal = refl
-    by Greater = refl
 
 -- what is in the old store's set is in the grown one's
 pub set_grows :

@@ -1,9 +1,9 @@
 -- How many pass a test, and how that changes.
-use Rattle.std.proofs.Common.{◌≡◌, ◌≢◌, ℕ, zero, suc, ◌+◌, ◌<◌, ◌≤◌, ◌&&◌, ◌||◌, Bool, true, false, true≢false, cond, inl, inr, ⊎_elim, List, [], ◌∷◌, ◌++◌, length, get_or, take, refl, sym, ap, subst, ◌∙◌, arith, length-append, length-set, get_or-set_same, get_or-set_other}
+use Rattle.std.proofs.Common.{◌≡◌, ◌≢◌, ℕ, zero, suc, ◌+◌, ◌<◌, ◌≤◌, ◌&&◌, ◌||◌, Bool, true, false, true≢false, cond, inl, inr, ⊎_elim, List, [], ◌∷◌, ◌++◌, length, refl, sym, ap, subst, ◌∙◌, arith, length-append, length-set, get_or-set_same, get_or-set_other}
 use Rattle.std.specs.Prelude.{◌==◌, nat_le, not, if◌then◌else◌, map, filter, remove, slice_get, slice_index, slice_set, Some, Contains, All, AllPairs, replicate}
 use Rattle.std.specs.List.{list_all, list_any}
 use Rattle.std.proofs.lemmas.List.{length-replicate}
-use Rattle.std.proofs.lemmas.List.Elements.{All-replicate, All-set, filter-append, filter_more}
+use Rattle.std.proofs.lemmas.List.Elements.{All-replicate, All-set, filter-append}
 use Rattle.nk_field.specs.Lists.{IsWithoutDoubles}
 use Rattle.nk_field.proofs.Lists.{In, from_mapped, in_from_contains, contains_from_in}
 use Rattle.nk_topo.specs.Topology.{SwitchPorts}
@@ -78,15 +78,6 @@ many_mapped test f (x ∷ xs) = by (test (f x)) (many_mapped test f xs)
         → length (cond b (f x ∷ filter test (map f xs)) (filter test (map f xs))) ≡ length (cond b (x ∷ filter (λ y. test (f y)) xs) (filter (λ y. test (f y)) xs))
     by true r = ap suc r
     by false r = r
-
--- one of those from the first on
-pub many_more : {X : Type 0} (test : X → Bool) (xs : List X) (i : ℕ) (x : X) → i < length xs → x ≡ get_or xs i x
-    → how_many test (take i xs) + one_if (test x) ≡ how_many test (take (i + 1) xs)
-many_more test xs i x lt e =
-    ap (λ y. how_many test (take i xs) + one_if (test y)) e
-    ∙ sym (ap length (filter_more test xs i x lt)
-    ∙ length-append (filter test (take i xs)) (cond (test (get_or xs i x)) (get_or xs i x ∷ []) [])
-    ∙ ap (λ n. how_many test (take i xs) + n) (many_one test (get_or xs i x) (test (get_or xs i x))))
 
 -- with one taken out
 pub many_removed : {X : Type 0} (test : X → Bool) (xs : List X) (i : ℕ) (x : X) → slice_get xs i ≡ Some x

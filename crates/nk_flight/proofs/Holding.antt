@@ -26,7 +26,7 @@ use Rattle.nk_flight.proofs.Steps.{next_is}
 use Rattle.nk_flight.proofs.Trails.{across_is, below_end, copies_more, fresh_copies, hops_more, mapped_at, next_follow, removed_all, removed_copies}
 
 -- places of hops stay such where more hops are held
-wider : (hs more : List Hop) (places : List ℕ) → All (λ i. i < length hs) places → All (λ i. i < length (hs ++ more)) places
+pub wider : (hs more : List Hop) (places : List ℕ) → All (λ i. i < length hs) places → All (λ i. i < length (hs ++ more)) places
 wider hs more places all =
     All-weaker (λ i. i < length hs) (λ i. i < length (hs ++ more)) (λ i lt. omega (arith, lt, length-append hs more)) places all
 

@@ -19,4 +19,4 @@ pub mod Schedules
 pub mod Steps
 pub mod Trails
 pub mod Turns
-pub mod Waits
+pub mod WaitingSwitches

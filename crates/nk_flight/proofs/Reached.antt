@@ -6,7 +6,7 @@ use Rattle.std.specs.List.Sorted.{IsPermutation}
 use Rattle.std.proofs.lemmas.List.Edits.{length-remove}
 use Rattle.std.proofs.lemmas.List.FromFn.{length-range_with_len}
 use Rattle.std.proofs.lemmas.Option.{slice_get_within}
-use Rattle.std.proofs.lemmas.List.Elements.{All-nil, All-cons, All-append, All-push, All-weaker}
+use Rattle.std.proofs.lemmas.List.Elements.{All-nil, All-cons, All-append, All-push}
 use Rattle.nk_field.proofs.Lists.{map_joined}
 use Rattle.nk_table.specs.declared.Tables.{Tables}
 use Rattle.nk_table.specs.Hops.{left_after}
@@ -17,6 +17,7 @@ use Rattle.nk_flight.specs.declared.hops.Hop.{Hop}
 use Rattle.nk_flight.specs.Flights.{FlightState, Event, inject, step, nothing_in_flight, flying_next, left_next, handled, injected, stepped, after_event, after_events, IsReached}
 use Rattle.nk_flight.specs.Owed.{left_or_owed}
 use Rattle.nk_flight.specs.Trails.{hop_at, hop_of, first_hop, copy_at, copies_at, FollowsHop, AreHops, state_of_trails, IsSound}
+use Rattle.nk_flight.proofs.Holding.{wider}
 use Rattle.nk_flight.proofs.Schedules.{every_order, handled_tables}
 use Rattle.nk_flight.proofs.Steps.{next_is}
 use Rattle.nk_flight.proofs.Trails.{across_is, below_end, copies_more, fresh_copies, hops_more, mapped_at, next_follow, removed_all, removed_copies}
@@ -48,11 +49,6 @@ got_at (y ∷ ys) zero x lt e = ap Some (sym e)
 got_at (y ∷ ys) (suc i) x lt e =
     let less : i < length ys = omega (arith, lt) in
     got_at ys i x less e
-
--- places of hops stay such where more hops are held
-wider : (hs more : List Hop) (places : List ℕ) → All (λ i. i < length hs) places → All (λ i. i < length (hs ++ more)) places
-wider hs more places all =
-    All-weaker (λ i. i < length hs) (λ i. i < length (hs ++ more)) (λ i lt. omega (arith, lt, length-append hs more)) places all
 
 -- the flight after an injection
 pub injected_sound : (t : Tables) (pks qks : List (List ℕ)) (hs gs : List Hop) (places qlaces : List ℕ) (ls : List Left) (pk : List ℕ)

@@ -1,8 +1,8 @@
 -- Trails of hops: more hops after them leave them as they are, and the hops that a copy leads to are those of its next copies.
-use Rattle.std.proofs.Common.{◌≡◌, ◌<◌, ◌≤◌, ◌+◌, ◌-◌, ◌⊎◌, ℕ, zero, suc, Option, None, Some, List, [], ◌∷◌, ◌++◌, length, take, drop, refl, sym, ap, subst, ◌∙◌, inl, inr, ⊎_elim, arith, append_assoc, length-append}
-use Rattle.std.specs.Prelude.{reverse, map, All, remove, slice_index, slice_get}
+use Rattle.std.proofs.Common.{◌≡◌, ◌<◌, ◌≤◌, ◌+◌, ◌-◌, ◌⊎◌, ℕ, zero, suc, Option, None, Some, List, [], ◌∷◌, ◌++◌, length, take, drop, refl, sym, ap, subst, ◌∙◌, inl, inr, ⊎_elim, arith, length-append}
+use Rattle.std.specs.Prelude.{map, All, remove, slice_index, slice_get}
 use Rattle.std.specs.List.{flat_map, range_with_len}
-use Rattle.std.proofs.lemmas.List.{get_or_append_left, get_or-append_right, get_or-append-add, reverse-append, take-map, drop-map}
+use Rattle.std.proofs.lemmas.List.{get_or_append_left, get_or-append_right, get_or-append-add, take-map, drop-map}
 use Rattle.std.proofs.lemmas.List.Elements.{All-nil, All-cons, All-head, All-tail, All-append, All-take, All-drop}
 use Rattle.nk_field.specs.Packet.{FieldTable, erased}
 use Rattle.nk_field.proofs.Lists.{map_joined}
@@ -210,9 +210,3 @@ trail_back fields hs are m n i e lt count =
     let fewer : (hop_at hs (hop_at hs i).earlier).crossings ≡ n = omega (arith, r.1, count, e) in
     (within, fewer, ap (λ k. records_at fields hs k (hop_at hs i)) e))
     (are i lt)
-
--- its records are put in front
-pub put_back : (w back : List (List ℕ)) (y z : List ℕ) → w ++ reverse ((back ++ z ∷ []) ++ y ∷ []) ≡ (w ++ y ∷ z ∷ []) ++ reverse back
-put_back w back y z =
-    ap (λ l. w ++ l) (reverse-append (back ++ z ∷ []) (y ∷ []) ∙ ap (λ l. y ∷ l) (reverse-append back (z ∷ [])))
-    ∙ sym (append_assoc w (y ∷ z ∷ []) (reverse back))

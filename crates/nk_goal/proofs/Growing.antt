@@ -1,16 +1,15 @@
 -- Levels as stores and sets grow.
-use Rattle.std.proofs.Common.{◌≡◌, ℕ, ◌<◌, ◌≤◌, ◌⊎◌, Bool, true, false, inl, inr, refl, sym, ◌∙◌, ap, subst, arith, List, [], ◌∷◌, ◌++◌, length, length-append, get_or, Contains}
+use Rattle.std.proofs.Common.{◌≡◌, ℕ, ◌<◌, ◌≤◌, ◌⊎◌, Bool, true, false, inl, inr, refl, sym, ◌∙◌, ap, subst, arith, List, [], ◌∷◌, length, length-append, append-nil, get_or, Contains}
 use Rattle.std.proofs.lemmas.Bool.Decides.{eqb_tells}
 use Rattle.std.proofs.lemmas.List.{get_or_append_left, get_or_default}
-use Rattle.nk_store.specs.StoreState.{StoreState, IsId, IsStorePacket, Grows}
-use Rattle.nk_store.specs.declared.node.Out.{Out}
+use Rattle.nk_store.specs.StoreState.{StoreState, IsStorePacket, Grows}
 use Rattle.nk_sets.specs.PacketSets.{is_in, IsSet}
 use Rattle.nk_sets.proofs.SetLemmas.{set_grows}
 use Rattle.nk_determ.specs.Sets.{SetsGrow}
-use Rattle.nk_determ.specs.Exact.{Sends}
 use Rattle.nk_determ.specs.States.{StateLeads}
 use Rattle.nk_determ.specs.Pairs.{Node, Under, Named, EachPair, Within, AreStates, AreLabelsBelow, IsPair, ArePairs, IsStep}
 use Rattle.nk_determ.specs.Levels.{IsFilled}
+pub use Rattle.nk_determ.proofs.Sending.{sends_on, sends_back}
 use Rattle.nk_goal.specs.Entries.{HaveSets}
 use Rattle.nk_outs.proofs.Kept.{packet_on, packet_back, has_on, has_back}
 
@@ -24,11 +23,7 @@ sets_same a b i g k = ap (λ (s : List (List ℕ)). get_or s i []) g.1 ∙ get_o
 
 -- sets that stay as they are
 pub sets_refl : (a : List (List ℕ)) → SetsGrow a a
-sets_refl a = ([], by a)
-  where
-    by : (s : List (List ℕ)) → s ≡ s ++ []
-    by [] = refl
-    by (x ∷ xs) = ap (λ r. x ∷ r) (by xs)
+sets_refl a = ([], sym (append-nil a))
 
 -- what holds of each entry, weakened
 pub each_weaker : (P Q : ℕ × ℕ → Type 0) (ps : List (ℕ × ℕ)) → ((p : ℕ × ℕ) → P p → Q p) → EachPair P ps → EachPair Q ps
@@ -104,14 +99,6 @@ within_back a b ss nss r ps n g h q w =
 -- the members of a set within a level have places
 pub within_places : (st : StoreState) (ss : List (List ℕ)) (r : ℕ) (ps : List (ℕ × ℕ)) (n : Node) → ArePairs st ss r ps → Within st ss ps n → AreLabelsBelow r n.0
 within_places st ss r ps n q w = subst (AreLabelsBelow r) w.1 (named_known st ss r ps w.0 q.each (under_named st ps w.0 n.1 w.2)).1
-
--- what a state sends it sends as the store grows
-pub sends_on : (a b : StoreState) (d : ℕ) (x y : List ℕ) (t : ℕ) → Grows a b → IsId a d → Sends a d x y t → Sends b d x y t
-sends_on a b d x y t g i s = (s.0, subst (λ (os : List Out). Contains os (record { act = s.0; target = t })) (sym (g.leaves d x i)) s.1, s.2)
-
--- what a state sends in the grown store it sent before
-pub sends_back : (a b : StoreState) (d : ℕ) (x y : List ℕ) (t : ℕ) → Grows a b → IsId a d → Sends b d x y t → Sends a d x y t
-sends_back a b d x y t g i s = (s.0, subst (λ (os : List Out). Contains os (record { act = s.0; target = t })) (g.leaves d x i) s.1, s.2)
 
 -- a label of a set that has places has one
 pub place_of : (n : ℕ) (set : List ℕ) (l : ℕ) → AreLabelsBelow n set → Contains set l → l < n

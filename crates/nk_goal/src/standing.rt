@@ -1,5 +1,5 @@
 //! Sets of labels with packets.
-ghost use Rattle.std.specs.Prelude.{◌≡◌, eqb, IfOk, OnOk};
+ghost use Rattle.std.specs.Prelude.{◌≡◌, eqb, IfOk, OnOk, OnErr};
 ghost use Rattle.std.specs.Map.{lookup};
 ghost use Rattle.nk_store.specs.StoreState.{Grows};
 ghost use Rattle.nk_sets.specs.PacketSets.{IsSet};
@@ -46,13 +46,15 @@ impl Entries {
     {
         under(&self.pairs, t)
     }
-    /// Adds packets under a set. The only error is that memory ran out.
+
+    /// Adds packets under a set. The only error is that memory ran out; then the entries stay as they were.
     pub fn add(&mut self, st: &mut Store, t: SetId, y: Id) -> Result<(), AllocError>
         requires pairs { HaveSets st.old self.old }
         requires once { Once self.old }
         requires packets { IsSet st.old y }
         ensures grows { Grows st.old st.new }
         ensures ok { OnOk result (IsAdded st.old self.old t y st.new self.new) }
+        ensures err { OnErr result (self.new ≡ self.old) }
     {
         add(st, &mut self.pairs, t, y)
     }

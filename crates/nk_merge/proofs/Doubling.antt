@@ -17,7 +17,7 @@ use Rattle.nk_goal.proofs.Growing.{sends_on, sends_back, states_grow}
 use Rattle.nk_merge.specs.DisjointCopies.{again, label_count, AreDisjointCopies, IsDisjointCopy, IsDisjointCopyUpTo, IsMadeBy, AreMadeBy}
 use Rattle.nk_merge.specs.declared.disjoint_copy.DisjointCopy.{DisjointCopy}
 use Rattle.nk_merge.proofs.Marks.{again_is}
-use Rattle.nk_merge.proofs.Entries.{put_entry}
+use Rattle.nk_reach.proofs.OneSided.{table_put}
 use Rattle.nk_merge.proofs.Numbering.{before, last_is, longer, last_or_before}
 use Rattle.nk_merge.proofs.Growing.{one_sided_on, rows_on}
 
@@ -194,7 +194,7 @@ pub made_more : (a b : StoreState) (table : List (Option ℕ)) (state r : ℕ) (
     → HasLeaves b r (λ pk. retargeted table (look a state pk))
     → ((q : ℕ) → lookup (eqb q) after ≡ cond (eqb state q) (Some r) (lookup (eqb q) entries)) → AreMadeBy b table after
 made_more a b table state r entries after g id k h put =
-    put_entry (λ q v. IsMadeBy b table q v) state r entries after (made_on a b table entries g k)
+    table_put (λ q v. IsMadeBy b table q v) state r entries after (made_on a b table entries g k)
     (record {
       state_id = g.ids state id;
       leaves = record { id = h.id; leaf = λ pk w. h.leaf pk w ∙ sym (ap (retargeted table) (g.leaves state pk id)) };

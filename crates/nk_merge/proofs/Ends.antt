@@ -13,7 +13,8 @@ use Rattle.nk_goal.proofs.Growing.{place_of}
 use Rattle.nk_merge.specs.Alike.{SetGives}
 use Rattle.nk_merge.specs.DisjointCopies.{again, label_count, AreDisjointCopies}
 use Rattle.nk_merge.specs.Joined.{both_sets}
-use Rattle.nk_merge.proofs.Marks.{mark_below, mark_above, below_from, above_from, some_again, from_both, first_of_both, second_of_both}
+use Rattle.nk_reach.proofs.SideLabels.{mark_below, mark_above, below_from, above_from}
+use Rattle.nk_merge.proofs.Marks.{some_again, from_both, first_of_both, second_of_both}
 use Rattle.nk_merge.proofs.Runs.{RunsTo, runs_above, runs_in_range, walk_members, walk_last, run_walks, gives_runs}
 use Rattle.nk_merge.proofs.Copies.{once_within, twice_within, twice_above, rows_are, once_runs, disjoint_runs, disjoint_ends}
 

@@ -12,4 +12,3 @@ pub mod Doubling
 pub mod Levelling
 pub mod Seeing
 pub mod Sorting
-pub mod Entries

@@ -1,7 +1,6 @@
 -- Labels marked again, the marks of the sides, and what is decided of labels.
-use Rattle.std.proofs.Common.{◌≡◌, ℕ, zero, suc, ◌+◌, ◌<◌, ◌≤◌, Bool, true, false, cond, ◌⊎◌, inl, inr, ⊎_elim, List, [], ◌∷◌, refl, sym, ap, subst, ◌∙◌, arith}
-use Rattle.std.specs.Prelude.{nat_lt, map, Contains, slice_index}
-use Rattle.std.proofs.lemmas.Bool.{ltb-true, ltb-false, lt-ltb, le-ltb}
+use Rattle.std.proofs.Common.{◌≡◌, ℕ, zero, suc, ◌+◌, ◌<◌, true, ◌⊎◌, inl, inr, ⊎_elim, List, [], ◌∷◌, refl, ap, subst, arith}
+use Rattle.std.specs.Prelude.{map, Contains, slice_index}
 use Rattle.nk_field.proofs.Lists.{in_from_contains, contains_from_in, in_left, in_right, in_either, in_mapped, from_mapped, in_decided, numbers_decided, Decided}
 use Rattle.nk_store.specs.StoreState.{StoreState, IsStorePacket, HasLeaves}
 use Rattle.nk_apply.specs.Seqs.{no_out}
@@ -9,35 +8,10 @@ use Rattle.nk_sets.specs.PacketSets.{has_some_out, is_in}
 use Rattle.nk_determ.specs.Exact.{Sends}
 use Rattle.nk_determ.specs.States.{StateLeads}
 use Rattle.nk_reach.specs.Sides.{label_side, EndsAt}
-use Rattle.nk_runs.proofs.Listings.{some_decided, sends_decided}
+use Rattle.nk_runs.proofs.Listings.{both_decided, either_decided, decided_for, above_zero, some_decided, sends_decided}
 use Rattle.nk_merge.specs.Alike.{labels_after}
 use Rattle.nk_merge.specs.DisjointCopies.{again}
 use Rattle.nk_merge.specs.Joined.{both_sets}
-
--- the mark by the side
-abbrev mark_by : Bool → ℕ
-mark_by b = cond b 1 2
-
--- labels below the bound have mark 1, and the others mark 2
-pub mark_below : (bound l : ℕ) → l < bound → label_side bound l ≡ 1
-mark_below bound l lt = ap mark_by (lt-ltb l bound lt)
-
-pub mark_above : (bound l : ℕ) → bound ≤ l → label_side bound l ≡ 2
-mark_above bound l le = ap mark_by (le-ltb l bound le)
-
-pub below_from : (bound l : ℕ) → label_side bound l ≡ 1 → l < bound
-below_from bound l e = by (nat_lt l bound) refl
-  where
-    by : (b : Bool) → nat_lt l bound ≡ b → l < bound
-    by true is = ltb-true l bound is
-    by false is = let two : 2 ≡ 1 = sym (ap mark_by is) ∙ e in absurd (omega (arith, two))
-
-pub above_from : (bound l : ℕ) → label_side bound l ≡ 2 → bound ≤ l
-above_from bound l e = by (nat_lt l bound) refl
-  where
-    by : (b : Bool) → nat_lt l bound ≡ b → bound ≤ l
-    by true is = let one : 1 ≡ 2 = sym (ap mark_by is) ∙ e in absurd (omega (arith, one))
-    by false is = ltb-false l bound is
 
 -- a label that is marked again is raised
 pub again_is : (n l : ℕ) → 0 < l → again n l ≡ l + n
@@ -60,25 +34,6 @@ again_one n zero zero e = refl
 again_one n zero (suc l) e = absurd (omega (arith, e))
 again_one n (suc k) zero e = absurd (omega (arith, e))
 again_one n (suc k) (suc l) e = omega (arith, e)
-
--- both, either and an equivalent of what is decided are decided
-pub both_decided : {P Q : Type 0} → Decided P → Decided Q → Decided (P × Q)
-both_decided (inl p) (inl q) = inl (p, q)
-both_decided (inl p) (inr other) = inr (λ h. other h.1)
-both_decided (inr other) d = inr (λ h. other h.0)
-
-pub either_decided : {P Q : Type 0} → Decided P → Decided Q → Decided (P ⊎ Q)
-either_decided (inl p) d = inl (inl p)
-either_decided (inr other) (inl q) = inl (inr q)
-either_decided (inr other) (inr not) = inr (λ h. ⊎_elim (λ p. other p) (λ q. not q) h)
-
-pub decided_for : {P Q : Type 0} → (P → Q) → (Q → P) → Decided P → Decided Q
-decided_for f g (inl p) = inl (f p)
-decided_for f g (inr other) = inr (λ q. other (g q))
-
-pub above_zero : (l : ℕ) → Decided (0 < l)
-above_zero zero = inr (λ lt. omega (arith, lt))
-above_zero (suc l) = inl (omega arith)
 
 -- whether the states at some labels send a packet to a target
 pub leads_decided : (st : StoreState) (states s x y : List ℕ) (t : ℕ) → Decided (StateLeads st states s x y t)
@@ -118,16 +73,6 @@ second_of_both n s t k c =
 -- a label after others is above 0
 pub following_some : (s : List ℕ) (l : ℕ) → Contains (labels_after s) l → 0 < l
 following_some s l c = let m = from_mapped (λ k. k + 1) s l (in_from_contains (labels_after s) l c) in omega (arith, m.2)
-
--- a list that can't but be empty is empty
-pub empty_from : {X : Type 0} (xs : List X) → ((xs ≡ [] → ⊥) → ⊥) → xs ≡ []
-empty_from [] h = refl
-empty_from (x ∷ xs) h = absurd (h (λ e. cc))
-
--- a list that isn't empty has a first element
-pub first_of_some : {X : Type 0} (xs : List X) → (xs ≡ [] → ⊥) → (x : X) × Contains xs x
-first_of_some [] h = absurd (h refl)
-first_of_some (x ∷ xs) h = (x, contains_from_in (x ∷ xs) x (inl refl))
 
 -- the empty list has no element
 pub none_in : {X : Type 0} (xs : List X) (x : X) → xs ≡ [] → Contains xs x → ⊥

@@ -23,22 +23,6 @@ pub longer : (xs : List ℕ) (y : ℕ) → length (xs ++ y ∷ []) ≡ suc (leng
 longer [] y = refl
 longer (x ∷ xs) y = ap suc (longer xs y)
 
--- no things have no classes
-pub no_classes : (Alike : ℕ → ℕ → Type 0) → AreClasses Alike 0 []
-no_classes Alike = record {
-  one_each = refl;
-  same = λ i j lt less. absurd (omega (arith, lt));
-  from_one = λ i lt. absurd (omega (arith, lt));
-  in_order = λ i c lt one less. absurd (omega (arith, lt));
-}
-
-pub no_firsts : AreFirsts [] []
-no_firsts = record {
-  member = λ c lt. absurd (omega (arith, lt));
-  first = λ c i lt e less. absurd (omega (arith, lt));
-  all = λ i lt. absurd (omega (arith, lt));
-}
-
 module _ (Alike : ℕ → ℕ → Type 0) (eq : IsEquivalence Alike) (i : ℕ) (numbers firsts : List ℕ) (k : AreClasses Alike i numbers) (f : AreFirsts numbers firsts) (c : ℕ) (le : c ≤ length firsts)
     (yes : c < length firsts → Alike (slice_index firsts c) i) (none : c ≡ length firsts → (b : ℕ) → b < c → Alike (slice_index firsts b) i → ⊥) where
   -- the numbers with the next one

@@ -10,9 +10,9 @@ use Rattle.nk_determ.specs.Pairs.{Node, AreLabelsBelow, AreStates, IsStep}
 use Rattle.nk_determ.specs.Breaks.{Walks}
 use Rattle.nk_determ.proofs.Sending.{sent_in_range}
 use Rattle.nk_goal.proofs.Growing.{place_of, step_places}
-use Rattle.nk_runs.proofs.Listings.{all_listed}
+use Rattle.nk_runs.proofs.Listings.{all_listed, both_decided, above_zero}
 use Rattle.nk_merge.specs.Alike.{SetGives}
-use Rattle.nk_merge.proofs.Marks.{both_decided, above_zero, leads_decided, none_in}
+use Rattle.nk_merge.proofs.Marks.{leads_decided, none_in}
 
 -- from the label l at the packet x these packets are recorded, each at a next label, the last one being m
 abbrev pub RunsTo : StoreState → List ℕ → ℕ → List ℕ → List (List ℕ) → ℕ → Type 0

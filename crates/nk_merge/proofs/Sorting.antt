@@ -13,7 +13,7 @@ use Rattle.nk_merge.specs.Alike.{labels_after, tag_set, AreAlike, AreTagsAlike}
 use Rattle.nk_merge.specs.Classes.{AreClasses, AreFirsts, with_first_member}
 use Rattle.nk_merge.proofs.Growing.{alike_on, alike_back}
 use Rattle.nk_merge.specs.Seen.{DoesTogether, IsSeenAt, AreSeenDiagrams}
-use Rattle.nk_merge.proofs.Entries.{put_entry}
+use Rattle.nk_reach.proofs.OneSided.{table_put}
 use Rattle.nk_merge.proofs.Numbering.{before, last_is, longer, next_classes, next_firsts}
 use Rattle.nk_merge.proofs.Seeing.{does_on, seen_on, seen_longer, seen_one}
 use Rattle.nk_merge.proofs.Lawful.{tags_equivalence}
@@ -137,7 +137,7 @@ module _ (old now mid new : StoreState) (ss sn nss : List (List ℕ)) (states ta
   -- what was seen, and the new one
   pub seen_next : AreSeenDiagrams new states nss tags nf after
   seen_next =
-      put_entry (λ q r. IsSeenAt new states nss tags nf q r) d c entries after
+      table_put (λ q r. IsSeenAt new states nss tags nf q r) d c entries after
       (seen_longer new states nss tags firsts nf entries (firsts_stay firsts nf i c firsts_are)
       (seen_on now new sn nss states tags firsts (grows_on _ _ _ further last) more (states_grow old now states begun ok) known_now places_now entries seen))
       (seen_one new states nss tags nf d c (labels_after (get_or nss (slice_index tags i) [])) class_within does_now alike_now)

@@ -19,7 +19,8 @@ use Rattle.nk_merge.specs.Distinguish.{IsOfFirst, IsOfOne, IsLeastOfOne}
 use Rattle.nk_merge.specs.Joined.{both_sets, AreLevelsOfTwo}
 use Rattle.nk_merge.specs.DisjointCopies.{label_count, IsDisjointCopy}
 use Rattle.nk_merge.specs.declared.disjoint_copy.DisjointCopy.{DisjointCopy}
-use Rattle.nk_merge.proofs.Marks.{ends_decided, empty_from, first_of_some, none_in}
+use Rattle.nk_runs.proofs.Listings.{empty_from, first_of_some}
+use Rattle.nk_merge.proofs.Marks.{ends_decided, none_in}
 use Rattle.nk_merge.proofs.Runs.{walk_more, walk_places}
 use Rattle.nk_merge.proofs.Copies.{rows_are}
 use Rattle.nk_merge.proofs.Ends.{whole_places, first_walked, second_walked, left_ends, right_ends}

@@ -18,6 +18,7 @@ use Rattle.nk_determ.proofs.Laws.{exact_applied, exact_changes, exact_one}
 use Rattle.nk_determ.specs.Pairs.{AreLabelsBelow}
 use Rattle.nk_reach.specs.Sides.{twin, alone_out, alone, ends_of, finals_of_side, label_side, AreSideFinals, EndsAt, AreOneSided}
 use Rattle.nk_goal.proofs.Growing.{place_of}
+use Rattle.nk_reach.proofs.SideLabels.{mark_by}
 
 -- the out with this act and target
 abbrev pub to : List (ℕ × ℕ) → ℕ → Out
@@ -127,10 +128,6 @@ any_has (x ∷ xs) o e = by (ghosts.eq x o) refl (any_has xs o) e
 -- the side that a mark tells
 abbrev side_of : ℕ → ℕ
 side_of t = cond (eqb t 1) 0 1
-
--- the mark of a side
-abbrev mark_by : Bool → ℕ
-mark_by b = cond b 1 2
 
 -- an end that one side alone has is an end, and the other side has it not
 has_alone : (os : List Out) (o : Out) → Has (alone os) o → (p : Out) × Has os p × (Has os (twin p) → ⊥) × (to p.act (cond (eqb p.target 1) 0 1) ≡ o)

@@ -11,6 +11,7 @@ use Rattle.nk_store.specs.Leaves.{Every, Strict, Suits, AreOrdered}
 use Rattle.nk_store.specs.StoreState.{StoreState, IsId, look, Grows, HasLeaves}
 use Rattle.nk_apply.specs.Leaves.{merged}
 use Rattle.nk_apply.specs.Unions.{AreIds, unions}
+use Rattle.nk_apply.proofs.Shorts.{leaves_grown}
 use Rattle.nk_apply.proofs.Members.{gathered_every}
 use Rattle.nk_apply.proofs.Gathers.{flat_ordered}
 use Rattle.nk_determ.specs.Pairs.{AreLabelsBelow}
@@ -86,10 +87,6 @@ starts_of st s1 s2 s3 left right a b r i g h ka kb k = record {
   leaf = λ pk w. k.leaf pk w ∙ ap (λ xs. merged xs (look s2 b pk)) (h.leaves a pk ka.id ∙ ka.leaf pk w) ∙ ap (merged (finals_of_side st left 1 pk)) (kb.leaf pk w ∙ marked_same st s1 right 2 pk g i);
 }
 
--- leaves stay as the store grows
-leaves_on : (a b : StoreState) (d : ℕ) (F : List ℕ → List Out) → Grows a b → HasLeaves a d F → HasLeaves b d F
-leaves_on a b d F g k = record { id = g.ids d k.id; leaf = λ pk w. g.leaves d pk k.id ∙ k.leaf pk w }
-
 -- one label more
 pub marks_push : (a st new : StoreState) (states : List ℕ) (left right bound n d : ℕ) (ends : List ℕ) → AreIds a states → IsId a left → IsId a right → n < length states → Grows a st → Grows st new → AreSideFinals a states left right bound n st ends →
     (n ≡ 0 → HasLeaves new d (λ pk. merged (finals_of_side st left 1 pk) (finals_of_side st right 2 pk))) → (0 < n → HasLeaves new d (λ pk. finals_of_side st (get_or states n 0) (label_side bound n) pk)) → AreSideFinals a states left right bound (n + 1) new (ends ++ d ∷ [])
@@ -100,7 +97,7 @@ marks_push a st new states left right bound n d ends ids il ir l g h m first nex
         (let k = first none.1 in record { id = k.id; leaf = λ pk w. k.leaf pk w ∙ ap (λ xs. merged xs (finals_of_side st right 2 pk)) (marked_same a st left 1 pk g il) ∙ ap (merged (finals_of_side a left 1 pk)) (marked_same a st right 2 pk g ir) })
     | inr some ↦
         let p : 0 < n = omega (arith, some.1) in
-        subst (λ (k : ℕ). HasLeaves new k (λ pk. merged (finals_of_side a left 1 pk) (finals_of_side a right 2 pk))) (sym (at_old 0 p)) (leaves_on st new (get_or ends 0 0) (λ pk. merged (finals_of_side a left 1 pk) (finals_of_side a right 2 pk)) h (m.start p))
+        subst (λ (k : ℕ). HasLeaves new k (λ pk. merged (finals_of_side a left 1 pk) (finals_of_side a right 2 pk))) (sym (at_old 0 p)) (leaves_grown st new (get_or ends 0 0) (λ pk. merged (finals_of_side a left 1 pk) (finals_of_side a right 2 pk)) h (m.start p))
   ];
   rest = λ i p q. elim (eqb_tells i n) [
     | inl same ↦
@@ -110,7 +107,7 @@ marks_push a st new states left right bound n d ends ids il ir l g h m first nex
         (record { id = k.id; leaf = λ pk w. k.leaf pk w ∙ marked_same a st (get_or states n 0) (label_side bound n) pk g (ids n l) }))
     | inr other ↦
         let q' : i < n = omega (arith, q, other.1) in
-        subst (λ (c : ℕ). HasLeaves new c (λ pk. finals_of_side a (get_or states i 0) (label_side bound i) pk)) (sym (at_old i q')) (leaves_on st new (get_or ends i 0) (λ pk. finals_of_side a (get_or states i 0) (label_side bound i) pk) h (m.rest i p q'))
+        subst (λ (c : ℕ). HasLeaves new c (λ pk. finals_of_side a (get_or states i 0) (label_side bound i) pk)) (sym (at_old i q')) (leaves_grown st new (get_or ends i 0) (λ pk. finals_of_side a (get_or states i 0) (label_side bound i) pk) h (m.rest i p q'))
   ];
 }
   where
@@ -128,7 +125,7 @@ marks_ids a st states left right bound n ends m i l = elim (eqb_tells i 0) [
 ]
 
 -- a table with one more entry, each with the property
-table_put : (P : ℕ → ℕ → Type 0) (key r : ℕ) (old new : List (ℕ × ℕ)) → ((q z : ℕ) → lookup (eqb q) old ≡ Some z → P q z) → P key r →
+pub table_put : (P : ℕ → ℕ → Type 0) (key r : ℕ) (old new : List (ℕ × ℕ)) → ((q z : ℕ) → lookup (eqb q) old ≡ Some z → P q z) → P key r →
     ((q : ℕ) → lookup (eqb q) new ≡ cond (eqb key q) (Some r) (lookup (eqb q) old)) → (q z : ℕ) → lookup (eqb q) new ≡ Some z → P q z
 table_put P key r old new are one put q z e =
     elim (eqb_tells key q) [

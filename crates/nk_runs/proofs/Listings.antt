@@ -1,4 +1,5 @@
--- All numbers with a decided and bounded property, as an ascending list; and what a diagram sends is decided.
+-- What is decided: parts of what is decided, some element of a list, all numbers with a decided and bounded property, and what a diagram sends.
+use Rattle.std.specs.Prelude.{Contains}
 use Rattle.std.proofs.Common.{◌≡◌, ℕ, zero, suc, ◌+◌, ◌<◌, ◌≤◌, ◌⊎◌, inl, inr, ⊎_elim, List, [], ◌∷◌, refl, sym, ap, subst, ◌∙◌, arith}
 use Rattle.nk_field.specs.Act.{applied}
 use Rattle.nk_field.proofs.Lists.{In, in_from_contains, contains_from_in, Decided, numbers_decided, lists_decided}
@@ -7,6 +8,35 @@ use Rattle.nk_policy.specs.Labels.{HasExactly}
 use Rattle.nk_store.specs.declared.node.Out.{Out}
 use Rattle.nk_store.specs.StoreState.{StoreState, look}
 use Rattle.nk_determ.specs.Exact.{Sends}
+
+-- both, either and an equivalent of what is decided are decided
+pub both_decided : {P Q : Type 0} → Decided P → Decided Q → Decided (P × Q)
+both_decided (inl p) (inl q) = inl (p, q)
+both_decided (inl p) (inr other) = inr (λ h. other h.1)
+both_decided (inr other) d = inr (λ h. other h.0)
+
+pub either_decided : {P Q : Type 0} → Decided P → Decided Q → Decided (P ⊎ Q)
+either_decided (inl p) d = inl (inl p)
+either_decided (inr other) (inl q) = inl (inr q)
+either_decided (inr other) (inr not) = inr (λ h. ⊎_elim (λ p. other p) (λ q. not q) h)
+
+pub decided_for : {P Q : Type 0} → (P → Q) → (Q → P) → Decided P → Decided Q
+decided_for f g (inl p) = inl (f p)
+decided_for f g (inr other) = inr (λ q. other (g q))
+
+pub above_zero : (l : ℕ) → Decided (0 < l)
+above_zero zero = inr (λ lt. omega (arith, lt))
+above_zero (suc l) = inl (omega arith)
+
+-- a list that can't but be empty is empty
+pub empty_from : {X : Type 0} (xs : List X) → ((xs ≡ [] → ⊥) → ⊥) → xs ≡ []
+empty_from [] h = refl
+empty_from (x ∷ xs) h = absurd (h (λ e. cc))
+
+-- a list that isn't empty has a first element
+pub first_of_some : {X : Type 0} (xs : List X) → (xs ≡ [] → ⊥) → (x : X) × Contains xs x
+first_of_some [] h = absurd (h refl)
+first_of_some (x ∷ xs) h = (x, contains_from_in (x ∷ xs) x (inl refl))
 
 -- what is at least a number is that number or above it
 equal_or_above : (a b : ℕ) → a ≤ b → (a ≡ b) ⊎ (suc a ≤ b)

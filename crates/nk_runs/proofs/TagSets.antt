@@ -66,7 +66,7 @@ under_named st (q ∷ ps) s x (inl h) = inl h.0
 under_named st (q ∷ ps) s x (inr h) = inr (under_named st ps s x h)
 
 -- under a set that is named stands a packet, where all entries have some
-named_filled : (st : StoreState) (ps : List (ℕ × ℕ)) (s : ℕ) → Named ps s → EachPair (λ q. IsFilled st q.1) ps
+pub named_filled : (st : StoreState) (ps : List (ℕ × ℕ)) (s : ℕ) → Named ps s → EachPair (λ q. IsFilled st q.1) ps
     → (x : Packet) × IsStorePacket st x × Under st ps s x
 named_filled st [] s h e = absurd h
 named_filled st (q ∷ ps) s (inl is) e = (e.0.0, e.0.1, inl (is, e.0.2))

@@ -2,18 +2,18 @@
 use Rattle.std.proofs.Common.{◌≡◌, ◌⊎◌, inl, inr, ⊎_elim, List, [], length, refl, sym, ap, subst, ◌∙◌, arith}
 use Rattle.nk_field.specs.declared.packet.Packet.{Packet}
 use Rattle.nk_field.specs.Packet.{FieldTable, IsPacket}
-use Rattle.nk_field.specs.Order.{Found, Precedes, IsLess}
+use Rattle.nk_field.specs.Order.{Found, IsLess}
 use Rattle.nk_policy.specs.Policy.{Policy}
 use Rattle.nk_policy.specs.Meaning.{Gives}
 use Rattle.nk_policy.specs.After.{drop_policy}
 use Rattle.nk_policy.specs.Ranges.{IsInRange}
-use Rattle.nk_witness.specs.Histories.{IsUpTo}
+use Rattle.nk_witness.specs.Histories.{PrecedesOrEquals}
 use Rattle.nk_cert.specs.Equality.{Side, on_left, on_right, AreSame, IsOfFirstAlone, IsOfOneAlone, IsLeastDifference}
 use Rattle.nk_names.specs.ProgramValue.{VirtualLink}
 use Rattle.nk_virtual.specs.Fabrics.{moved_along, IsCarried}
 use Rattle.nk_virtual.specs.Endings.{without_records}
 use Rattle.nk_virtual.specs.Questions.{from_entry, move, ends_or_move, elsewhere}
-use Rattle.nk_virtual.specs.Carriage.{Enters, IsOnTarget, IsOffTarget, IsNotCarried, IsFirstOffTarget, IsFirstNotCarried, IsLeastFrom}
+use Rattle.nk_virtual.specs.Carriage.{Enters, IsOnTarget, IsOffTarget, IsNotCarried, IsFirstNotCarried, IsLeastFrom}
 use Rattle.nk_virtual.proofs.Endings.{same_ends}
 use Rattle.nk_virtual.proofs.Entries.{entered, move_way}
 use Rattle.nk_virtual.proofs.Only.{elsewhere_way}
@@ -23,7 +23,7 @@ abbrev pub found : Packet → List Packet → Packet → Found
 found x w y = record { start = x; records = w; last = y }
 
 -- what is no later than a history without records starts no later
-starts_no_later : (a b : Found) → b.records ≡ [] → (a ≡ b) ⊎ IsLess a b → IsUpTo a.start b.start
+starts_no_later : (a b : Found) → b.records ≡ [] → (a ≡ b) ⊎ IsLess a b → PrecedesOrEquals a.start b.start
 starts_no_later a b none h =
     ⊎_elim
     (λ e. inl (ap (λ (f : Found). f.start) e))
@@ -113,7 +113,7 @@ module _ (fields : FieldTable) (k : VirtualLink) where
   -- so the least difference starts at the least packet from which one is off target
   pub least_start : (side : Side) (f : Found) → IsLeastDifference fields either moves side f
       → ((g : Found) × IsOffTarget fields k g × (g.start ≡ f.start))
-      × ((g : Found) → IsOffTarget fields k g → IsUpTo f.start g.start)
+      × ((g : Found) → IsOffTarget fields k g → PrecedesOrEquals f.start g.start)
   least_start side f d = (some side f d.0, λ g o. starts_no_later f (found g.start [] g.last) refl (d.1.1 (found g.start [] g.last) (on_left, is_added g o)))
     where
       some : (side : Side) (f : Found) → IsOfOneAlone fields either moves side f
@@ -216,16 +216,3 @@ module _ (fields : FieldTable) (k : VirtualLink) where
             → IsOffTarget fields k f × (f.start ≡ x)
         some on_left f a = off_target f a
         some on_right f a = absurd a.1
-
--- the least history from the least start is the first one
-pub first_one : (fields : FieldTable) (k : VirtualLink) (x : Packet) (f : Found)
-    → ((g : Found) → IsOffTarget fields k g → IsUpTo x g.start) → IsLeastFrom fields k x f
-    → IsFirstOffTarget fields k f
-first_one fields k x f least l = (
-  l.0,
-  λ g o.
-      ⊎_elim
-      (λ e. ⊎_elim (λ same. inl same) (λ less. inr (inr (l.1 ∙ e, less))) (l.2 g o (sym e)))
-      (λ before. inr (inl (subst (λ z. Precedes z g.start) (sym l.1) before)))
-      (least g o),
-)

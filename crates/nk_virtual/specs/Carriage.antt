@@ -9,7 +9,7 @@ use Rattle.nk_policy.specs.Meaning.{Gives}
 use Rattle.nk_policy.specs.Ranges.{IsOverFields}
 use Rattle.nk_policy.specs.Complements.{NegatesPredicates}
 use Rattle.nk_names.specs.ProgramValue.{IsLet}
-use Rattle.nk_witness.specs.Histories.{IsUpTo}
+use Rattle.nk_witness.specs.Histories.{PrecedesOrEquals}
 use Rattle.nk_names.specs.ProgramValue.{VirtualLink}
 use Rattle.nk_virtual.specs.Fabrics.{IsAtStartOf, moved_along, IsCarried}
 use Rattle.nk_virtual.specs.declared.judging.Carriage.{Carriage}
@@ -48,7 +48,7 @@ IsFirstOffTarget fields k f =
 
 -- the least packet without a history
 abbrev pub IsFirstNotCarried : FieldTable → VirtualLink → Packet → Type 0
-IsFirstNotCarried fields k x = IsNotCarried fields k x × ((y : Packet) → IsNotCarried fields k y → IsUpTo x y)
+IsFirstNotCarried fields k x = IsNotCarried fields k x × ((y : Packet) → IsNotCarried fields k y → PrecedesOrEquals x y)
 
 -- the history from a packet
 abbrev pub history_from : Packet → History → Found
@@ -65,7 +65,7 @@ IsCarriage fields k (NotCarried start) = IsOnTarget fields k × IsFirstNotCarrie
 abbrev pub IsLeastStart : FieldTable → VirtualLink → Option Packet → Type 0
 IsLeastStart fields k None = IsOnTarget fields k
 IsLeastStart fields k (Some x) =
-    ((f : Found) × IsOffTarget fields k f × (f.start ≡ x)) × ((g : Found) → IsOffTarget fields k g → IsUpTo x g.start)
+    ((f : Found) × IsOffTarget fields k f × (f.start ≡ x)) × ((g : Found) → IsOffTarget fields k g → PrecedesOrEquals x g.start)
 
 -- the least of the histories off target from that packet
 abbrev pub IsLeastFrom : FieldTable → VirtualLink → Packet → Found → Type 0

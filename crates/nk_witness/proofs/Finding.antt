@@ -10,7 +10,7 @@ use Rattle.nk_determ.specs.Pairs.{Node, IsStep}
 use Rattle.nk_determ.specs.Levels.{IsViolation, AreLevels}
 use Rattle.nk_determ.specs.Breaks.{MakesWithTarget}
 use Rattle.nk_witness.specs.declared.choice.Choice.{Choice}
-use Rattle.nk_witness.specs.Histories.{IsBreak, Breaks, IsUpTo, IsGreedy}
+use Rattle.nk_witness.specs.Histories.{IsBreak, Breaks, PrecedesOrEquals, IsGreedy}
 use Rattle.nk_witness.specs.Backs.{IsBack}
 use Rattle.nk_witness.specs.Choices.{IsAny, IsChoiceUpTo, IsBest}
 use Rattle.nk_witness.specs.Finds.{target_of, IsForward}
@@ -42,14 +42,14 @@ greedy_of old st ss states start bad h back set first records s x outs b one f i
     made : MakesWithTarget outs x b.packet b.target
     made = (best.out.act, subst (λ (t : ℕ). Contains outs (record { act = best.out.act; target = t })) best.target best.among, sym best.made)
 
-    below : (y : List ℕ) (t : ℕ) → MakesWithTarget outs x y t → IsUpTo b.packet y
+    below : (y : List ℕ) (t : ℕ) → MakesWithTarget outs x y t → PrecedesOrEquals b.packet y
     below y t m =
         let o : Out = record { act = m.0; target = t } in
         let j : ℕ = m.1.0 in
         let q : get_or outs j no_out ≡ o = sym (get_or_default outs j o no_out m.1.1) ∙ m.1.2 in
         up_to (applied (get_or outs j no_out).act x) y (get_or outs j no_out).target (ap (λ (p : Out). applied p.act x) q ∙ sym m.2) (best.first j m.1.1 tt)
       where
-        up_to : (z w : List ℕ) (v : ℕ) → z ≡ w → IsChoiceUpTo b.packet b.target z v → IsUpTo b.packet w
+        up_to : (z w : List ℕ) (v : ℕ) → z ≡ w → IsChoiceUpTo b.packet b.target z v → PrecedesOrEquals b.packet w
         up_to z w v e (inl p) = inl (p.0 ∙ e)
         up_to z w v e (inr p) = inr (subst (λ (r : List ℕ). Precedes b.packet r) e p)
 

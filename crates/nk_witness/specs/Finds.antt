@@ -6,7 +6,7 @@ use Rattle.nk_store.specs.StoreState.{StoreState, IsStorePacket}
 use Rattle.nk_determ.specs.Reach.{Reach}
 use Rattle.nk_determ.specs.Pairs.{Node, Under, Within, IsStart, IsStep}
 use Rattle.nk_determ.specs.Levels.{IsViolation}
-use Rattle.nk_witness.specs.Histories.{IsUpTo, IsLeastWalk}
+use Rattle.nk_witness.specs.Histories.{PrecedesOrEquals, IsLeastWalk}
 use Rattle.nk_witness.specs.declared.found.Side.{Side}
 use Rattle.nk_witness.specs.declared.found.Side.TheVariants.{Left, Right}
 use Rattle.nk_witness.specs.declared.found.Found as declared
@@ -33,7 +33,7 @@ pub record IsNextLeast (st : StoreState) (ss : List (List ℕ)) (states set x : 
   pub known : t < length ss
   pub step : IsStep st states (set, x) (slice_index_or ss t [], y)
   pub under : Under st next t y
-  pub first : (k : Node) → IsStep st states (set, x) k → Within st ss next k → IsUpTo y k.1
+  pub first : (k : Node) → IsStep st states (set, x) k → Within st ss next k → PrecedesOrEquals y k.1
 
 -- the first i records of the least history, and the set and the packet that are met after them
 pub record IsForward (old st : StoreState) (ss : List (List ℕ)) (states : List ℕ) (start : ℕ) (bad : List ℕ → List ℕ → List Out) (h i : ℕ) (back : List (ℕ × ℕ)) (set first : List ℕ) (records : List (List ℕ)) (s : ℕ) (x : List ℕ) : Type 0 where

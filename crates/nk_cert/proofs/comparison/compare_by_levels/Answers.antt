@@ -1,11 +1,11 @@
 use Rattle.std.proofs.Common.{◌≡◌, false, length, sym, subst, arith}
 use Rattle.nk_determ.specs.Pairs.{AreStates}
-use Rattle.nk_goal.proofs.Growing.{states_grow}
+use Rattle.nk_goal.proofs.Growing.{packets_of, states_grow}
 use Rattle.nk_runs.proofs.Stands.{are_states}
 use Rattle.nk_witness.specs.Finds.{found_of, target_of}
 use Rattle.nk_cert.specs.Together.{either_of}
 use Rattle.nk_determ.proofs.Naming.{pairs_are_entries}
-use Rattle.nk_cert.proofs.Comparing.{levels_here, packets_are_sets, related_is, difference_is, levels_at, break_at, least_at}
+use Rattle.nk_cert.proofs.Comparing.{levels_here, related_is, difference_is, levels_at, break_at, least_at}
 use Rattle.nk_cert.proofs.comparison.compare_by_levels.Goals as goal
 
 pub levels_of_both-requires-clause-states : goal.levels_of_both-requires-clause-states
@@ -18,7 +18,7 @@ certificate_of-requires-clause-entries c =
 
 pub certificate_of-requires-clause-packets : goal.certificate_of-requires-clause-packets
 certificate_of-requires-clause-packets c = λ i lt.
-    packets_are_sets c.levels_of_both.new.st c.levels_of_both.new.ss (length c.args.both.now.states) _ (c.in_ok-lv.ensures.ok.levels.pairs i lt).each
+    packets_of c.levels_of_both.new.st c.levels_of_both.new.ss (length c.args.both.now.states) _ (c.in_ok-lv.ensures.ok.levels.pairs i lt).each
 
 pub returns-then-not-broken : goal.returns-then-not-broken
 returns-then-not-broken c = λ fields p q a is rp rq.

@@ -3,7 +3,7 @@ use Rattle.std.specs.Prelude.{All, slice_index, remove}
 use Rattle.nk_field.specs.Lists.{IsWithoutDoubles}
 use Rattle.nk_flight.specs.Updates.{Stages, UpdateState, state_in, may_plan, planned, switches_in}
 use Rattle.nk_flight.specs.UpdateDraws.{Wait}
-use Rattle.nk_flight.proofs.Waits.{waiting_may, wait_small, wait_again, wait_on}
+use Rattle.nk_flight.proofs.WaitingSwitches.{waiting_may, wait_small, wait_again, wait_on}
 use Rattle.nk_flight.proofs.drawn_updates.plan_at.Goals as goal
 
 pub switch_at-requires-clause-numbers : goal.switch_at-requires-clause-numbers

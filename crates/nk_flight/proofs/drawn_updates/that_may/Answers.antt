@@ -1,7 +1,7 @@
 use Rattle.std.proofs.Common.{◌≡◌, ◌<◌, [], length, inl, inr, sym, ap, subst, ◌∙◌, cond, true, false, Bool, arith}
 use Rattle.std.specs.Prelude.{All, slice_index}
 use Rattle.nk_flight.specs.Updates.{UpdateState, state_in, may_plan}
-use Rattle.nk_flight.proofs.Waits.{no_items, none_may, as_the_first, wait_small}
+use Rattle.nk_flight.proofs.WaitingSwitches.{no_items, none_may, as_the_first, wait_small}
 use Rattle.nk_flight.proofs.drawn_updates.that_may.Goals as goal
 
 pub returns-then-len-eq0-clause-many : goal.returns-then-len-eq0-clause-many

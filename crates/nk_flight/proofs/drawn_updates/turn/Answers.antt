@@ -3,7 +3,7 @@ use Rattle.std.specs.Prelude.{slice_index}
 use Rattle.std.proofs.lemmas.Result.{on_ok_weaker}
 use Rattle.nk_flight.specs.Updates.{Stages, UpdateState, UpdateEvent, after_update, state_in, planned}
 use Rattle.nk_flight.specs.UpdateDraws.{those_that_may, Wait}
-use Rattle.nk_flight.proofs.Waits.{same_wait, takes_inject, takes_move, takes_plan, plan_there}
+use Rattle.nk_flight.proofs.WaitingSwitches.{same_wait, takes_inject, takes_move, takes_plan, plan_there}
 use Rattle.nk_flight.proofs.Turns.{move_done}
 use Rattle.nk_flight.proofs.drawn_updates.turn.Goals as goal
 

@@ -4,7 +4,7 @@ use Rattle.nk_flight.specs.Draws.{next_draw, draw}
 use Rattle.nk_flight.specs.Updates.{Stages, UpdateState, stages_of, at_the_start, state_in, switches_in}
 use Rattle.nk_flight.specs.UpdateDraws.{turned, after_turns, Wait}
 use Rattle.nk_flight.proofs.Counting.{numbers_distinct}
-use Rattle.nk_flight.proofs.Waits.{all_wait_first}
+use Rattle.nk_flight.proofs.WaitingSwitches.{all_wait_first}
 use Rattle.nk_flight.proofs.drawn_updates.update.Goals as goal
 
 pub turn-requires-clause-switches : goal.turn-requires-clause-switches
