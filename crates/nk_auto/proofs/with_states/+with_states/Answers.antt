@@ -317,3 +317,108 @@ pub both_all-returns-clause-ok : goal.both_all-returns-clause-ok
 both_all-returns-clause-ok t c =
     let zero_is : c.loop-i.i ≡ 0 = omega (arith, c.loop-i-test.false) in
     subst (λ n. AreWays c.loop-i.st c.loop-i.following.silent c.loop-i.following.records c.args.nothing (seq_of (trees_of (drop n c.args.ps.now)))) zero_is c.loop-i.invariant.following
+
+pub continued_star-returns-in_err-body-clause-grows : goal.continued_star-returns-in_err-body-clause-grows
+continued_star-returns-in_err-body-clause-grows t c = grows_on _ _ _ c.empty.ensures.grows c.both_ways.ensures.grows
+
+pub continued_star-returns-in_err-ways-clause-grows : goal.continued_star-returns-in_err-ways-clause-grows
+continued_star-returns-in_err-ways-clause-grows t c = grows_on _ _ _ (grows_on _ _ _ c.empty.ensures.grows c.both_ways.ensures.grows) c.around.ensures.grows
+
+pub continued_star-returns-then-nests-clause-grows : goal.continued_star-returns-then-nests-clause-grows
+continued_star-returns-then-nests-clause-grows t c = grows_on _ _ _ (grows_on _ _ _ c.empty.ensures.grows c.both_ways.ensures.grows) c.around.ensures.grows
+
+pub continued_star-returns-in_err-records-clause-grows : goal.continued_star-returns-in_err-records-clause-grows
+continued_star-returns-in_err-records-clause-grows t c = grows_on _ _ _ c.empty.ensures.grows c.continued.ensures.grows
+
+pub continued_star-returns-in_err-rounds-clause-grows : goal.continued_star-returns-in_err-rounds-clause-grows
+continued_star-returns-in_err-rounds-clause-grows t c = grows_on _ _ _ (grows_on _ _ _ c.empty.ensures.grows c.continued.ensures.grows) c.silent_star.ensures.grows
+
+pub continued_star-returns-in_err-onward-clause-grows : goal.continued_star-returns-in_err-onward-clause-grows
+continued_star-returns-in_err-onward-clause-grows t c = grows_on _ _ _ (grows_on _ _ _ (grows_on _ _ _ c.empty.ensures.grows c.continued.ensures.grows) c.silent_star.ensures.grows) c.union.ensures.grows
+
+pub continued_star-returns-in_err-d-clause-grows : goal.continued_star-returns-in_err-d-clause-grows
+continued_star-returns-in_err-d-clause-grows t c = grows_on _ _ _ (grows_on _ _ _ (grows_on _ _ _ (grows_on _ _ _ c.empty.ensures.grows c.continued.ensures.grows) c.silent_star.ensures.grows) c.union.ensures.grows) c.seq.ensures.grows
+
+pub continued_star-returns-clause-grows : goal.continued_star-returns-clause-grows
+continued_star-returns-clause-grows t c = grows_on _ _ _ (grows_on _ _ _ (grows_on _ _ _ (grows_on _ _ _ c.empty.ensures.grows c.continued.ensures.grows) c.silent_star.ensures.grows) c.union.ensures.grows) c.seq.ensures.grows
+
+pub star_with_states-returns-in_err-write_states-clause-grows : goal.star_with_states-returns-in_err-write_states-clause-grows
+star_with_states-returns-in_err-write_states-clause-grows t c = grows_on _ _ _ c.continued_star.ensures.grows c.write_states.ensures.grows
+
+pub star_with_states-returns-clause-grows : goal.star_with_states-returns-clause-grows
+star_with_states-returns-clause-grows t c = grows_on _ _ _ c.continued_star.ensures.grows c.write_states.ensures.grows
+
+pub both_ways-returns-in_err-ways-in-Star-clause-grows : goal.both_ways-returns-in_err-ways-in-Star-clause-grows
+both_ways-returns-in_err-ways-in-Star-clause-grows t c = grows_on _ _ _ c.both_ways.ensures.grows c.around.ensures.grows
+
+pub both_ways-returns-in_ok-ways-in-Star-clause-grows : goal.both_ways-returns-in_ok-ways-in-Star-clause-grows
+both_ways-returns-in_ok-ways-in-Star-clause-grows t c = grows_on _ _ _ c.both_ways.ensures.grows c.around.ensures.grows
+
+pub each_way-returns-in_err-records-clause-grows : goal.each_way-returns-in_err-records-clause-grows
+each_way-returns-in_err-records-clause-grows t c = grows_on _ _ _ c.silent.ensures.grows c.continued.ensures.grows
+
+pub each_way-returns-clause-grows : goal.each_way-returns-clause-grows
+each_way-returns-clause-grows t c = grows_on _ _ _ c.silent.ensures.grows c.continued.ensures.grows
+
+pub both_any-returns-in_err-ways-clause-grows : goal.both_any-returns-in_err-ways-clause-grows
+both_any-returns-in_err-ways-clause-grows t c = grows_on _ _ _ c.loop-i.invariant.grows c.both_ways.ensures.grows
+
+pub both_any-returns-in_err-push-clause-grows : goal.both_any-returns-in_err-push-clause-grows
+both_any-returns-in_err-push-clause-grows t c = grows_on _ _ _ c.loop-i.invariant.grows c.both_ways.ensures.grows
+
+pub both_any-returns-in_err-push-2-clause-grows : goal.both_any-returns-in_err-push-2-clause-grows
+both_any-returns-in_err-push-2-clause-grows t c = grows_on _ _ _ c.loop-i.invariant.grows c.both_ways.ensures.grows
+
+pub both_any-returns-in_err-alone-clause-grows : goal.both_any-returns-in_err-alone-clause-grows
+both_any-returns-in_err-alone-clause-grows t c = grows_on _ _ _ c.loop-i.invariant.grows c.union_all.ensures.grows
+
+pub both_any-returns-in_err-first-clause-grows : goal.both_any-returns-in_err-first-clause-grows
+both_any-returns-in_err-first-clause-grows t c = grows_on _ _ _ (grows_on _ _ _ c.loop-i.invariant.grows c.union_all.ensures.grows) c.union_all-2.ensures.grows
+
+pub both_any-returns-clause-grows : goal.both_any-returns-clause-grows
+both_any-returns-clause-grows t c = grows_on _ _ _ (grows_on _ _ _ c.loop-i.invariant.grows c.union_all.ensures.grows) c.union_all-2.ensures.grows
+
+pub both_all-returns-in_err-first-clause-grows : goal.both_all-returns-in_err-first-clause-grows
+both_all-returns-in_err-first-clause-grows t c = grows_on _ _ _ c.loop-i.invariant.grows c.both_ways.ensures.grows
+
+pub both_all-returns-in_err-more-clause-grows : goal.both_all-returns-in_err-more-clause-grows
+both_all-returns-in_err-more-clause-grows t c = grows_on _ _ _ (grows_on _ _ _ c.loop-i.invariant.grows c.both_ways.ensures.grows) c.put_before.ensures.grows
+
+pub write_any-returns-in_err-write_states-clause-grows : goal.write_any-returns-in_err-write_states-clause-grows
+write_any-returns-in_err-write_states-clause-grows t c = grows_on _ _ _ c.loop-i.invariant.grows c.write_states.ensures.grows
+
+pub write_all-returns-in_err-later-2-clause-grows : goal.write_all-returns-in_err-later-2-clause-grows
+write_all-returns-in_err-later-2-clause-grows t c = grows_on _ _ _ c.loop-i.invariant.grows c.part_with_states.ensures.grows
+
+pub write_all-returns-then-i-eq1-clause-grows : goal.write_all-returns-then-i-eq1-clause-grows
+write_all-returns-then-i-eq1-clause-grows t c = grows_on _ _ _ c.loop-i.invariant.grows c.write_first.ensures.grows
+
+pub write_first-returns-clause-grows : goal.write_first-returns-clause-grows
+write_first-returns-clause-grows t c = grows_on _ _ _ c.put_together.ensures.grows c.write_states.ensures.grows
+
+pub any_with_states-returns-in_err-d-clause-grows : goal.any_with_states-returns-in_err-d-clause-grows
+any_with_states-returns-in_err-d-clause-grows t c = grows_on _ _ _ c.loop-i.invariant.grows c.continued_with_states.ensures.grows
+
+pub any_with_states-returns-in_err-push-clause-grows : goal.any_with_states-returns-in_err-push-clause-grows
+any_with_states-returns-in_err-push-clause-grows t c = grows_on _ _ _ c.loop-i.invariant.grows c.continued_with_states.ensures.grows
+
+pub any_with_states-returns-clause-grows : goal.any_with_states-returns-clause-grows
+any_with_states-returns-clause-grows t c = grows_on _ _ _ c.loop-i.invariant.grows c.union_all.ensures.grows
+
+pub all_with_states-returns-in_err-following-2-clause-grows : goal.all_with_states-returns-in_err-following-2-clause-grows
+all_with_states-returns-in_err-following-2-clause-grows t c = grows_on _ _ _ c.loop-i.invariant.grows c.part_with_states.ensures.grows
+
+pub all_with_states-returns-clause-grows : goal.all_with_states-returns-clause-grows
+all_with_states-returns-clause-grows t c = grows_on _ _ _ c.loop-i.invariant.grows c.put_together.ensures.grows
+
+pub part_with_states-returns-in-Some-clause-grows : goal.part_with_states-returns-in-Some-clause-grows
+part_with_states-returns-in-Some-clause-grows t c = grows_on _ _ _ c.guard_of.ensures.grows c.guarded_by.ensures.grows
+
+pub part_with_states-returns-in_err-next-clause-grows : goal.part_with_states-returns-in_err-next-clause-grows
+part_with_states-returns-in_err-next-clause-grows t c = grows_on _ _ _ c.guard_of.ensures.grows c.put_together.ensures.grows
+
+pub part_with_states-returns-in_err-rest-clause-grows : goal.part_with_states-returns-in_err-rest-clause-grows
+part_with_states-returns-in_err-rest-clause-grows t c = grows_on _ _ _ (grows_on _ _ _ c.guard_of.ensures.grows c.put_together.ensures.grows) c.continued_with_states.ensures.grows
+
+pub part_with_states-returns-clause-grows : goal.part_with_states-returns-clause-grows
+part_with_states-returns-clause-grows t c = grows_on _ _ _ (grows_on _ _ _ (grows_on _ _ _ c.guard_of.ensures.grows c.put_together.ensures.grows) c.continued_with_states.ensures.grows) c.unguarded.ensures.grows
