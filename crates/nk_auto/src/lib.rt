@@ -14,7 +14,6 @@ mod values;
 mod with_states;
 
 pub use by_parts::automaton;
-pub use going_on::continued;
 pub use silence::silent;
 pub use states::policy_automaton;
-pub use with_states::continued_with_states;
+pub use with_states::{continued, continued_with_states};

@@ -1,21 +1,38 @@
-//! The states of a policy's dups: what is left after each of them, continued by a diagram.
-ghost use Rattle.std.specs.Prelude.{ℕ, ◌+◌, ◌-◌, ◌<◌, List as Items, IfOk, OnOk};
+//! What a policy does up to its first record, continued by a diagram, and the states of its dups: what is left after each of
+//! them, continued by the same diagram.
+ghost use Rattle.std.specs.Prelude.{ℕ, ◌+◌, ◌-◌, ◌<◌, [], List as Items, IfOk, OnOk};
 ghost use Rattle.nk_policy.specs.Policy.{Policies, sum_of, seq_of, star_of, dup, link, part};
 ghost use Rattle.nk_policy.specs.Tree.{tree_of, trees_of};
-ghost use Rattle.nk_store.specs.StoreState.{IsId, Grows};
+ghost use Rattle.nk_store.specs.StoreState.{IsId, Grows, HasLeaves};
 ghost use Rattle.nk_auto.specs.Continued.{IsContinued, AreWritten, IsPut};
 ghost use Rattle.nk_auto.specs.Guarded.{IsGuarded};
+ghost use Rattle.nk_auto.specs.TwoWays.{AreWays};
 
 use crate::going_on::{
     after_dupless, after_not, after_predicate, after_range, after_set, after_test, before_dup,
-    continued_star, is_predicate_sum, is_wide_sum, link_rest, link_start,
+    is_predicate_sum, is_wide_sum, link_rest, link_start, star_without_dup,
 };
 use crate::guards::{Behind, guard_of, guarded_by, put_together, unguarded};
-use nk_algebra::union_all;
+use crate::nested::{BothWays, around, holds_star, nests, put_before};
+use crate::silence::{silent, silent_star};
+use nk_algebra::{empty, identity, seq, union, union_all};
 use nk_field::List;
 use nk_policy::{Pol, may_record};
 use nk_store::{Id, Store};
 use std::alloc::AllocError;
+
+/// The diagram of a policy up to its first record, continued by a diagram: where the policy ends without a record the
+/// diagram says what comes next, and where it records at its dup l the packet is sent to target l. The only error is
+/// that memory ran out. A sum of predicates is one predicate, which guards the diagram once.
+#[cycle(with_states)]
+pub fn continued(st: &mut Store, p: &Pol, next: Id) -> Result<Id, AllocError>
+    requires { IsId st.old next }
+    ensures grows { Grows st.old st.new }
+    ensures ok { IfOk result (λ d. IsContinued st.new d (tree_of p.now) next) }
+{
+    let mut none = List::new(st.alloc());
+    continued_with_states(st, p, next, 0, &mut none)
+}
 
 /// The same diagram as that of `continued`, in the same pass from the right, which also writes the state of each dup of
 /// the policy that has a place: the state of dup l stands at the place l - base, and becomes the diagram of what is left
@@ -81,8 +98,123 @@ fn star_with_states(
     Ok(again)
 }
 
-/// The states of a policy's dups alone, as `continued_with_states` writes them. The first part of a sequence isn't drawn where it
-/// has no dup.
+/// A star: rounds without a record, then the diagram or a round that records.
+#[cycle(with_states)]
+fn continued_star(st: &mut Store, q: &Pol, next: Id) -> Result<Id, AllocError>
+    requires { IsId st.old next }
+    ensures grows { Grows st.old st.new }
+    ensures ok { IfOk result (λ d. IsContinued st.new d (star_of (tree_of q.now)) next) }
+{
+    if !may_record(q) {
+        return star_without_dup(st, q, next);
+    }
+    let nothing = empty(st)?;
+    if nests(q) {
+        let body = both_ways(st, q, nothing)?;
+        let ways = around(st, body, next)?;
+        return Ok(ways.records);
+    }
+    let records = continued(st, q, nothing)?;
+    let rounds = silent_star(st, q)?;
+    let onward = union(st, next, records)?;
+    let d = seq(st, rounds, onward)?;
+    st.laws();
+    Ok(d)
+}
+
+/// Both what a policy does without a record and what it records first, in one pass, so that no star is drawn anew inside
+/// each of those around it. A part that holds no star is drawn each way by itself.
+#[cycle(with_states)]
+#[tactic(auto, using(nk_policy::proofs::Trees::tree_of_sum, nk_policy::proofs::Trees::tree_of_seq))]
+fn both_ways(st: &mut Store, p: &Pol, nothing: Id) -> Result<BothWays, AllocError>
+    requires { HasLeaves st.old nothing (λ pk. []) }
+    ensures grows { Grows st.old st.new }
+    ensures ok { IfOk result (λ b. AreWays st.new b.silent b.records nothing (tree_of p.now)) }
+{
+    if !holds_star(p) {
+        return each_way(st, p, nothing);
+    }
+    match p {
+        Pol::Sum(ps) => both_any(st, ps.as_slice(), nothing),
+        Pol::Seq(ps) => both_all(st, ps.as_slice(), nothing),
+        Pol::Star(q) => {
+            let body = both_ways(st, q, nothing)?;
+            let ways = around(st, body, nothing)?;
+            Ok(ways)
+        }
+        _ => each_way(st, p, nothing),
+    }
+}
+
+/// The two ways of a policy, one after the other. One without a dup records nothing.
+#[cycle(with_states)]
+fn each_way(st: &mut Store, p: &Pol, nothing: Id) -> Result<BothWays, AllocError>
+    requires { HasLeaves st.old nothing (λ pk. []) }
+    ensures grows { Grows st.old st.new }
+    ensures ok { IfOk result (λ b. AreWays st.new b.silent b.records nothing (tree_of p.now)) }
+{
+    let alone = silent(st, p)?;
+    if !may_record(p) {
+        return Ok(BothWays {
+            silent: alone,
+            records: nothing,
+        });
+    }
+    let records = continued(st, p, nothing)?;
+    Ok(BothWays {
+        silent: alone,
+        records,
+    })
+}
+
+/// Both ways of a sum: those of its parts together.
+#[cycle(with_states)]
+fn both_any(st: &mut Store, ps: &[Pol], nothing: Id) -> Result<BothWays, AllocError>
+    requires { HasLeaves st.old nothing (λ pk. []) }
+    ensures grows { Grows st.old st.new }
+    ensures ok { IfOk result (λ b. AreWays st.new b.silent b.records nothing (sum_of (trees_of ps.now))) }
+{
+    let mut silents = List::new(st.alloc());
+    let mut records = List::new(st.alloc());
+    let mut i = ps.len();
+    while i > 0 {
+        i -= 1;
+        let ways = both_ways(st, &ps[i], nothing)?;
+        silents.push(ways.silent)?;
+        records.push(ways.records)?;
+    }
+    let alone = union_all(st, silents.as_slice())?;
+    let first = union_all(st, records.as_slice())?;
+    Ok(BothWays {
+        silent: alone,
+        records: first,
+    })
+}
+
+/// Both ways of a sequence, from the last part to the first.
+#[cycle(with_states)]
+fn both_all(st: &mut Store, ps: &[Pol], nothing: Id) -> Result<BothWays, AllocError>
+    requires { HasLeaves st.old nothing (λ pk. []) }
+    ensures grows { Grows st.old st.new }
+    ensures ok { IfOk result (λ b. AreWays st.new b.silent b.records nothing (seq_of (trees_of ps.now))) }
+{
+    let passing = identity(st)?;
+    let mut following = BothWays {
+        silent: passing,
+        records: nothing,
+    };
+    let mut i = ps.len();
+    while i > 0 {
+        i -= 1;
+        let first = both_ways(st, &ps[i], nothing)?;
+        let more = put_before(st, first, following)?;
+        following = more;
+    }
+    Ok(following)
+}
+
+/// The states of a policy's dups alone, as `continued_with_states` writes them; nothing is drawn where no dup has a place. The first
+/// part of a sequence isn't drawn where it has no dup.
 #[cycle(with_states)]
 #[tactic(auto, using(nk_policy::proofs::Trees::tree_of_sum, nk_policy::proofs::Trees::tree_of_seq, crate::proofs::Writing::test_written, crate::proofs::Writing::range_written, crate::proofs::Writing::set_written, crate::proofs::Writing::not_written))]
 fn write_states(
@@ -96,6 +228,9 @@ fn write_states(
     ensures grows { Grows st.old st.new }
     ensures written { OnOk result (AreWritten st.new states.old states.new base (tree_of p.now) next) }
 {
+    if states.len() == 0 {
+        return Ok(());
+    }
     if !may_record(p) {
         return Ok(());
     }
@@ -224,6 +359,9 @@ fn link_with_states(
     ensures written { OnOk result (AreWritten st.new states.old states.new base (link source.0 source.1 target.0 target.1 l) next) }
 {
     let d = link_start(st, source.0, source.1, l)?;
+    if states.len() == 0 {
+        return Ok(d);
+    }
     let moved = link_rest(st, target.0, target.1, l)?;
     write_state(states, base, u64::from(l) + 1, next);
     write_state(states, base, u64::from(l), moved);

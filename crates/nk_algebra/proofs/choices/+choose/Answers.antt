@@ -99,3 +99,15 @@ choose_parts-loop-pieces-preserved t c =
       within = omega (arith, c.in_ok-end.ensures.within, same, c.if-end-max.false);
       built = subst (Built (cut_leaf c.args.st.now c.args.f c.args.g c.args.parts.now) c.choose_by.new.st c.args.g (c.in_ok-end.end + 1)) (sym c.in_ok-push.ensures.ok) all;
     }
+
+pub choose_before-returns-clause-grows : goal.choose_before-returns-clause-grows
+choose_before-returns-clause-grows t c = grows_on _ _ _ c.choose_parts.ensures.grows c.case.ensures.grows
+
+pub choose_parts-returns-in_err-child-clause-grows : goal.choose_parts-returns-in_err-child-clause-grows
+choose_parts-returns-in_err-child-clause-grows t c = grows_on _ _ _ c.loop-pieces.invariant.grows c.choose_by.ensures.grows
+
+pub choose_parts-returns-in_err-push-clause-grows : goal.choose_parts-returns-in_err-push-clause-grows
+choose_parts-returns-in_err-push-clause-grows t c = grows_on _ _ _ c.loop-pieces.invariant.grows c.choose_by.ensures.grows
+
+pub choose_parts-returns-then-end-max-clause-grows : goal.choose_parts-returns-then-end-max-clause-grows
+choose_parts-returns-then-end-max-clause-grows t c = grows_on _ _ _ c.loop-pieces.invariant.grows c.choose_by.ensures.grows

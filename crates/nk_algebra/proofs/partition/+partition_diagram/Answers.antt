@@ -102,3 +102,51 @@ seq_at_value-returns-clause-ok t c = IfOk-weaker c.union_later.result _ _
     (split_first c.args.st.now c.args.f c.args.b c.requires.right c.laws.ensures.nodes c.requires.second c.requires.field) c.part_at-end.ensures
     c.ending.ensures.grows c.seq_leaves.ensures.grows c.ending-2.ensures.grows c.seq_by_values.ensures.grows
     c.in_ok-here.ensures.ok c.in_ok-one.ensures.ok c.in_ok-rest.ensures.ok c.in_ok-others.ensures.ok h) c.union_later.ensures.ok
+
+pub seq_partition-returns-in_err-right-clause-grows : goal.seq_partition-returns-in_err-right-clause-grows
+seq_partition-returns-in_err-right-clause-grows t c = grows_on _ _ _ c.keeping.ensures.grows c.seq_kept.ensures.grows
+
+pub seq_partition-returns-in_err-left-clause-grows : goal.seq_partition-returns-in_err-left-clause-grows
+seq_partition-returns-in_err-left-clause-grows t c = grows_on _ _ _ (grows_on _ _ _ c.keeping.ensures.grows c.seq_kept.ensures.grows) c.seq_moved.ensures.grows
+
+pub seq_partition-returns-clause-grows : goal.seq_partition-returns-clause-grows
+seq_partition-returns-clause-grows t c = grows_on _ _ _ (grows_on _ _ _ (grows_on _ _ _ c.keeping.ensures.grows c.seq_kept.ensures.grows) c.seq_moved.ensures.grows) c.union_later.ensures.grows
+
+pub seq_kept-returns-clause-grows : goal.seq_kept-returns-clause-grows
+seq_kept-returns-clause-grows t c = grows_on _ _ _ c.kept_parts.ensures.grows c.choose.ensures.grows
+
+pub kept_parts-returns-in_err-made-clause-grows : goal.kept_parts-returns-in_err-made-clause-grows
+kept_parts-returns-in_err-made-clause-grows t c = grows_on _ _ _ c.loop-parts.invariant.grows c.seq_leaves.ensures.grows
+
+pub kept_parts-returns-in_err-push-clause-grows : goal.kept_parts-returns-in_err-push-clause-grows
+kept_parts-returns-in_err-push-clause-grows t c = grows_on _ _ _ c.loop-parts.invariant.grows c.seq_leaves.ensures.grows
+
+pub kept_parts-returns-then-end-max-clause-grows : goal.kept_parts-returns-then-end-max-clause-grows
+kept_parts-returns-then-end-max-clause-grows t c = grows_on _ _ _ c.loop-parts.invariant.grows c.seq_leaves.ensures.grows
+
+pub seq_moved-returns-in_err-parts-clause-grows : goal.seq_moved-returns-in_err-parts-clause-grows
+seq_moved-returns-in_err-parts-clause-grows t c = grows_on _ _ _ c.map_leaves.ensures.grows c.moved_parts.ensures.grows
+
+pub seq_moved-returns-clause-grows : goal.seq_moved-returns-clause-grows
+seq_moved-returns-clause-grows t c = grows_on _ _ _ (grows_on _ _ _ c.map_leaves.ensures.grows c.moved_parts.ensures.grows) c.choose.ensures.grows
+
+pub moved_parts-returns-in_err-made-clause-grows : goal.moved_parts-returns-in_err-made-clause-grows
+moved_parts-returns-in_err-made-clause-grows t c = grows_on _ _ _ c.loop-parts.invariant.grows c.seq_to_values.ensures.grows
+
+pub moved_parts-returns-in_err-push-clause-grows : goal.moved_parts-returns-in_err-push-clause-grows
+moved_parts-returns-in_err-push-clause-grows t c = grows_on _ _ _ c.loop-parts.invariant.grows c.seq_to_values.ensures.grows
+
+pub moved_parts-returns-then-end-max-clause-grows : goal.moved_parts-returns-then-end-max-clause-grows
+moved_parts-returns-then-end-max-clause-grows t c = grows_on _ _ _ c.loop-parts.invariant.grows c.seq_to_values.ensures.grows
+
+pub seq_at_value-returns-in_err-one-clause-grows : goal.seq_at_value-returns-in_err-one-clause-grows
+seq_at_value-returns-in_err-one-clause-grows t c = grows_on _ _ _ c.ending.ensures.grows c.seq_leaves.ensures.grows
+
+pub seq_at_value-returns-in_err-rest-clause-grows : goal.seq_at_value-returns-in_err-rest-clause-grows
+seq_at_value-returns-in_err-rest-clause-grows t c = grows_on _ _ _ (grows_on _ _ _ c.ending.ensures.grows c.seq_leaves.ensures.grows) c.ending-2.ensures.grows
+
+pub seq_at_value-returns-in_err-others-clause-grows : goal.seq_at_value-returns-in_err-others-clause-grows
+seq_at_value-returns-in_err-others-clause-grows t c = grows_on _ _ _ (grows_on _ _ _ (grows_on _ _ _ c.ending.ensures.grows c.seq_leaves.ensures.grows) c.ending-2.ensures.grows) c.seq_by_values.ensures.grows
+
+pub seq_at_value-returns-clause-grows : goal.seq_at_value-returns-clause-grows
+seq_at_value-returns-clause-grows t c = grows_on _ _ _ (grows_on _ _ _ (grows_on _ _ _ (grows_on _ _ _ c.ending.ensures.grows c.seq_leaves.ensures.grows) c.ending-2.ensures.grows) c.seq_by_values.ensures.grows) c.union_later.ensures.grows

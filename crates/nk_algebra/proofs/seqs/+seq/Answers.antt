@@ -8,6 +8,7 @@ use Rattle.nk_apply.specs.Seqs.{seq_leaf}
 use Rattle.nk_apply.proofs.Turned.{set_within}
 use Rattle.nk_algebra.proofs.Chosen.{Serving, value_leaf, value_push, value_choices, value_all, value_made}
 use Rattle.nk_apply.proofs.Sequences.{seq_made}
+use Rattle.nk_apply.proofs.Shorts.{leaves_grown}
 use Rattle.nk_algebra.proofs.seqs.+seq.Goals as goal
 
 pub seq_case-returns-clause-ok : goal.seq_case-returns-clause-ok
@@ -40,3 +41,24 @@ seq_parts-loop-parts-preserved t c =
       within = set_within c.args.st.now c.loop-parts.st c.args.f c.args.a c.loop-parts.from c.max-max.result c.part_near-end.result c.part_near-end.ensures c.loop-parts.invariant.grows c.max-max.ensures c.if-end-max.false;
       made = subst (Serving (value_leaf (λ pk x. seq_leaf x (look c.args.st.now c.args.b) pk) c.args.st.now c.args.f c.args.a) c.sequence.new.st c.args.f (c.part_near-end.result.0 + 1)) (sym c.in_ok-push.ensures.ok) all;
     }
+
+pub sequence-returns-in_err-keep-clause-grows : goal.sequence-returns-in_err-keep-clause-grows
+sequence-returns-in_err-keep-clause-grows t c = grows_on _ _ _ c.sequence_anew.ensures.grows c.keep.ensures.grows
+
+pub sequence-returns-clause-grows : goal.sequence-returns-clause-grows
+sequence-returns-clause-grows t c = grows_on _ _ _ c.sequence_anew.ensures.grows c.keep.ensures.grows
+
+pub sequence-returns-clause-ok : goal.sequence-returns-clause-ok
+sequence-returns-clause-ok t c = leaves_grown _ _ c.in_ok-d.d _ c.keep.ensures.grows c.in_ok-d.ensures.ok
+
+pub seq_case-returns-clause-grows : goal.seq_case-returns-clause-grows
+seq_case-returns-clause-grows t c = grows_on _ _ _ c.seq_parts.ensures.grows c.choose.ensures.grows
+
+pub seq_parts-returns-in_err-made-clause-grows : goal.seq_parts-returns-in_err-made-clause-grows
+seq_parts-returns-in_err-made-clause-grows t c = grows_on _ _ _ c.loop-parts.invariant.grows c.sequence.ensures.grows
+
+pub seq_parts-returns-in_err-push-clause-grows : goal.seq_parts-returns-in_err-push-clause-grows
+seq_parts-returns-in_err-push-clause-grows t c = grows_on _ _ _ c.loop-parts.invariant.grows c.sequence.ensures.grows
+
+pub seq_parts-returns-then-end-max-clause-grows : goal.seq_parts-returns-then-end-max-clause-grows
+seq_parts-returns-then-end-max-clause-grows t c = grows_on _ _ _ c.loop-parts.invariant.grows c.sequence.ensures.grows

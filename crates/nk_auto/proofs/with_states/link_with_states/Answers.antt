@@ -5,6 +5,9 @@ use Rattle.nk_auto.proofs.Going.{continued_grow}
 use Rattle.nk_auto.proofs.Writing.{link_written}
 use Rattle.nk_auto.proofs.with_states.link_with_states.Goals as goal
 
+pub returns-then-len-eq0-clause-ok : goal.returns-then-len-eq0-clause-ok
+returns-then-len-eq0-clause-ok c = c.in_ok-d.ensures.ok c.args.target.0 c.args.target.1 c.args.next c.requires
+
 pub returns-clause-ok : goal.returns-clause-ok
 returns-clause-ok c =
     continued_grow c.link_start.new.st c.link_rest.new.st c.in_ok-d.d (link c.args.source.0 c.args.source.1 c.args.target.0 c.args.target.1 c.args.l) c.args.next c.link_rest.ensures.grows
