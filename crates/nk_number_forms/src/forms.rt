@@ -155,10 +155,10 @@ fn has_dot(text: &[u8]) -> bool
 pub fn is_dotted(text: &[u8]) -> bool
     ensures { result ≡ is_dotted text.now }
 {
-    all_digits_and_dots(text)
-        && has_dot(text)
-        && is_digit(first_of(text))
+    is_digit(first_of(text))
         && is_digit(last_of(text))
+        && has_dot(text)
+        && all_digits_and_dots(text)
 }
 
 /// Whether all bytes are hexadecimal digits and colons.
@@ -188,7 +188,7 @@ fn all_hex(text: &[u8]) -> bool
 fn is_coloned(text: &[u8]) -> bool
     ensures { result ≡ is_coloned text.now }
 {
-    all_hex_and_colons(text) && colons(text) > 1 && is_hex(first_of(text)) && is_hex(last_of(text))
+    is_hex(first_of(text)) && is_hex(last_of(text)) && colons(text) > 1 && all_hex_and_colons(text)
 }
 
 /// Whether the text is meant as a hexadecimal number.

@@ -80,6 +80,7 @@ fn short_value(digits: &[u8]) -> u64
 }
 
 /// The value of decimal digits; `LARGEST` + 1 for every number above `LARGEST`.
+#[inline(never)]
 fn long_value(digits: &[u8]) -> u64
     ensures { result ≡ min (value_of digits.now) (largest + 1) }
 {
