@@ -5,7 +5,7 @@ use Rattle.std.proofs.lemmas.Bool.Decides.{nat_tests}
 use Rattle.std.proofs.lemmas.Fmt.{decimal-digits_value, decimal_nonempty, digits_decimal, first_decimal, decimal_digit, length-decimal-le}
 use Rattle.std.proofs.lemmas.Slice.Eq.{bytes_eq-Decides}
 use Rattle.std.proofs.lemmas.Str.Parse.{IsNumeralModel, numerals_by_fold}
-use Rattle.std.specs.Prelude.{Option, Some, None, bytes_eq, get_or, nat_le}
+use Rattle.std.specs.Prelude.{Option, Some, None, bytes_eq, get_or, nat_le, nat_lt}
 use Rattle.std.specs.List.{list_all}
 use Rattle.nk_lex.specs.Classes.{is_digit}
 use Rattle.nk_lex.specs.Lex.{largest, value_of}
@@ -90,7 +90,19 @@ long_by w long true true e same =
 long_by w long true false e same = refl
 long_by w long false u e same = refl
 
--- an octet has at most three digits
-pub no_octet : (w : List ℕ) → 3 < length w → number_within 255 w ≡ None
+long_none : (w : List ℕ) → 3 < length w → number_within 255 w ≡ None
 unfolding number_within
-no_octet w long = long_by w long (nat_le (value_of w) 255) (bytes_eq w (decimal (value_of w))) refl refl
+long_none w long = long_by w long (nat_le (value_of w) 255) (bytes_eq w (decimal (value_of w))) refl refl
+
+-- a numeral of at most three digits is an octet, if it is small enough
+pub octet_within : (w : List ℕ) → (nat_lt (length w) 4 && is_numeral w) ≡ true
+    → number_within 255 w ≡ cond (nat_le (value_of w) 255) (Some (value_of w)) None
+octet_within w h = numeral_within 255 w (omega arith) (both_pass (nat_lt (length w) 4) (is_numeral w) h).1
+
+none_short : (w : List ℕ) → (t : Bool) → nat_lt (length w) 4 ≡ t → (t && is_numeral w) ≡ false → number_within 255 w ≡ None
+none_short w true e h = no_numeral 255 w (omega arith) h
+none_short w false e h = let long : 3 < length w = grind (arith, nat_tests) in long_none w long
+
+-- no other text is one
+pub no_octet : (w : List ℕ) → (nat_lt (length w) 4 && is_numeral w) ≡ false → number_within 255 w ≡ None
+no_octet w h = none_short w (nat_lt (length w) 4) refl h

@@ -3,10 +3,10 @@ ghost use Rattle.std.specs.Prelude.{◌≡◌, ◌==◌, ◌+◌, count_by, ◌-
 ghost use Rattle.nk_lex.specs.Lex.{largest};
 ghost use Rattle.std.specs.List.{list_all, list_any};
 ghost use Rattle.nk_number_forms.specs.Forms.{address_of, atom_of, before_first, after_first, address_block_size, combined, first_byte, hardware_of, hexadecimal_of, is_coloned, is_digit_or_dot, is_dotted, is_hex_or_colon, is_hexadecimal, last_byte, number_or, first_place, place_of_dots, three_pairs};
-ghost use Rattle.nk_number_forms.specs.Numbers.{is_hex, number_within};
+ghost use Rattle.nk_number_forms.specs.Numbers.{is_hex};
 
 use crate::fault::Cause;
-use crate::numbers::{hex_number, is_digit, is_hex, number_within, pair_of};
+use crate::numbers::{hex_number, is_digit, is_hex, octet, pair_of};
 use nk_lex::LARGEST;
 
 /// What a run of bytes is.
@@ -57,18 +57,6 @@ pub fn address_of(text: &[u8]) -> Option<u64>
     let third = octet(third)?;
     let fourth = octet(fourth)?;
     Some(first * 16_777_216 + second * 65_536 + third * 256 + fourth)
-}
-
-/// The number of at most 255 that the text writes in decimal digits, without leading zeros.
-#[tactic(auto, using(crate::proofs::Numerals::no_octet))]
-fn octet(text: &[u8]) -> Option<u64>
-    ensures value { result ≡ number_within 255 text.now }
-    ensures small { IfSome result (λ n. n ≤ 255) }
-{
-    if text.len() > 3 {
-        return None;
-    }
-    number_within(255, text)
 }
 
 /// The number of three bytes that are written as pairs.

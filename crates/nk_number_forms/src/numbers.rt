@@ -1,5 +1,5 @@
 //! Numbers in decimal and hexadecimal digits.
-ghost use Rattle.std.specs.Prelude.{◌≡◌, ◌+◌, ◌-◌, ◌<◌, ◌≤◌, length, min, IfSome};
+ghost use Rattle.std.specs.Prelude.{◌≡◌, ◌+◌, ◌-◌, ◌<◌, ◌≤◌, ◌&&◌, length, min, nat_lt, IfSome};
 ghost use Rattle.std.specs.List.{list_all};
 ghost use Rattle.nk_lex.specs.Classes.{is_digit, is_white};
 ghost use Rattle.nk_lex.specs.Lex.{largest, value_of};
@@ -65,23 +65,8 @@ fn digit_value(digit: u8) -> u64
     u64::from(digit.saturating_sub(b'0'))
 }
 
-/// The value of at most three decimal digits.
-fn short_value(digits: &[u8]) -> u64
-    requires { length digits.now ≤ 3 }
-    ensures value { result ≡ value_of digits.now }
-    ensures small { result ≤ largest }
-{
-    match digits {
-        [] => 0,
-        [a] => digit_value(*a),
-        [a, b] => digit_value(*a) * 10 + digit_value(*b),
-        [a, b, c, ..] => digit_value(*a) * 100 + digit_value(*b) * 10 + digit_value(*c),
-    }
-}
-
 /// The value of decimal digits; `LARGEST` + 1 for every number above `LARGEST`.
-#[inline(never)]
-fn long_value(digits: &[u8]) -> u64
+fn value(digits: &[u8]) -> u64
     ensures { result ≡ min (value_of digits.now) (largest + 1) }
 {
     let mut value = 0;
@@ -90,17 +75,6 @@ fn long_value(digits: &[u8]) -> u64
         value = next.min(LARGEST + 1);
     }
     value
-}
-
-/// The same, quicker for the few digits of an octet.
-fn value(digits: &[u8]) -> u64
-    ensures { result ≡ min (value_of digits.now) (largest + 1) }
-{
-    if digits.len() <= 3 {
-        short_value(digits)
-    } else {
-        long_value(digits)
-    }
 }
 
 /// Whether all bytes are decimal digits.
@@ -130,6 +104,46 @@ pub fn number_within(most: u64, text: &[u8]) -> Option<u64>
     }
     let value = value(text);
     if value <= most { Some(value) } else { None }
+}
+
+/// Whether the text is at most three decimal digits, at least one, without leading zeros.
+#[tactic(auto, unfolding(crate::specs::Numbers::is_numeral))]
+fn is_short_numeral(text: &[u8]) -> bool
+    ensures { result ≡ (nat_lt (length text.now) 4 && is_numeral text.now) }
+{
+    match text {
+        [a] => is_digit(*a),
+        [a, b] => *a != b'0' && is_digit(*a) && is_digit(*b),
+        [a, b, c] => *a != b'0' && is_digit(*a) && is_digit(*b) && is_digit(*c),
+        _ => false,
+    }
+}
+
+/// The value of at most three decimal digits.
+fn short_value(digits: &[u8]) -> u64
+    requires { length digits.now ≤ 3 }
+    ensures value { result ≡ value_of digits.now }
+    ensures small { result ≤ largest }
+{
+    match digits {
+        [] => 0,
+        [a] => digit_value(*a),
+        [a, b] => digit_value(*a) * 10 + digit_value(*b),
+        [a, b, c, ..] => digit_value(*a) * 100 + digit_value(*b) * 10 + digit_value(*c),
+    }
+}
+
+/// The number of at most 255 that the text writes in decimal digits, without leading zeros.
+#[tactic(auto, using(crate::proofs::Numerals::octet_within, crate::proofs::Numerals::no_octet))]
+pub(crate) fn octet(text: &[u8]) -> Option<u64>
+    ensures value { result ≡ number_within 255 text.now }
+    ensures small { IfSome result (λ n. n ≤ 255) }
+{
+    if !is_short_numeral(text) {
+        return None;
+    }
+    let value = short_value(text);
+    if value <= 255 { Some(value) } else { None }
 }
 
 /// The byte that two hexadecimal digits write.
