@@ -305,7 +305,7 @@ fn run_length(bytes: &[u8]) -> usize
     bytes.iter().take_while(|b| is_run_byte(**b)).count()
 }
 
-/// Whether the byte belongs to a run. The digits stand between `/` and `:`, and `.` before them.
+/// Whether the byte belongs to a run. The bytes from `.` to `:` are `.`, `/`, the digits and `:`.
 fn is_run_byte(byte: u8) -> bool
     ensures { result ≡ is_run_byte byte }
 {

@@ -280,7 +280,7 @@ fn put_led(out: &mut Vec<u8>, lead: &[u8], number: u64) -> Result<(), WordStop>
     put_decimal(out, number)
 }
 
-/// Puts a run of bytes at the end, with these bytes before it. It may be no address.
+/// The same of any run, without trying first whether it is an address.
 #[inline(never)]
 #[tactic(auto, unfolding(crate::specs::Inward::run_in))]
 fn put_other(
