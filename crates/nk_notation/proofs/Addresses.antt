@@ -59,11 +59,11 @@ unfolding after_first
 after_dot w r h = ap (λ k. drop (k + 1) (w ++ 46 ∷ r)) (dot_at w r h) ∙ drop_past w 46 r
 
 -- the number of four octets, where they are some
-of_octets : Option ℕ → Option ℕ → Option ℕ → Option ℕ → Option ℕ
+unfoldable pub of_octets : Option ℕ → Option ℕ → Option ℕ → Option ℕ → Option ℕ
 of_octets a b c d =
     option_and_then (λ x. option_and_then (λ y. option_and_then (λ z. option_and_then (λ u. Some (x * 16777216 + y * 65536 + z * 256 + u)) d) c) b) a
 
-by_octets : (w : List ℕ) → address_of w ≡ of_octets (number_within 255 (before_first 46 w)) (number_within 255 (before_first 46 (after_first 46 w)))
+pub by_octets : (w : List ℕ) → address_of w ≡ of_octets (number_within 255 (before_first 46 w)) (number_within 255 (before_first 46 (after_first 46 w)))
     (number_within 255 (before_first 46 (after_first 46 (after_first 46 w)))) (number_within 255 (after_first 46 (after_first 46 (after_first 46 w))))
 unfolding address_of of_octets
 by_octets w = refl
@@ -98,14 +98,22 @@ octets_are a b c d la lb lc ld =
 octets_make : (n : ℕ) → n / 16777216 * 16777216 + n / 65536 % 256 * 65536 + n / 256 % 256 * 256 + n % 256 ≡ n
 octets_make n = omega arith
 
+-- the text of an address by its octets
+pub text_by_octets : (n : ℕ) → address_text n
+    ≡ decimal (n / 16777216) ++ 46 ∷ (decimal (n / 65536 % 256) ++ 46 ∷ (decimal (n / 256 % 256) ++ 46 ∷ decimal (n % 256)))
+text_by_octets n =
+    let a = decimal (n / 16777216) in
+    let b = decimal (n / 65536 % 256) in
+    let c = decimal (n / 256 % 256) in
+    let d = decimal (n % 256) in
+    append_assoc (a ++ 46 ∷ b) (46 ∷ c) (46 ∷ d) ∙ append_assoc a (46 ∷ b) (46 ∷ c ++ 46 ∷ d)
+
 pub read_back : (n : ℕ) → n < 2 ^ 32 → address_of (address_text n) ≡ Some n
 read_back n lt =
     let a = n / 16777216 in
     let b = n / 65536 % 256 in
     let c = n / 256 % 256 in
     let d = n % 256 in
-    ap address_of
-    (append_assoc (decimal a ++ 46 ∷ decimal b) (46 ∷ decimal c) (46 ∷ decimal d)
-    ∙ append_assoc (decimal a) (46 ∷ decimal b) (46 ∷ decimal c ++ 46 ∷ decimal d))
+    ap address_of (text_by_octets n)
     ∙ octets_are a b c d (omega arith) (omega arith) (omega arith) (omega arith)
     ∙ ap Some (octets_make n)

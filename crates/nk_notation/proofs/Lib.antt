@@ -1,3 +1,4 @@
+mod AddressRuns
 pub mod Addresses
 pub mod Cuts
 pub mod Endings

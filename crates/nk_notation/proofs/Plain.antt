@@ -10,7 +10,7 @@ use Rattle.nk_number_forms.specs.Forms.{address_of, atom_of, first_byte, first_p
 use Rattle.nk_number_forms.specs.Numbers.{is_hex}
 use Rattle.nk_notation.specs.declared.inward.Inward.{Inward}
 use Rattle.nk_notation.specs.Inward.{both_atoms, is_tables, plain_in, range_in, run_in, slash_in, spelled}
-use Rattle.nk_notation.proofs.WrittenForms.{is_other, no_dots, no_place, not_dotted, passes_run, un_not}
+use Rattle.nk_notation.proofs.WrittenForms.{all_weaken, is_other, no_dots, none_counted, no_place, not_dotted, passes_run, un_not}
 
 -- none of `.`, `/` and `x`
 abbrev pub is_plain_byte : ℕ → Bool
@@ -95,3 +95,17 @@ plain_kept r [] h = plain_run (is_tables r.kind) false [] [] refl refl
 plain_kept r (b ∷ w) h =
     let parts = both_pass (list_all is_plain_byte (b ∷ w)) (has_few_colons (b ∷ w)) h in
     plain_by r b w parts.0 parts.1 (b == 61) refl
+
+-- none of `.`, `/`, `x` and `:`
+abbrev is_form_free : ℕ → Bool
+is_form_free b = not (b == 46) && not (b == 47) && not (b == 120) && not (b == 58)
+
+-- a word of such bytes has none of the bytes that each form has
+pub form_free : (w : List ℕ) → list_all (λ b. not (b == 46) && not (b == 47) && not (b == 120) && not (b == 58)) w ≡ true
+    → (list_all is_plain_byte w && has_few_colons w) ≡ true
+form_free w h =
+    let plain : list_all is_plain_byte w ≡ true
+    = all_weaken is_form_free is_plain_byte (λ b yes. (both_pass (is_plain_byte b) (not (b == 58)) yes).0) w h in
+    let none : list_all (is_other 58) w ≡ true
+    = all_weaken is_form_free (is_other 58) (λ b yes. (both_pass (is_plain_byte b) (not (b == 58)) yes).1) w h in
+    ap (λ t. t && has_few_colons w) plain ∙ ap (λ n. nat_lt n 2) (none_counted 58 w none)

@@ -37,7 +37,7 @@ all_both p v w hv hw = list_all-append p v w ∙ ap (λ t. t && list_all p w) hv
 pub all_cons : (p : ℕ → Bool) (b : ℕ) (w : List ℕ) → p b ≡ true → list_all p w ≡ true → list_all p (b ∷ w) ≡ true
 all_cons p b w hb hw = ap (λ t. t && list_all p w) hb ∙ hw
 
-all_weaken : (p q : ℕ → Bool) → ((b : ℕ) → p b ≡ true → q b ≡ true) → (w : List ℕ) → list_all p w ≡ true → list_all q w ≡ true
+pub all_weaken : (p q : ℕ → Bool) → ((b : ℕ) → p b ≡ true → q b ≡ true) → (w : List ℕ) → list_all p w ≡ true → list_all q w ≡ true
 all_weaken p q imp [] h = refl
 all_weaken p q imp (b ∷ w) h =
     let parts = both_pass (p b) (list_all p w) h in

@@ -305,11 +305,11 @@ fn run_length(bytes: &[u8]) -> usize
     bytes.iter().take_while(|b| is_run_byte(**b)).count()
 }
 
-/// Whether the byte belongs to a run.
+/// Whether the byte belongs to a run. The bytes from `.` to `:` are `.`, `/`, the digits and `:`.
 fn is_run_byte(byte: u8) -> bool
     ensures { result ≡ is_run_byte byte }
 {
-    is_name_byte(byte) || byte == b'.' || byte == b':' || byte == b'/'
+    (b'.' <= byte && byte <= b':') || is_name_start(byte)
 }
 
 /// Whether the byte belongs to a name.

@@ -1,5 +1,5 @@
 //! Addresses become numbers.
-ghost use Rattle.std.specs.Prelude.{◌≡◌, ◌+◌, ◌-◌, ◌<◌, ◌≤◌, ◌^◌, ◌++◌, ◌==◌, ◌&&◌, codes, count_by, nat_lt, length, decimal, take, drop, not, Ok, Err, Option, IfErr, OnOk};
+ghost use Rattle.std.specs.Prelude.{◌≡◌, ◌+◌, ◌-◌, ◌<◌, ◌≤◌, ◌^◌, ◌++◌, ◌==◌, ◌&&◌, bytes_eq, codes, count_by, nat_lt, length, decimal, take, drop, not, Ok, Err, Option, IfErr, OnOk};
 ghost use Rattle.std.specs.List.{list_all};
 ghost use Rattle.nk_number_forms.specs.Forms.{address_of, has_dots, has_ones_after, place_of_dots};
 ghost use Rattle.nk_notation.specs.Inward.{after_byte, after_word, both_atoms, inward, inward_bytes_sound, is_tables, kind_after, kind_beyond, place_after, plain_in, prefix_in, prefix_with, range_in, run_in, size_at, size_of_kind, slash_in, small_size, spelled, text_start, word_in};
@@ -168,6 +168,7 @@ fn size_at(place: Place, text: &[u8]) -> Option<u64>
 }
 
 /// The largest value of a field of the kind that a word stands for.
+#[inline(never)]
 #[tactic(auto, unfolding(crate::specs::Inward::size_of_kind))]
 fn size_of_kind(text: &[u8]) -> Option<u64>
     ensures { result ≡ size_of_kind text.now }
@@ -238,7 +239,7 @@ pub(crate) fn kind_beyond(kind: TextKind, byte: u8) -> TextKind
 fn place_after(place: Place, text: &[u8]) -> Place
     ensures { result ≡ place_after place text.now }
 {
-    if text == b"field".as_slice() {
+    if is_field(text) {
         return Place::Field;
     }
     match place {
@@ -247,9 +248,42 @@ fn place_after(place: Place, text: &[u8]) -> Place
     }
 }
 
+/// Whether it is the word `field`.
+fn is_field(text: &[u8]) -> bool
+    ensures { result ≡ bytes_eq text.now (codes "field") }
+{
+    text.len() == 5 && text == b"field".as_slice()
+}
+
 /// Puts a run of bytes at the end, with these bytes before it, with each address as a number.
-#[tactic(auto, unfolding(crate::specs::Inward::run_in))]
+#[tactic(auto, using(crate::proofs::AddressRuns::address_run))]
 fn put_run(
+    out: &mut Vec<u8>,
+    tables: bool,
+    tests: bool,
+    lead: &[u8],
+    run: &[u8],
+) -> Result<(), WordStop>
+    ensures { Puts result (run_in tables tests lead.now run.now) out.old.items out.new.items }
+{
+    match address_of(run) {
+        Some(address) => put_led(out, lead, address),
+        None => put_other(out, tables, tests, lead, run),
+    }
+}
+
+/// Puts a number at the end in decimal digits, with these bytes before it.
+fn put_led(out: &mut Vec<u8>, lead: &[u8], number: u64) -> Result<(), WordStop>
+    ensures { Puts result (Ok (lead.now ++ decimal number)) out.old.items out.new.items }
+{
+    put_bytes(out, lead)?;
+    put_decimal(out, number)
+}
+
+/// The same of any run, without trying first whether it is an address.
+#[inline(never)]
+#[tactic(auto, unfolding(crate::specs::Inward::run_in))]
+fn put_other(
     out: &mut Vec<u8>,
     tables: bool,
     tests: bool,
@@ -403,11 +437,21 @@ fn put_decimal(out: &mut Vec<u8>, number: u64) -> Result<(), WordStop>
 
 /// Whether the word has none of the bytes that each form has: the `.` of IPv4 addresses and ranges, the `/` of prefixes, the two `:` of
 /// hardware addresses and the `x` of hexadecimal numbers. Such a word is kept, whatever stands before it.
+#[tactic(auto, using(crate::proofs::Plain::form_free))]
 fn is_plain(text: &[u8]) -> bool
     ensures { result ≡ (list_all (λ b. not (b == 46) && not (b == 47) && not (b == 120)) text.now
         && nat_lt (count_by (λ b. b == 58) text.now) 2) }
 {
-    has_plain_bytes(text) && colons(text) < 2
+    has_no_form_bytes(text) || (has_plain_bytes(text) && colons(text) < 2)
+}
+
+/// Whether the word has no `.`, `/`, `x` and `:`.
+#[inline(always)]
+fn has_no_form_bytes(text: &[u8]) -> bool
+    ensures { result ≡ list_all (λ b. not (b == 46) && not (b == 47) && not (b == 120) && not (b == 58)) text.now }
+{
+    text.iter()
+        .all(|b| *b != b'.' && *b != b'/' && *b != b'x' && *b != b':')
 }
 
 /// Whether the word has no `.`, `/` and `x`.

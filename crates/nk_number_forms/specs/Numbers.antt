@@ -1,5 +1,6 @@
 -- Numbers in decimal and hexadecimal digits.
-use Rattle.std.specs.Prelude.{ℕ, ◌+◌, ◌-◌, ◌*◌, ◌/◌, ◌%◌, Bool, ◌&&◌, ◌||◌, List, [], ◌∷◌, Option, Some, None, if◌then◌else◌, fold, nat_lt, nat_le, decimal, bytes_eq}
+use Rattle.std.specs.Prelude.{ℕ, ◌+◌, ◌-◌, ◌*◌, ◌/◌, ◌%◌, ◌==◌, Bool, not, ◌&&◌, ◌||◌, List, [], ◌∷◌, length, get_or, Option, Some, None, if◌then◌else◌, fold, nat_lt, nat_le, decimal, bytes_eq}
+use Rattle.std.specs.List.{list_all}
 use Rattle.nk_lex.specs.Classes.{is_digit}
 use Rattle.nk_lex.specs.Lex.{value_of}
 
@@ -7,6 +8,10 @@ use Rattle.nk_lex.specs.Lex.{value_of}
 unfoldable pub number_within : ℕ → List ℕ → Option ℕ
 number_within most w =
     if nat_le (value_of w) most && bytes_eq w (decimal (value_of w)) then Some (value_of w) else None
+
+-- decimal digits, at least one, and no zero before others
+unfoldable pub is_numeral : List ℕ → Bool
+is_numeral w = not (length w == 0) && (length w == 1 || not (get_or w 0 0 == 48)) && list_all is_digit w
 
 -- 0 to 9, a to f and A to F
 unfoldable pub is_hex : ℕ → Bool

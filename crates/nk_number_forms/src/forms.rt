@@ -6,7 +6,7 @@ ghost use Rattle.nk_number_forms.specs.Forms.{address_of, atom_of, before_first,
 ghost use Rattle.nk_number_forms.specs.Numbers.{is_hex};
 
 use crate::fault::Cause;
-use crate::numbers::{hex_number, is_digit, is_hex, number_within, pair_of};
+use crate::numbers::{hex_number, is_digit, is_hex, octet, pair_of};
 use nk_lex::LARGEST;
 
 /// What a run of bytes is.
@@ -50,12 +50,12 @@ pub fn address_of(text: &[u8]) -> Option<u64>
     ensures small { IfSome result (λ n. n < 2 ^ 32) }
 {
     let (first, text) = parted(b'.', text);
+    let first = octet(first)?;
     let (second, text) = parted(b'.', text);
+    let second = octet(second)?;
     let (third, fourth) = parted(b'.', text);
-    let first = number_within(255, first)?;
-    let second = number_within(255, second)?;
-    let third = number_within(255, third)?;
-    let fourth = number_within(255, fourth)?;
+    let third = octet(third)?;
+    let fourth = octet(fourth)?;
     Some(first * 16_777_216 + second * 65_536 + third * 256 + fourth)
 }
 
@@ -143,10 +143,10 @@ fn has_dot(text: &[u8]) -> bool
 pub fn is_dotted(text: &[u8]) -> bool
     ensures { result ≡ is_dotted text.now }
 {
-    all_digits_and_dots(text)
-        && has_dot(text)
-        && is_digit(first_of(text))
+    is_digit(first_of(text))
         && is_digit(last_of(text))
+        && has_dot(text)
+        && all_digits_and_dots(text)
 }
 
 /// Whether all bytes are hexadecimal digits and colons.
@@ -176,7 +176,7 @@ fn all_hex(text: &[u8]) -> bool
 fn is_coloned(text: &[u8]) -> bool
     ensures { result ≡ is_coloned text.now }
 {
-    all_hex_and_colons(text) && colons(text) > 1 && is_hex(first_of(text)) && is_hex(last_of(text))
+    is_hex(first_of(text)) && is_hex(last_of(text)) && colons(text) > 1 && all_hex_and_colons(text)
 }
 
 /// Whether the text is meant as a hexadecimal number.

@@ -1,10 +1,10 @@
 //! Numbers in decimal and hexadecimal digits.
-ghost use Rattle.std.specs.Prelude.{◌≡◌, ◌+◌, ◌-◌, ◌<◌, ◌≤◌, min, IfSome};
+ghost use Rattle.std.specs.Prelude.{◌≡◌, ◌+◌, ◌-◌, ◌<◌, ◌≤◌, ◌&&◌, length, min, nat_lt, IfSome};
+ghost use Rattle.std.specs.List.{list_all};
 ghost use Rattle.nk_lex.specs.Classes.{is_digit, is_white};
 ghost use Rattle.nk_lex.specs.Lex.{largest, value_of};
-ghost use Rattle.nk_number_forms.specs.Numbers.{hex_digit, hex_number, hex_value, is_hex, number_within, hexadecimal_pair};
+ghost use Rattle.nk_number_forms.specs.Numbers.{hex_digit, hex_number, hex_value, is_hex, is_numeral, number_within, hexadecimal_pair};
 
-use itoa::Buffer;
 use nk_lex::LARGEST;
 
 /// Whether the byte is a decimal digit.
@@ -44,18 +44,6 @@ fn hex_value(byte: u8) -> u64
     }
 }
 
-/// The value of decimal digits; `LARGEST` + 1 for every number above `LARGEST`.
-fn value(digits: &[u8]) -> u64
-    ensures { result ≡ min (value_of digits.now) (largest + 1) }
-{
-    let mut value = 0;
-    for digit in digits {
-        let next = value * 10 + u64::from(digit.saturating_sub(b'0'));
-        value = next.min(LARGEST + 1);
-    }
-    value
-}
-
 /// The value of hexadecimal digits; `LARGEST` + 1 for every number above `LARGEST`.
 #[tactic(auto, unfolding(crate::specs::Numbers::hex_number))]
 pub fn hex_number(digits: &[u8]) -> u64
@@ -69,20 +57,93 @@ pub fn hex_number(digits: &[u8]) -> u64
     value
 }
 
+/// The value of a decimal digit.
+fn digit_value(digit: u8) -> u64
+    ensures value { result ≡ digit - 48 }
+    ensures small { result < 208 }
+{
+    u64::from(digit.saturating_sub(b'0'))
+}
+
+/// The value of decimal digits; `LARGEST` + 1 for every number above `LARGEST`.
+fn value(digits: &[u8]) -> u64
+    ensures { result ≡ min (value_of digits.now) (largest + 1) }
+{
+    let mut value = 0;
+    for digit in digits {
+        let next = value * 10 + digit_value(*digit);
+        value = next.min(LARGEST + 1);
+    }
+    value
+}
+
+/// Whether all bytes are decimal digits.
+fn all_digits(text: &[u8]) -> bool
+    ensures { result ≡ list_all is_digit text.now }
+{
+    text.iter().all(|b| is_digit(*b))
+}
+
+/// Whether the text is decimal digits, at least one, without leading zeros.
+#[tactic(auto, unfolding(crate::specs::Numbers::is_numeral))]
+fn is_numeral(text: &[u8]) -> bool
+    ensures { result ≡ is_numeral text.now }
+{
+    !text.is_empty() && (text.len() == 1 || text[0] != b'0') && all_digits(text)
+}
+
 /// The number of at most `most` that the text writes in decimal digits, without leading zeros.
-#[tactic(auto, unfolding(crate::specs::Numbers::number_within))]
+#[tactic(auto, using(crate::proofs::Numerals::numeral_within, crate::proofs::Numerals::no_numeral))]
 pub fn number_within(most: u64, text: &[u8]) -> Option<u64>
     requires { most ≤ largest }
     ensures value { result ≡ number_within most text.now }
     ensures small { IfSome result (λ n. n ≤ most) }
 {
-    let value = value(text);
-    let mut buffer = Buffer::new();
-    if value <= most && text == buffer.format(value).as_bytes() {
-        Some(value)
-    } else {
-        None
+    if !is_numeral(text) {
+        return None;
     }
+    let value = value(text);
+    if value <= most { Some(value) } else { None }
+}
+
+/// Whether the text is at most three decimal digits, at least one, without leading zeros.
+#[tactic(auto, unfolding(crate::specs::Numbers::is_numeral))]
+fn is_short_numeral(text: &[u8]) -> bool
+    ensures { result ≡ (nat_lt (length text.now) 4 && is_numeral text.now) }
+{
+    match text {
+        [a] => is_digit(*a),
+        [a, b] => *a != b'0' && is_digit(*a) && is_digit(*b),
+        [a, b, c] => *a != b'0' && is_digit(*a) && is_digit(*b) && is_digit(*c),
+        _ => false,
+    }
+}
+
+/// The value of at most three decimal digits.
+fn short_value(digits: &[u8]) -> u64
+    requires { length digits.now ≤ 3 }
+    ensures value { result ≡ value_of digits.now }
+    ensures small { result ≤ largest }
+{
+    match digits {
+        [] => 0,
+        [a] => digit_value(*a),
+        [a, b] => digit_value(*a) * 10 + digit_value(*b),
+        [a, b, c, ..] => digit_value(*a) * 100 + digit_value(*b) * 10 + digit_value(*c),
+    }
+}
+
+/// The number of at most 255 that the text writes in decimal digits, without leading zeros.
+#[tactic(auto, using(crate::proofs::Numerals::octet_within, crate::proofs::Numerals::no_octet))]
+pub(crate) fn octet(text: &[u8]) -> Option<u64>
+    ensures value { result ≡ number_within 255 text.now }
+    ensures small { IfSome result (λ n. n ≤ 255) }
+{
+    if !is_short_numeral(text) {
+        return None;
+    }
+    let value = short_value(text);
+    if value <= 255 { Some(value) } else { None }
 }
 
 /// The byte that two hexadecimal digits write.
