@@ -1,4 +1,5 @@
 pub mod Bounds
+pub mod Counts
 pub mod Emitted
 pub mod Fixed
 pub mod GeneratedPrograms
@@ -9,6 +10,9 @@ pub mod Places
 pub mod Pieces
 pub mod PlainTexts
 pub mod Printed
+pub mod PrintedCompacts
+pub mod PrintedHistories
+pub mod PrintedImpacts
 pub mod PrintedPolicies
 pub mod PrintedTables
 pub mod ReadAgain

@@ -65,7 +65,7 @@ module _ (fields : FieldTable) (names : All IsName fields.names) (maxima : All (
       let after = more_left pk ok fs rest stops next in
       subst Left (sym (append_assoc (item_text fields pk f) others rest)) (item_left pk ok f (others ++ rest) after.0 after.1)
 
-  packet_left : (shows : Bool) (pk : Packet) → IsPacket fields pk → (rest : List ℕ) → StopsAt is_run_byte rest → Left rest → Left (packet_bytes fields shows pk ++ rest)
+  pub packet_left : (shows : Bool) (pk : Packet) → IsPacket fields pk → (rest : List ℕ) → StopsAt is_run_byte rest → Left rest → Left (packet_bytes fields shows pk ++ rest)
   packet_left shows pk ok rest stops next = items_left pk ok (shown fields shows) rest stops next
 
   packets_left : (shows : Bool) (pks : List Packet) → All (IsPacket fields) pks → (rest : List ℕ) → StopsAt is_run_byte rest → Left rest
@@ -79,7 +79,7 @@ module _ (fields : FieldTable) (names : All IsName fields.names) (maxima : All (
             (left_byte 32 (packet_bytes fields shows pk ++ (others ++ rest)) refl refl (packet_left shows pk (All-head (IsPacket fields) pk pks ok) (others ++ rest) after.0 after.1)),
       )
 
-  listed_left : (shows : Bool) (pks : List Packet) → All (IsPacket fields) pks → (rest : List ℕ) → StopsAt is_run_byte rest → Left rest
+  pub listed_left : (shows : Bool) (pks : List Packet) → All (IsPacket fields) pks → (rest : List ℕ) → StopsAt is_run_byte rest → Left rest
       → Left (join_by (packet_bytes fields shows) (codes " ") pks ++ rest)
   listed_left shows [] ok rest stops next = next
   listed_left shows (pk ∷ pks) ok rest stops next =
@@ -94,7 +94,7 @@ module _ (fields : FieldTable) (names : All IsName fields.names) (maxima : All (
       subst Left (sym (append_assoc (codes "start " ++ p) (codes "\n") rest ∙ append_assoc (codes "start ") p (10 ∷ rest)))
       (left_word (codes "start") (refl, refl) refl (p ++ 10 ∷ rest) (packet_left true start ok (10 ∷ rest) refl (left_byte 10 rest refl refl next)))
 
-  way_left : (start : Packet) (h : History) → IsPacket fields start → All (IsPacket fields) (h.records ++ h.last ∷ []) → Left (way_lines fields start h)
+  pub way_left : (start : Packet) (h : History) → IsPacket fields start → All (IsPacket fields) (h.records ++ h.last ∷ []) → Left (way_lines fields start h)
   way_left start h ok records =
       let s = start_line fields start in
       let w = history_bytes fields true h in

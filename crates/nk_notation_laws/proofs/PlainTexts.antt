@@ -34,7 +34,7 @@ abbrev pub Bare : Inward → Type 0
 Bare r = r.place ≡ place.Elsewhere
 
 -- a run with none of the bytes `.` and `/`, that is no form
-alone_still : (w : List ℕ) → list_all (is_other 46) w ≡ true → list_all (is_other 47) w ≡ true → is_coloned w ≡ false → is_hexadecimal w ≡ false → IsStill w
+pub alone_still : (w : List ℕ) → list_all (is_other 46) w ≡ true → list_all (is_other 47) w ≡ true → is_coloned w ≡ false → is_hexadecimal w ≡ false → IsStill w
 unfolding atom_of both_atoms spelled
 alone_still w dot slashes colons hex = λ tables tests lead.
     run_alone w (no_dots w (passes_run w dot)) (no_place 47 w slashes) tables tests lead
@@ -164,7 +164,7 @@ bare_after : (r : Inward) (w : List ℕ) → bytes_eq w (codes "field") ≡ fals
 unfolding after_word name_place
 bare_after r w other e = after_other r.place w other ∙ ap (λ p. name_place p w) e
 
-bare_byte : (r : Inward) (b : ℕ) → Bare r → Bare (after_byte r b)
+pub bare_byte : (r : Inward) (b : ℕ) → Bare r → Bare (after_byte r b)
 unfolding after_byte
 bare_byte r b e = elim (is_white b) as (λ t. cond t r.place place.Elsewhere ≡ place.Elsewhere) [
   | true ↦ e

@@ -76,7 +76,7 @@ runs_link a m b n la lm lb ln =
 
 module _ (fs : FieldTable) (fine : AreFine fs) where
   mutual
-    pol_runs : (p : Policy) → IsOverFields fs p → Runs (pol_bytes fs p)
+    pub pol_runs : (p : Policy) → IsOverFields fs p → Runs (pol_bytes fs p)
     pol_runs (test f n) h = runs_test (name_of fs f) n (named_field fs fine f n h) (value_small fs fine f n h)
     pol_runs (range f lo hi) h =
         let name = name_of fs f in
@@ -153,7 +153,7 @@ module _ (fs : FieldTable) (fine : AreFine fs) where
       (runs_gap (codes "certificate\nrow start") p start_runs (predicate_free c.start h.start.over, λ rest. refl))
       (free_each (IsReadableRow fs) (row_bytes fs) row_free c.rows h.rows)
 
-fine_fields : (fs : FieldTable) → IsWritable fs → AreFine fs
+pub fine_fields : (fs : FieldTable) → IsWritable fs → AreFine fs
 fine_fields fs h = record { table = h.table; names = h.names; maxima = h.maxima }
 
 pub printed_policies_left : PrintedPoliciesAreLeft

@@ -64,7 +64,7 @@ free_each P f g (x ∷ xs) h = free_free (f x) (flat_map f xs) (g x (All-head P 
 pub free_byte : (b : ℕ) → (b == 35) ≡ false → begins_word b ≡ false → Free (b ∷ [])
 free_byte b hash begins = λ rest next. left_byte b rest hash begins next
 
-gap_space : Gap (codes " ")
+pub gap_space : Gap (codes " ")
 gap_space = (free_byte 32 refl refl, λ rest. refl)
 
 pub gap_end : Gap (codes "\n")
@@ -377,7 +377,7 @@ topology_free t h small =
     let to = port_small t.switches l.to_switch l.to_port small (h.links.declared l c) in
     (from.0, from.1, to.0, to.1)))
 
-tables_free : (t : Tables) → ArePrintableTables t → Free (table_bytes t)
+pub tables_free : (t : Tables) → ArePrintableTables t → Free (table_bytes t)
 tables_free t h =
     let fine : AreFine t.fields = record { table = h.fields; names = h.names; maxima = h.maxima } in
     let small = small_switches t.topo.switches h.switches h.ports in

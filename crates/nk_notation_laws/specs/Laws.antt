@@ -1,9 +1,11 @@
 -- What holds of whole texts.
-use Rattle.std.specs.Prelude.{◌≡◌, ◌≤◌, ◌↔◌, All, ℕ, List, [], ◌∷◌, ◌++◌, Some, None}
+use Rattle.std.specs.Prelude.{◌≡◌, ◌<◌, ◌≤◌, ◌*◌, ◌^◌, ◌↔◌, All, ℕ, List, [], ◌∷◌, ◌++◌, Some, None, length}
 use Rattle.nk_field.specs.declared.history.History.{History}
 use Rattle.nk_field.specs.declared.packet.Packet.{Packet}
+use Rattle.nk_field.specs.Order.{Found}
 use Rattle.nk_field.specs.Packet.{FieldTable, IsPacket}
 use Rattle.nk_cert.specs.Certificates.{CertificateValue}
+use Rattle.nk_cert.specs.Equality.{Side}
 use Rattle.nk_certtext.specs.ReadBack.{IsPrintableCertificate}
 use Rattle.nk_certtext.specs.Text.{cert_bytes}
 use Rattle.nk_declare.specs.Kept.{IsWritable}
@@ -15,6 +17,18 @@ use Rattle.nk_table.specs.declared.Tables.{Tables}
 use Rattle.nk_tabtext.specs.ReadBack.{ArePrintableTables}
 use Rattle.nk_tabtext.specs.Text.{table_bytes}
 use Rattle.nk_reply.specs.Messages.{way_lines}
+use Rattle.nk_sim.specs.declared.tracing.Traced.{Traced}
+use Rattle.nk_flight.specs.Flights.{FlightState}
+use Rattle.nk_flight.specs.Updates.{Stages, UpdateState, steps_done, switches_in}
+use Rattle.nk_trace_commands.specs.Flying.{flown_text}
+use Rattle.nk_trace_commands.specs.Tracing.{traced_text}
+use Rattle.nk_compile_commands.specs.Updating.{updated_text}
+use Rattle.nk_verify_commands.specs.Asking.{broken_lines}
+use Rattle.nk_verify_commands.specs.Comparing.{difference_lines}
+use Rattle.nk_change_impact.specs.Impact.{impact_lines}
+use Rattle.nk_compact.specs.declared.compact.Apart.{Apart}
+use Rattle.nk_compact.specs.declared.compact.Compact.{Compact}
+use Rattle.nk_compact_command.specs.Compacting.{compact_bytes}
 use Rattle.nk_lex.specs.declared.ident.Ident.{Ident}
 use Rattle.nk_lex.specs.Lex.{largest}
 use Rattle.nk_grammar.specs.Certified.{WrittenRow}
@@ -81,3 +95,58 @@ PrintedCertificatesAreLeft = (fields : FieldTable) → IsWritable fields → (c 
 -- so is the text of each program that is generated: no other program is printed
 abbrev pub PrintedProgramsAreLeft : Type 0
 PrintedProgramsAreLeft = (size seed : ℕ) → size ≤ 1000 → IsLeftByIn (generated size seed)
+
+-- a number that nk counts to
+abbrev pub IsCount : ℕ → Type 0
+IsCount n = n < 2 ^ 64
+
+-- the packets of a history have values in range
+abbrev pub IsHistory : FieldTable → History → Type 0
+IsHistory fields h = All (IsPacket fields) (h.records ++ h.last ∷ [])
+
+-- so are the histories with which a packet leaves, and how many leave and how many copies would go on
+abbrev pub TracesAreLeft : Type 0
+TracesAreLeft = (fields : FieldTable) → IsWritable fields → (traced : Traced) → All (IsHistory fields) traced.histories
+    → IsCount (length traced.histories) → IsCount traced.flying → IsLeftByIn (traced_text fields traced)
+
+-- so are the histories that have left in a flight, and how many have left and how many copies are in flight
+abbrev pub FlightsAreLeft : Type 0
+FlightsAreLeft = (fields : FieldTable) → IsWritable fields → (s : FlightState) → All (λ l. IsHistory fields l.history) s.left
+    → IsCount (length s.left) → IsCount (length s.flying) → IsLeftByIn (flown_text fields s)
+
+-- so are the histories that have left while new tables take the old ones' place, each with the number and the version of its
+-- injection, the counts, and how many plan steps are done
+abbrev pub UpdatesAreLeft : Type 0
+UpdatesAreLeft = (fields : FieldTable) → IsWritable fields → (g : Stages) (s : UpdateState)
+    → All (λ l. IsCount l.number × IsHistory fields l.history) s.flight.left → IsCount (length s.flight.left) → IsCount (length s.flight.flying)
+    → IsCount (steps_done g s) → IsCount (3 * length (switches_in g)) → IsLeftByIn (updated_text fields g s)
+
+-- the start packet and the history have values in range
+abbrev pub IsFoundOver : FieldTable → Found → Type 0
+IsFoundOver fields f = IsPacket fields f.start × IsHistory fields (record { records = f.records; last = f.last })
+
+-- so is the answer that tells which of two policies alone has a history
+abbrev pub DifferencesAreLeft : Type 0
+DifferencesAreLeft = (fields : FieldTable) → IsWritable fields → (side : Side) (f : Found) → IsFoundOver fields f → IsLeftByIn (difference_lines fields side f)
+
+-- so is the answer that tells a history by which a query is broken
+abbrev pub BrokenQueriesAreLeft : Type 0
+BrokenQueriesAreLeft = (fields : FieldTable) → IsWritable fields → (f : Found) → IsFoundOver fields f → IsLeftByIn (broken_lines fields f)
+
+-- so are two predicates, each as a policy with a name
+abbrev pub ImpactsAreLeft : Type 0
+ImpactsAreLeft = (fields : FieldTable) → IsWritable fields → (left right : Policy) → IsOverFields fields left → IsOverFields fields right
+    → IsLeftByIn (impact_lines fields left right)
+
+-- the numbers are counts, and the start packet and the history have values in range
+pub record IsApartOver (fields : FieldTable) (a : Apart) : Type 0 where
+  pub first : IsCount a.first
+  pub second : IsCount a.second
+  pub alone : IsCount a.alone
+  pub start : IsPacket fields a.start
+  pub history : IsHistory fields a.history
+
+-- so is the text of merged tables and of what tells their tags apart
+abbrev pub CompactsAreLeft : Type 0
+CompactsAreLeft = (fields : FieldTable) → IsWritable fields → (c : Compact) → ArePrintableTables c.tables → All (IsApartOver fields) c.aparts
+    → IsLeftByIn (compact_bytes fields c)

@@ -1,5 +1,5 @@
 //! What holds of every text with addresses.
-ghost use Rattle.nk_notation_laws.specs.Laws.{CertificatesAreLeft, HistoriesAreLeft, InGivesBack, InIsIdempotent, OutRefusesNothing, PlainTextsAreLeft, PoliciesAreLeft, PrintedCertificatesAreLeft, PrintedPoliciesAreLeft, PrintedProgramsAreLeft, TablesAreLeft};
+ghost use Rattle.nk_notation_laws.specs.Laws.{BrokenQueriesAreLeft, CertificatesAreLeft, CompactsAreLeft, DifferencesAreLeft, FlightsAreLeft, HistoriesAreLeft, ImpactsAreLeft, InGivesBack, InIsIdempotent, OutRefusesNothing, PlainTextsAreLeft, PoliciesAreLeft, PrintedCertificatesAreLeft, PrintedPoliciesAreLeft, PrintedProgramsAreLeft, TablesAreLeft, TracesAreLeft, UpdatesAreLeft};
 
 /// What `in` makes of a text, it leaves as it is, where it refuses nothing in the text.
 pub fn in_is_idempotent()
@@ -55,4 +55,40 @@ pub fn printed_certificates_are_left()
 /// So is the text of each program that `gen` prints, for each size up to 1,000 and each seed.
 pub fn printed_programs_are_left()
     ensures { PrintedProgramsAreLeft }
+{}
+
+/// So is what a trace prints: the histories with which a packet leaves, how many these are, and how many copies would go on.
+pub fn traces_are_left()
+    ensures { TracesAreLeft }
+{}
+
+/// So is what a flight prints: the histories that have left, how many these are, and how many copies are in flight.
+pub fn flights_are_left()
+    ensures { FlightsAreLeft }
+{}
+
+/// So is what an update prints: the histories that have left, each with the number and the version of its injection, the counts,
+/// and how many plan steps are done.
+pub fn updates_are_left()
+    ensures { UpdatesAreLeft }
+{}
+
+/// So is the answer that tells the history that one of two policies alone has.
+pub fn differences_are_left()
+    ensures { DifferencesAreLeft }
+{}
+
+/// So is the answer that tells the history by which a query is broken.
+pub fn broken_queries_are_left()
+    ensures { BrokenQueriesAreLeft }
+{}
+
+/// So are the predicates of the packets that two policies differ on, as they are printed.
+pub fn impacts_are_left()
+    ensures { ImpactsAreLeft }
+{}
+
+/// So is the text of merged tables, with the comment lines that say why their tags are no single one.
+pub fn compacts_are_left()
+    ensures { CompactsAreLeft }
 {}
