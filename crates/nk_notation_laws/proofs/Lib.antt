@@ -14,6 +14,7 @@ pub mod PrintedCompacts
 pub mod PrintedHistories
 pub mod PrintedImpacts
 pub mod PrintedPolicies
+pub mod PrintedRefusals
 pub mod PrintedTables
 pub mod ReadAgain
 pub mod ReadsWords

@@ -88,7 +88,7 @@ module _ (fields : FieldTable) (names : All IsName fields.names) (maxima : All (
       subst Left (sym (append_assoc (packet_bytes fields shows pk) others rest)) (packet_left shows pk (All-head (IsPacket fields) pk pks ok) (others ++ rest) after.0 after.1)
 
   -- the packet that a history starts at
-  start_left : (start : Packet) → IsPacket fields start → (rest : List ℕ) → Left rest → Left (start_line fields start ++ rest)
+  pub start_left : (start : Packet) → IsPacket fields start → (rest : List ℕ) → Left rest → Left (start_line fields start ++ rest)
   start_left start ok rest next =
       let p = packet_bytes fields true start in
       subst Left (sym (append_assoc (codes "start " ++ p) (codes "\n") rest ∙ append_assoc (codes "start ") p (10 ∷ rest)))

@@ -291,6 +291,13 @@ left_assigned w n rest h le stops next =
     (left_run (w ++ 58 ∷ []) (61 ∷ decimal n ++ rest) (run_front w h (58 ∷ []) refl) (all_two is_run_byte w (58 ∷ []) (word_run w h) refl) (colon_field w) (assigned_still w h) refl
     (left_equals (decimal n) rest (decimal_run n le) (decimal_still n le) stops next))
 
+-- a name with `:` after it, and a space
+pub left_label : (w rest : List ℕ) → IsWord w → Left rest → Left (w ++ 58 ∷ 32 ∷ rest)
+left_label w rest h next =
+    subst Left (append_assoc w (58 ∷ []) (32 ∷ rest))
+    (left_run (w ++ 58 ∷ []) (32 ∷ rest) (run_front w h (58 ∷ []) refl) (all_two is_run_byte w (58 ∷ []) (word_run w h) refl) (colon_field w) (assigned_still w h) refl
+    (left_byte 32 rest refl refl next))
+
 pub left_prefix : (a b : ℕ) (rest : List ℕ) → a ≤ largest → b ≤ largest → StopsAt is_run_byte rest → Left rest → Left (61 ∷ (decimal a ++ 47 ∷ (decimal b ++ rest)))
 left_prefix a b rest la lb stops next =
     subst (λ v. Left (61 ∷ v)) (append_assoc (decimal a) (47 ∷ decimal b) rest)

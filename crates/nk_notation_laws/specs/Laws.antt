@@ -1,5 +1,5 @@
 -- What holds of whole texts.
-use Rattle.std.specs.Prelude.{◌≡◌, ◌<◌, ◌≤◌, ◌*◌, ◌^◌, ◌↔◌, All, ℕ, List, [], ◌∷◌, ◌++◌, Some, None, length}
+use Rattle.std.specs.Prelude.{◌≡◌, ◌<◌, ◌≤◌, ◌*◌, ◌^◌, ◌↔◌, All, ℕ, List, [], ◌∷◌, ◌++◌, Some, None, length, ⊤}
 use Rattle.nk_field.specs.declared.history.History.{History}
 use Rattle.nk_field.specs.declared.packet.Packet.{Packet}
 use Rattle.nk_field.specs.Order.{Found}
@@ -22,7 +22,13 @@ use Rattle.nk_flight.specs.Flights.{FlightState}
 use Rattle.nk_flight.specs.Updates.{Stages, UpdateState, steps_done, switches_in}
 use Rattle.nk_trace_commands.specs.Flying.{flown_text}
 use Rattle.nk_trace_commands.specs.Tracing.{traced_text}
+use Rattle.nk_compile.specs.declared.refusal.Refusal.{Refusal}
+use Rattle.nk_compile.specs.declared.refusal.Refusal.TheVariants as refusal
+use Rattle.nk_compile_commands.specs.Messages.{refusal_line}
 use Rattle.nk_compile_commands.specs.Updating.{updated_text}
+use Rattle.nk_virtual.specs.declared.refusal.VirtualRefusal.{VirtualRefusal}
+use Rattle.nk_virtual.specs.declared.refusal.VirtualRefusal.TheVariants as unphysical
+use Rattle.nk_virtual_command.specs.Messages.{unphysical_line}
 use Rattle.nk_verify_commands.specs.Asking.{broken_lines}
 use Rattle.nk_verify_commands.specs.Comparing.{difference_lines}
 use Rattle.nk_change_impact.specs.Impact.{impact_lines}
@@ -150,3 +156,23 @@ pub record IsApartOver (fields : FieldTable) (a : Apart) : Type 0 where
 abbrev pub CompactsAreLeft : Type 0
 CompactsAreLeft = (fields : FieldTable) → IsWritable fields → (c : Compact) → ArePrintableTables c.tables → All (IsApartOver fields) c.aparts
     → IsLeftByIn (compact_bytes fields c)
+
+-- the packets that a refusal tells have values in range, and its number is a count
+abbrev pub IsRefusalOver : FieldTable → Refusal → Type 0
+IsRefusalOver fields (refusal.OffEdge start h) = IsPacket fields start × IsHistory fields h
+IsRefusalOver fields (refusal.TooManyTags found) = IsCount found
+IsRefusalOver fields r = ⊤
+
+-- so is what is said of a policy that is refused
+abbrev pub RefusalsAreLeft : Type 0
+RefusalsAreLeft = (fields : FieldTable) → IsWritable fields → (r : Refusal) → IsRefusalOver fields r → IsLeftByIn (refusal_line fields r)
+
+-- the packets that it tells have values in range, and its switch and port are numbers that nk reads
+abbrev pub IsVirtualRefusalOver : FieldTable → VirtualRefusal → Type 0
+IsVirtualRefusalOver fields (unphysical.OffTarget switch port start h) = (switch ≤ largest) × (port ≤ largest) × IsPacket fields start × IsHistory fields h
+IsVirtualRefusalOver fields (unphysical.NotCarried switch port start) = (switch ≤ largest) × (port ≤ largest) × IsPacket fields start
+IsVirtualRefusalOver fields r = ⊤
+
+-- so is what is said of a name that has no physical policy
+abbrev pub VirtualRefusalsAreLeft : Type 0
+VirtualRefusalsAreLeft = (fields : FieldTable) → IsWritable fields → (r : VirtualRefusal) → IsVirtualRefusalOver fields r → IsLeftByIn (unphysical_line fields r)

@@ -1,5 +1,5 @@
 //! What holds of every text with addresses.
-ghost use Rattle.nk_notation_laws.specs.Laws.{BrokenQueriesAreLeft, CertificatesAreLeft, CompactsAreLeft, DifferencesAreLeft, FlightsAreLeft, HistoriesAreLeft, ImpactsAreLeft, InGivesBack, InIsIdempotent, OutRefusesNothing, PlainTextsAreLeft, PoliciesAreLeft, PrintedCertificatesAreLeft, PrintedPoliciesAreLeft, PrintedProgramsAreLeft, TablesAreLeft, TracesAreLeft, UpdatesAreLeft};
+ghost use Rattle.nk_notation_laws.specs.Laws.{BrokenQueriesAreLeft, CertificatesAreLeft, CompactsAreLeft, DifferencesAreLeft, FlightsAreLeft, HistoriesAreLeft, ImpactsAreLeft, InGivesBack, InIsIdempotent, OutRefusesNothing, PlainTextsAreLeft, PoliciesAreLeft, PrintedCertificatesAreLeft, PrintedPoliciesAreLeft, PrintedProgramsAreLeft, RefusalsAreLeft, TablesAreLeft, TracesAreLeft, UpdatesAreLeft, VirtualRefusalsAreLeft};
 
 /// What `in` makes of a text, it leaves as it is, where it refuses nothing in the text.
 pub fn in_is_idempotent()
@@ -91,4 +91,14 @@ pub fn impacts_are_left()
 /// So is the text of merged tables, with the comment lines that say why their tags are no single one.
 pub fn compacts_are_left()
     ensures { CompactsAreLeft }
+{}
+
+/// So is what is said of a policy that is refused, with the history that ends off an edge port.
+pub fn refusals_are_left()
+    ensures { RefusalsAreLeft }
+{}
+
+/// So is what is said of a name that has no physical policy, with the packet or the history that shows it.
+pub fn virtual_refusals_are_left()
+    ensures { VirtualRefusalsAreLeft }
 {}
