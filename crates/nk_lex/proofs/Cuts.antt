@@ -95,11 +95,8 @@ open_more b rest more h =
 
 four : {X : Type 0} (p q r t : Bool) (x1 x2 x3 x4 y1 y2 y3 y4 e : X) → cond (p || q || r || t) true false ≡ false
     → cond p x1 (cond q x2 (cond r x3 (cond t x4 e))) ≡ cond p y1 (cond q y2 (cond r y3 (cond t y4 e)))
-four true q r t x1 x2 x3 x4 y1 y2 y3 y4 e h = absurd cc
-four false true r t x1 x2 x3 x4 y1 y2 y3 y4 e h = absurd cc
-four false false true t x1 x2 x3 x4 y1 y2 y3 y4 e h = absurd cc
-four false false false true x1 x2 x3 x4 y1 y2 y3 y4 e h = absurd cc
 four false false false false x1 x2 x3 x4 y1 y2 y3 y4 e h = refl
+four p q r t x1 x2 x3 x4 y1 y2 y3 y4 e h = absurd cc
 
 symbol_more : (b : ℕ) (rest more : List ℕ) → cond (begins_longer b) (is_empty rest) false ≡ false
     → symbol_of b (rest ++ more) ≡ symbol_of b rest

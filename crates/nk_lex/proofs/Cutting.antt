@@ -201,41 +201,15 @@ stop p (c ∷ bs) r rest b e h = (let same : c ≡ b = cc in ap p same) ∙ h
 
 -- no symbol goes on with a byte that is neither `>` nor `=`
 not_longer : (s : Sign) (b : ℕ) → (b == 62) ≡ false → (b == 61) ≡ false → longer s b ≡ false
-not_longer plus b h k = refl
-not_longer semicolon b h k = refl
-not_longer star b h k = refl
-not_longer tilde b h k = refl
-not_longer open_parenthesis b h k = refl
-not_longer close_parenthesis b h k = refl
 not_longer equal b h k = h
-not_longer becomes b h k = refl
-not_longer fat_arrow b h k = refl
-not_longer arrow b h k = refl
 not_longer colon b h k = k
-not_longer comma b h k = refl
-not_longer slash b h k = refl
-not_longer dots b h k = refl
-not_longer open_bracket b h k = refl
-not_longer close_bracket b h k = refl
+not_longer s b h k = refl
 
 -- a symbol goes on with no other one from which it stands apart
 sign_apart : (s : Sign) (b : ℕ) (t : Bool) → (b == 62) ≡ false → (b == 61) ≡ t → (is_colon s && t) ≡ false → longer s b ≡ false
-sign_apart plus b t h k m = refl
-sign_apart semicolon b t h k m = refl
-sign_apart star b t h k m = refl
-sign_apart tilde b t h k m = refl
-sign_apart open_parenthesis b t h k m = refl
-sign_apart close_parenthesis b t h k m = refl
 sign_apart equal b t h k m = h
-sign_apart becomes b t h k m = refl
-sign_apart fat_arrow b t h k m = refl
-sign_apart arrow b t h k m = refl
 sign_apart colon b t h k m = k ∙ m
-sign_apart comma b t h k m = refl
-sign_apart slash b t h k m = refl
-sign_apart dots b t h k m = refl
-sign_apart open_bracket b t h k m = refl
-sign_apart close_bracket b t h k m = refl
+sign_apart s b t h k m = refl
 
 -- the bytes that would make a lexeme longer
 abbrev extends : Lexeme → ℕ → Bool
@@ -269,13 +243,9 @@ stops_after : (x : Lexeme) (ys : List Lexeme) → IsApart x ys → AreSeparate y
 stops_after space ys a h = blank_stops (text_of ys)
 stops_after line_feed ys a h = blank_stops (text_of ys)
 stops_after x [] a h = tt
-stops_after (word w) (space ∷ ys) a h = refl
-stops_after (word w) (line_feed ∷ ys) a h = refl
 stops_after (word w) (word v ∷ ys) a h = absurd cc
 stops_after (word w) (numeral n ∷ ys) a h = absurd cc
 stops_after (word w) (sign t ∷ ys) a h = let l = leads t in stop is_name_byte (sign_bytes t) (text_of ys) l.rest l.first l.are l.no_name
-stops_after (numeral n) (space ∷ ys) a h = refl
-stops_after (numeral n) (line_feed ∷ ys) a h = refl
 stops_after (numeral n) (word [] ∷ ys) a h = absurd h.0
 stops_after (numeral n) (word (b ∷ bs) ∷ ys) a h = start_no_digit b h.0.0
 stops_after (numeral n) (numeral m ∷ ys) a h = absurd cc
@@ -290,6 +260,7 @@ stops_after (sign s) (numeral m ∷ ys) a h =
 stops_after (sign s) (sign t ∷ ys) a h =
     let l = leads t in
     stop (longer s) (sign_bytes t) (text_of ys) l.rest l.first l.are (sign_apart s l.first (begins_with_equal t) l.no_greater l.no_equal a)
+stops_after x ys a h = refl
 
 -- ---- all lexemes
 

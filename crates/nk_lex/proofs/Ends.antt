@@ -102,10 +102,8 @@ answer_after ts us (Some e) = refl
 
 returns_after : {Y : Type 0} (view : Y → List Token) (ts : List Token) (result : Result Y LexError) (a : Result (List Token) LexError)
     → LexReturns view result a → LexReturns (λ v. ts ++ view v) result (prefixed ts a)
-returns_after view ts (Ok x) a h = ap (prefixed ts) h
 returns_after view ts (Err error.NoMemory) a h = tt
-returns_after view ts (Err (error.BadByte line)) a h = ap (prefixed ts) h
-returns_after view ts (Err (error.NumberTooLarge line)) a h = ap (prefixed ts) h
+returns_after view ts result a h = ap (prefixed ts) h
 
 -- what is left of a text that was fed
 pub fed_opened : (text : List ℕ) (s : FeedState) → IsFed text s → IsOpened (left_by text) s.fed s.line s.pending s.held
@@ -179,12 +177,9 @@ fed_goes text piece s n f g count line p held =
 
 no_want : (l : Left) (fed line : ℕ) (p : Pending) (held : List ℕ) (r : Settled) → IsOpened l fed line p held → held ≡ []
     → length r.0 ≡ 0 → length (held_in r.1) ≡ 0 → 0 < wanted_past p r → ⊥
-no_want l fed line pending.Nothing held r i none a b h = omega (arith, a, b, h)
-no_want l fed line pending.Comment held r i none a b h = omega (arith, a, b, h)
-no_want l fed line (pending.Number at v) held r i none a b h = omega (arith, a, b, h)
 no_want l fed line pending.Held held r (x, rest, is, bytes, o, c, d) none a b h =
     let bad : x ∷ rest ≡ [] = sym bytes ∙ none in absurd cc
-no_want l fed line (pending.Fault e) held r i none a b h = omega (arith, a, b, h)
+no_want l fed line p held r i none a b h = omega (arith, a, b, h)
 
 -- where no name and no symbol is open, and a piece completes no token and leaves none open
 pub fed_quiet : (text piece : List ℕ) (s : FeedState) → IsFed text s → goes_on s.pending s.held piece ≡ false → s.held ≡ []

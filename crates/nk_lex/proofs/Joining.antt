@@ -114,12 +114,10 @@ front_same b xs c =
 
 -- and is cut as before
 pub cut_same : (x : Front) (line at : ℕ) (xs c : List ℕ) → size x ≤ length xs → cut x line at (xs ++ c) ≡ cut x line at xs
-cut_same (front.Blank n) line at xs c fits = refl
 cut_same (front.Name n) line at xs c fits =
     ap (λ w. Ok (n, Some (token (kind_of_name w) at n line 0 w))) (take-append-le n xs c fits)
 cut_same (front.Number n) line at xs c fits = ap (λ w. with_length n (number_of w at n line)) (take-append-le n xs c fits)
-cut_same (front.Symbol n k) line at xs c fits = refl
-cut_same front.Bad line at xs c fits = refl
+cut_same x line at xs c fits = refl
 
 -- the lexeme was cut with this size
 abbrev pub IsSized : ℕ → Result (ℕ × Option Token) LexError → Type 0
@@ -127,16 +125,14 @@ IsSized n (Ok p) = p.0 ≡ n
 IsSized n (Err e) = ⊤
 
 pub sized : (x : Front) (line at : ℕ) (bytes : List ℕ) → IsSized (size x) (cut x line at bytes)
-sized (front.Blank n) line at bytes = refl
-sized (front.Name n) line at bytes = refl
 sized (front.Number n) line at bytes = by_test (nat_le (value_of (take n bytes)) largest)
   where
     by_test : (t : Bool)
         → IsSized n (with_length n (cond t (Ok (token kind.Number at n line (value_of (take n bytes)) [])) (Err (error.NumberTooLarge line))))
     by_test true = refl
     by_test false = tt
-sized (front.Symbol n k) line at bytes = refl
 sized front.Bad line at bytes = tt
+sized x line at bytes = refl
 
 -- the line on which a text ends, where the first bytes belong to the lexeme before
 abbrev last_line : List ℕ → ℕ → ℕ → ℕ
