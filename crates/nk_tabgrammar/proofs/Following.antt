@@ -213,21 +213,16 @@ owned_follows x c (owner.Row n ms) p t = bucket_follows x c (owner.Row n ms) sta
 stage_follows : (s : Stage) (x : WrittenTables) (c : WrittenTable) (t : Token)
     → Leads (next_table_reading s x c (table_terminal_of t)) (after_token (state_of_stage s) t.kind)
 stage_follows stage.Start x c t = mark_only same t kind.Tables refl refl _ _ _ _ refl refl
-stage_follows stage.Version x c t = number_only same t _ _ _ _ (λ n. refl) refl
 stage_follows stage.Between x c t = begins x c tells.Nothing t
 stage_follows (stage.Declared declaring.Field) x c t = name_only same t _ _ _ _ (λ w. refl) refl
-stage_follows (stage.Declared (declaring.FieldNamed w)) x c t = number_only same t _ _ _ _ (λ n. refl) refl
 stage_follows (stage.Declared declaring.Tag) x c t = name_only same t _ _ _ _ (λ w. refl) refl
-stage_follows (stage.Declared declaring.Switch) x c t = number_only same t _ _ _ _ (λ n. refl) refl
 stage_follows (stage.Declared (declaring.SwitchNumbered n)) x c t = mark_only same t kind.Ports refl refl _ _ _ _ refl refl
 stage_follows (stage.Declared (declaring.FirstPort n)) x c t = number_only same t _ _ _ _ (λ p. refl) refl
 stage_follows (stage.Declared (declaring.NextPort n p ps)) x c t = number_only same t _ _ _ _ (λ q. refl) refl
 stage_follows (stage.Declared (declaring.PortRead n p ps)) x c t =
     mark_or same t kind.Comma refl refl _ _ _ _ _ refl (begins _ c tells.SwitchEnds t)
 stage_follows (stage.Declared (declaring.Link q)) x c t = link_follows x c q t
-stage_follows stage.Table x c t = number_only same t _ _ _ _ (λ n. refl) refl
 stage_follows stage.Groups x c t = group_begins x c tells.Nothing t
-stage_follows (stage.Grouped grouping.Group) x c t = number_only same t _ _ _ _ (λ n. refl) refl
 stage_follows (stage.Grouped (grouping.GroupNumbered n)) x c t = mark_only same t kind.Equal refl refl _ _ _ _ refl refl
 stage_follows (stage.Grouped (grouping.FirstBucket n)) x c t = mark_only same t kind.OpenBracket refl refl _ _ _ _ refl refl
 stage_follows (stage.Grouped (grouping.BucketRead g)) x c t =
@@ -238,46 +233,19 @@ stage_follows (stage.InRow in_row.Row) x c t = number_only same t _ _ _ _ (λ p.
 stage_follows (stage.InRow (in_row.RowNumbered p)) x c t = mark_only same t kind.Colon refl refl _ _ _ _ refl refl
 stage_follows (stage.InRow (in_row.Matches p ms)) x c t = match_begins x c p ms t
 stage_follows (stage.InRow (in_row.MatchNamed p ms w)) x c t = mark_only same t kind.Equal refl refl _ _ _ _ refl refl
-stage_follows (stage.InRow (in_row.MatchTested p ms w)) x c t = number_only same t _ _ _ _ (λ n. refl) refl
 stage_follows (stage.InRow (in_row.MatchValued p ms w n)) x c t =
     mark_or same t kind.Slash refl refl _ _ _ _ _ refl (match_begins x c p _ t)
 stage_follows (stage.InRow (in_row.MatchSlashed p ms w n)) x c t = number_only same t _ _ _ _ (λ l. refl) refl
 stage_follows (stage.InRow (in_row.Target p ms)) x c t = target_begins x c p ms t
-stage_follows (stage.InRow (in_row.TargetGroup p ms)) x c t = number_only same t _ _ _ _ (λ n. refl) refl
+stage_follows s x c t = number_only same t _ _ _ _ (λ n. refl) refl
 
 -- the end
 end_follows : (s : Stage) (x : WrittenTables) (c : WrittenTable) → is_some (table_text_ended s x c) ≡ is_some (at_end (state_of_stage s))
-end_follows stage.Start x c = refl
-end_follows stage.Version x c = refl
-end_follows stage.Between x c = refl
 end_follows (stage.Declared declaring.Field) x c = refl
-end_follows (stage.Declared (declaring.FieldNamed w)) x c = refl
-end_follows (stage.Declared declaring.Tag) x c = refl
-end_follows (stage.Declared declaring.Switch) x c = refl
-end_follows (stage.Declared (declaring.SwitchNumbered n)) x c = refl
-end_follows (stage.Declared (declaring.FirstPort n)) x c = refl
-end_follows (stage.Declared (declaring.NextPort n p ps)) x c = refl
-end_follows (stage.Declared (declaring.PortRead n p ps)) x c = refl
-end_follows (stage.Declared (declaring.Link q)) x c = refl
-end_follows stage.Table x c = refl
-end_follows stage.Groups x c = refl
 end_follows (stage.Grouped grouping.Group) x c = refl
-end_follows (stage.Grouped (grouping.GroupNumbered n)) x c = refl
-end_follows (stage.Grouped (grouping.FirstBucket n)) x c = refl
-end_follows (stage.Grouped (grouping.BucketRead g)) x c = refl
 end_follows (stage.InBucket (owner.First n) p) x c = refl
-end_follows (stage.InBucket (owner.Next g) p) x c = refl
-end_follows (stage.InBucket (owner.Row n ms) p) x c = refl
-end_follows stage.Rows x c = refl
 end_follows (stage.InRow in_row.Row) x c = refl
-end_follows (stage.InRow (in_row.RowNumbered p)) x c = refl
-end_follows (stage.InRow (in_row.Matches p ms)) x c = refl
-end_follows (stage.InRow (in_row.MatchNamed p ms w)) x c = refl
-end_follows (stage.InRow (in_row.MatchTested p ms w)) x c = refl
-end_follows (stage.InRow (in_row.MatchValued p ms w n)) x c = refl
-end_follows (stage.InRow (in_row.MatchSlashed p ms w n)) x c = refl
-end_follows (stage.InRow (in_row.Target p ms)) x c = refl
-end_follows (stage.InRow (in_row.TargetGroup p ms)) x c = refl
+end_follows s x c = refl
 
 -- the states are the stages
 pub follows : (r : Reading)

@@ -52,43 +52,7 @@ kind_at n =
 -- is the kind that has it
 kind_there : (k : Kind) → kind_at (kind_place k) ≡ k
 kind_there kind.Name = refl
-kind_there kind.Number = refl
-kind_there kind.Field = refl
-kind_there kind.Tag = refl
-kind_there kind.Switch = refl
-kind_there kind.Ports = refl
-kind_there kind.Link = refl
-kind_there kind.Let = refl
-kind_there kind.Certificate = refl
-kind_there kind.Row = refl
-kind_there kind.Start = refl
-kind_there kind.Id = refl
-kind_there kind.Drop = refl
-kind_there kind.Dup = refl
-kind_there kind.Tables = refl
-kind_there kind.Table = refl
-kind_there kind.Group = refl
-kind_there kind.Out = refl
-kind_there kind.In = refl
-kind_there kind.Virtual = refl
-kind_there kind.Fabric = refl
-kind_there kind.By = refl
-kind_there kind.Plus = refl
-kind_there kind.Semicolon = refl
-kind_there kind.Star = refl
-kind_there kind.Tilde = refl
-kind_there kind.OpenParen = refl
-kind_there kind.CloseParen = refl
-kind_there kind.Equal = refl
-kind_there kind.Assign = refl
-kind_there kind.FatArrow = refl
-kind_there kind.Arrow = refl
-kind_there kind.Colon = refl
-kind_there kind.Comma = refl
-kind_there kind.Slash = refl
-kind_there kind.DotDot = refl
-kind_there kind.OpenBracket = refl
-kind_there kind.CloseBracket = refl
+kind_there k = refl
 
 -- kinds of one place are one
 same_kind : (k l : Kind) → kind_place k ≡ kind_place l → k ≡ l

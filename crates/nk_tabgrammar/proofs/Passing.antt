@@ -43,9 +43,7 @@ IsAfter k (t ∷ ts) = is_mark k t ≡ false
 declarations_after : (ds : List Declaration) (r : List Terminal) → IsAfter kind.Comma r → IsAfter kind.Comma (flat_map spell_table_declaration ds ++ r)
 declarations_after [] r b = b
 declarations_after (declared.Field w n ∷ ds) r b = refl
-declarations_after (declared.Tag w ∷ ds) r b = refl
-declarations_after (declared.Switch n p ps ∷ ds) r b = refl
-declarations_after (declared.Link a m c n ∷ ds) r b = refl
+declarations_after ds r b = refl
 
 -- tables, rows and groups begin with a word of theirs
 tables_following : (k : Kind) → is_mark k (mark kind.Table) ≡ false → (ts : List WrittenTable) → IsAfter k (flat_map spell_table ts)
@@ -74,10 +72,8 @@ ports_pass x c n p qs [] (t ∷ r) b =
 -- a declaration
 declaration_passes : (x : WrittenTables) (c : WrittenTable) (d : Declaration) (r : List Terminal) → IsAfter kind.Comma r
     → finish (read_table_tokens (spell_table_declaration d ++ r) (table_reading stage.Between x c)) ≡ finish (read_table_tokens r (table_reading stage.Between (with_declaration x d) c))
-declaration_passes x c (declared.Field w n) r b = refl
-declaration_passes x c (declared.Tag w) r b = refl
 declaration_passes x c (declared.Switch n p ps) r b = ports_pass x c n p [] ps r b
-declaration_passes x c (declared.Link a m e n) r b = refl
+declaration_passes x c d r b = refl
 
 -- more declarations
 abbrev with_declarations : WrittenTables → List Declaration → WrittenTables

@@ -104,35 +104,12 @@ OwnerFits (owner.Row p ms) c = Unit {0}
 
 -- while declarations are read there is no table, and while groups are there is no row
 abbrev pub Fits : Stage → WrittenTables → WrittenTable → Type 0
-Fits stage.Start x c = Unit {0}
-Fits stage.Version x c = Unit {0}
 Fits stage.Between x c = x.tables ≡ []
-Fits (stage.Declared declaring.Field) x c = x.tables ≡ []
-Fits (stage.Declared (declaring.FieldNamed w)) x c = x.tables ≡ []
-Fits (stage.Declared declaring.Tag) x c = x.tables ≡ []
-Fits (stage.Declared declaring.Switch) x c = x.tables ≡ []
-Fits (stage.Declared (declaring.SwitchNumbered n)) x c = x.tables ≡ []
-Fits (stage.Declared (declaring.FirstPort n)) x c = x.tables ≡ []
-Fits (stage.Declared (declaring.NextPort n p ps)) x c = x.tables ≡ []
-Fits (stage.Declared (declaring.PortRead n p ps)) x c = x.tables ≡ []
-Fits (stage.Declared (declaring.Link q)) x c = x.tables ≡ []
-Fits stage.Table x c = Unit {0}
+Fits (stage.Declared d) x c = x.tables ≡ []
 Fits stage.Groups x c = c.rows ≡ []
-Fits (stage.Grouped grouping.Group) x c = c.rows ≡ []
-Fits (stage.Grouped (grouping.GroupNumbered n)) x c = c.rows ≡ []
-Fits (stage.Grouped (grouping.FirstBucket n)) x c = c.rows ≡ []
-Fits (stage.Grouped (grouping.BucketRead g)) x c = c.rows ≡ []
+Fits (stage.Grouped g) x c = c.rows ≡ []
 Fits (stage.InBucket o p) x c = OwnerFits o c
-Fits stage.Rows x c = Unit {0}
-Fits (stage.InRow in_row.Row) x c = Unit {0}
-Fits (stage.InRow (in_row.RowNumbered p)) x c = Unit {0}
-Fits (stage.InRow (in_row.Matches p ms)) x c = Unit {0}
-Fits (stage.InRow (in_row.MatchNamed p ms w)) x c = Unit {0}
-Fits (stage.InRow (in_row.MatchTested p ms w)) x c = Unit {0}
-Fits (stage.InRow (in_row.MatchValued p ms w n)) x c = Unit {0}
-Fits (stage.InRow (in_row.MatchSlashed p ms w n)) x c = Unit {0}
-Fits (stage.InRow (in_row.Target p ms)) x c = Unit {0}
-Fits (stage.InRow (in_row.TargetGroup p ms)) x c = Unit {0}
+Fits s x c = Unit {0}
 
 -- these tokens lead to the state
 abbrev pub IsAt : List Terminal → Reading → Type 0
@@ -455,27 +432,4 @@ ends (stage.Declared (declaring.PortRead n p ps)) x c y h e = declaration_pushed
 ends stage.Groups x c y h e = table_pushed x c ∙ ap spell_text (some_same _ y e)
 ends (stage.Grouped (grouping.BucketRead g)) x c y h e = group_pushed x c g h ∙ table_pushed x (with_group c g) ∙ ap spell_text (some_same _ y e)
 ends stage.Rows x c y h e = table_pushed x c ∙ ap spell_text (some_same _ y e)
-ends stage.Start x c y h e = absurd (none_some y e)
-ends stage.Version x c y h e = absurd (none_some y e)
-ends (stage.Declared declaring.Field) x c y h e = absurd (none_some y e)
-ends (stage.Declared (declaring.FieldNamed w)) x c y h e = absurd (none_some y e)
-ends (stage.Declared declaring.Tag) x c y h e = absurd (none_some y e)
-ends (stage.Declared declaring.Switch) x c y h e = absurd (none_some y e)
-ends (stage.Declared (declaring.SwitchNumbered n)) x c y h e = absurd (none_some y e)
-ends (stage.Declared (declaring.FirstPort n)) x c y h e = absurd (none_some y e)
-ends (stage.Declared (declaring.NextPort n p ps)) x c y h e = absurd (none_some y e)
-ends (stage.Declared (declaring.Link q)) x c y h e = absurd (none_some y e)
-ends stage.Table x c y h e = absurd (none_some y e)
-ends (stage.Grouped grouping.Group) x c y h e = absurd (none_some y e)
-ends (stage.Grouped (grouping.GroupNumbered n)) x c y h e = absurd (none_some y e)
-ends (stage.Grouped (grouping.FirstBucket n)) x c y h e = absurd (none_some y e)
-ends (stage.InBucket o p) x c y h e = absurd (none_some y e)
-ends (stage.InRow in_row.Row) x c y h e = absurd (none_some y e)
-ends (stage.InRow (in_row.RowNumbered p)) x c y h e = absurd (none_some y e)
-ends (stage.InRow (in_row.Matches p ms)) x c y h e = absurd (none_some y e)
-ends (stage.InRow (in_row.MatchNamed p ms w)) x c y h e = absurd (none_some y e)
-ends (stage.InRow (in_row.MatchTested p ms w)) x c y h e = absurd (none_some y e)
-ends (stage.InRow (in_row.MatchValued p ms w n)) x c y h e = absurd (none_some y e)
-ends (stage.InRow (in_row.MatchSlashed p ms w n)) x c y h e = absurd (none_some y e)
-ends (stage.InRow (in_row.Target p ms)) x c y h e = absurd (none_some y e)
-ends (stage.InRow (in_row.TargetGroup p ms)) x c y h e = absurd (none_some y e)
+ends s x c y h e = absurd (none_some y e)

@@ -205,9 +205,7 @@ group_ends : (gs : List WrittenGroup) (rs : List WrittenRow) (ts : List WrittenT
     → tell_from (flat_map spell_group gs ++ rows_tables rs ts) state.BucketRead
     ≡ option_map (λ m. told_alone tells.GroupEnds ∷ m) (tell_from (flat_map spell_group gs ++ rows_tables rs ts) state.Groups)
 group_ends [] [] [] = refl
-group_ends [] [] (t ∷ ts) = ended (told_alone tells.GroupEnds) _
-group_ends [] (r ∷ rs) ts = ended (told_alone tells.GroupEnds) _
-group_ends (g ∷ gs) rs ts = ended (told_alone tells.GroupEnds) _
+group_ends gs rs ts = ended (told_alone tells.GroupEnds) _
 
 groups_tell : (gs : List WrittenGroup) (rs : List WrittenRow) (ts : List WrittenTable) (l : List Telling)
     → tell_from (rows_tables rs ts) state.Groups ≡ Some l
@@ -278,11 +276,8 @@ switch_ends : (ds : List Declaration) (ts : List WrittenTable)
     → tell_from (declarations_tables ds ts) state.PortRead
     ≡ option_map (λ m. told_alone tells.SwitchEnds ∷ m) (tell_from (declarations_tables ds ts) state.Between)
 switch_ends [] [] = refl
-switch_ends [] (t ∷ ts) = ended (told_alone tells.SwitchEnds) _
 switch_ends (declared.Field w n ∷ ds) ts = ended (told_alone tells.SwitchEnds) _
-switch_ends (declared.Tag w ∷ ds) ts = ended (told_alone tells.SwitchEnds) _
-switch_ends (declared.Switch n p ps ∷ ds) ts = ended (told_alone tells.SwitchEnds) _
-switch_ends (declared.Link a m b n ∷ ds) ts = ended (told_alone tells.SwitchEnds) _
+switch_ends ds ts = ended (told_alone tells.SwitchEnds) _
 
 -- a declaration that is whole with its last token
 declaration_tells : (d : Declaration) (ds : List Declaration) (ts : List WrittenTable)
