@@ -56,9 +56,7 @@ all_said P Q one (d ∷ ds) s t h are e =
 -- one declaration says in a program what it declares
 one_alike : (s : DeclaredProgram) (d : declare.NetworkDeclaration) → program_declaring s (in_program d) ≡ program_beside s (declared_with (declared_part s) d)
 one_alike s (declare.field w n) = refl
-one_alike s (declare.tag w) = refl
-one_alike s (declare.switch n ps) = refl
-one_alike s (declare.link a m b n) = refl
+one_alike s d = refl
 
 -- of fields and a topology the last stand
 beside_again : (s : DeclaredProgram) (d : DeclaredValue) (r : Result DeclaredValue DeclareError) → program_beside (beside s d) r ≡ program_beside s r

@@ -45,16 +45,12 @@ module _ (links : List Link) where
   mutual
     -- a literal of a policy whose links are declared is a declared link
     pub literal_declared : (p : Policy) → has_leaf (is_link_outside links) p ≡ false → (k : Literal) → HoldsLiteral p k → In links (link_of k)
-    literal_declared (test f n) d k h = absurd h
-    literal_declared (range f low high) d k h = absurd h
-    literal_declared (assign f n) d k h = absurd h
     literal_declared (sum_of ps) d k h = some_literal_declared ps d k h
     literal_declared (seq_of ps) d k h = some_literal_declared ps d k h
-    literal_declared (not_of p) d k h = absurd h
     literal_declared (star_of p) d k h = literal_declared p d k h
-    literal_declared (dup l) d k h = absurd h
     literal_declared (link a m b n l) d k h =
         subst (λ (i : Literal). In links (link_of i)) (sym h) (found_link links a m b n (true_of_not _ d))
+    literal_declared p d k h = absurd h
 
     -- the same among parts
     pub some_literal_declared : (ps : Policies) → some_has_leaf (is_link_outside links) ps ≡ false → (k : Literal) → SomeHoldsLiteral ps k → In links (link_of k)

@@ -59,9 +59,8 @@ target_there topo (k ∷ links) sw pt =
 
 either : (a b : Bool) → cond a true b ≡ (b || (a || false))
 either true true = refl
-either true false = refl
 either false true = refl
-either false false = refl
+either a b = refl
 
 turned : (a b : ℕ) → (a == b) ≡ (b == a)
 turned a b = grind arith

@@ -14,15 +14,11 @@ AreOver fields ps = AllUseOnly (IsValue fields) ps
 mutual
   -- numbering changes no count of dups
   pub dups_marked : (p : Policy) (n : ℕ) → dups_of (marked_from p n) ≡ dups_of p
-  dups_marked (test f v) n = refl
-  dups_marked (range f low high) n = refl
-  dups_marked (assign f v) n = refl
   dups_marked (sum_of ps) n = all_dups_marked ps n
   dups_marked (seq_of ps) n = all_dups_marked ps n
   dups_marked (not_of p) n = dups_marked p n
   dups_marked (star_of p) n = dups_marked p n
-  dups_marked (dup l) n = refl
-  dups_marked (link a m b k l) n = refl
+  dups_marked p n = refl
 
   -- the same of parts
   pub all_dups_marked : (ps : Policies) (n : ℕ) → dups_of_all (all_marked_from ps n) ≡ dups_of_all ps
@@ -32,15 +28,11 @@ mutual
 mutual
   -- the last numbering stands
   pub marked_again : (p : Policy) (k n : ℕ) → marked_from (marked_from p k) n ≡ marked_from p n
-  marked_again (test f v) k n = refl
-  marked_again (range f low high) k n = refl
-  marked_again (assign f v) k n = refl
   marked_again (sum_of ps) k n = ap sum_of (all_marked_again ps k n)
   marked_again (seq_of ps) k n = ap seq_of (all_marked_again ps k n)
   marked_again (not_of p) k n = ap not_of (marked_again p k n)
   marked_again (star_of p) k n = ap star_of (marked_again p k n)
-  marked_again (dup l) k n = refl
-  marked_again (link a m b j l) k n = refl
+  marked_again p k n = refl
 
   -- the same of parts
   pub all_marked_again : (ps : Policies) (k n : ℕ) → all_marked_from (all_marked_from ps k) n ≡ all_marked_from ps n
@@ -53,15 +45,11 @@ mutual
 mutual
   -- numbering changes no size
   pub size_marked : (p : Policy) (n : ℕ) → size_of (marked_from p n) ≡ size_of p
-  size_marked (test f v) n = refl
-  size_marked (range f low high) n = refl
-  size_marked (assign f v) n = refl
   size_marked (sum_of ps) n = ap (λ k. 1 + k) (sizes_marked ps n)
   size_marked (seq_of ps) n = ap (λ k. 1 + k) (sizes_marked ps n)
   size_marked (not_of p) n = ap (λ k. 1 + k) (size_marked p n)
   size_marked (star_of p) n = ap (λ k. 1 + k) (size_marked p n)
-  size_marked (dup l) n = refl
-  size_marked (link a m b k l) n = refl
+  size_marked p n = refl
 
   -- the same of parts
   pub sizes_marked : (ps : Policies) (n : ℕ) → sizes_of (all_marked_from ps n) ≡ sizes_of ps
@@ -71,15 +59,11 @@ mutual
 mutual
   -- numbering changes no depth
   pub depth_marked : (p : Policy) (n : ℕ) → depth_of (marked_from p n) ≡ depth_of p
-  depth_marked (test f v) n = refl
-  depth_marked (range f low high) n = refl
-  depth_marked (assign f v) n = refl
   depth_marked (sum_of ps) n = ap (λ k. 1 + k) (depths_marked ps n)
   depth_marked (seq_of ps) n = ap (λ k. 1 + k) (depths_marked ps n)
   depth_marked (not_of p) n = ap (λ k. 1 + k) (depth_marked p n)
   depth_marked (star_of p) n = ap (λ k. 1 + k) (depth_marked p n)
-  depth_marked (dup l) n = refl
-  depth_marked (link a m b k l) n = refl
+  depth_marked p n = refl
 
   -- the same of parts
   pub depths_marked : (ps : Policies) (n : ℕ) → depths_of (all_marked_from ps n) ≡ depths_of ps
@@ -91,15 +75,10 @@ mutual
 mutual
   -- numbering changes no predicate
   pub predicate_marked : (p : Policy) (n : ℕ) → is_predicate (marked_from p n) ≡ is_predicate p
-  predicate_marked (test f v) n = refl
-  predicate_marked (range f low high) n = refl
-  predicate_marked (assign f v) n = refl
   predicate_marked (sum_of ps) n = predicates_marked ps n
   predicate_marked (seq_of ps) n = predicates_marked ps n
   predicate_marked (not_of p) n = predicate_marked p n
-  predicate_marked (star_of p) n = refl
-  predicate_marked (dup l) n = refl
-  predicate_marked (link a m b k l) n = refl
+  predicate_marked p n = refl
 
   -- the same of parts
   pub predicates_marked : (ps : Policies) (n : ℕ) → are_predicates (all_marked_from ps n) ≡ are_predicates ps
@@ -109,15 +88,11 @@ mutual
 mutual
   -- a policy has at most two dups for each element
   pub few_dups : (p : Policy) → dups_of p ≤ 2 * size_of p
-  few_dups (test f v) = omega arith
-  few_dups (range f low high) = omega arith
-  few_dups (assign f v) = omega arith
   few_dups (sum_of ps) = omega (arith, all_few_dups ps)
   few_dups (seq_of ps) = omega (arith, all_few_dups ps)
   few_dups (not_of p) = omega (arith, few_dups p)
   few_dups (star_of p) = omega (arith, few_dups p)
-  few_dups (dup l) = omega arith
-  few_dups (link a m b k l) = omega arith
+  few_dups p = omega arith
 
   -- the same of parts
   pub all_few_dups : (ps : Policies) → dups_of_all ps ≤ 2 * sizes_of ps
@@ -128,15 +103,12 @@ module _ (fields : FieldTable) where
   mutual
     -- numbering changes no field and no value
     pub over_marked : (p : Policy) (n : ℕ) → IsOverFields fields p → IsOverFields fields (marked_from p n)
-    over_marked (test f v) n h = h
-    over_marked (range f low high) n h = h
-    over_marked (assign f v) n h = h
     over_marked (sum_of ps) n h = all_over_marked ps n h
     over_marked (seq_of ps) n h = all_over_marked ps n h
     over_marked (not_of p) n h = over_marked p n h
     over_marked (star_of p) n h = over_marked p n h
     over_marked (dup l) n h = tt
-    over_marked (link a m b k l) n h = h
+    over_marked p n h = h
 
     -- the same of parts
     pub all_over_marked : (ps : Policies) (n : ℕ) → AreOver fields ps → AreOver fields (all_marked_from ps n)
@@ -146,15 +118,12 @@ module _ (fields : FieldTable) where
   mutual
     -- a policy over the fields assigns values in range
     pub over_in_range : (p : Policy) → IsOverFields fields p → IsInRange p fields
-    over_in_range (test f v) h = tt
-    over_in_range (range f low high) h = tt
     over_in_range (assign f v) h = h.1
     over_in_range (sum_of ps) h = all_over_in_range ps h
     over_in_range (seq_of ps) h = all_over_in_range ps h
-    over_in_range (not_of p) h = tt
     over_in_range (star_of p) h = over_in_range p h
-    over_in_range (dup l) h = tt
     over_in_range (link a m b k l) h = (h.2.1, h.3.1)
+    over_in_range p h = tt
 
     -- the same of parts
     pub all_over_in_range : (ps : Policies) → AreOver fields ps → AreInRange ps fields
@@ -164,15 +133,11 @@ module _ (fields : FieldTable) where
 mutual
   -- numbering leaves complements of predicates
   pub negates_marked : (p : Policy) (n : ℕ) → NegatesPredicates p → NegatesPredicates (marked_from p n)
-  negates_marked (test f v) n h = tt
-  negates_marked (range f low high) n h = tt
-  negates_marked (assign f v) n h = tt
   negates_marked (sum_of ps) n h = all_negate_marked ps n h
   negates_marked (seq_of ps) n h = all_negate_marked ps n h
   negates_marked (not_of p) n h = (predicate_marked p n ∙ h.0, negates_marked p n h.1)
   negates_marked (star_of p) n h = negates_marked p n h
-  negates_marked (dup l) n h = tt
-  negates_marked (link a m b k l) n h = tt
+  negates_marked p n h = tt
 
   -- the same of parts
   pub all_negate_marked : (ps : Policies) (n : ℕ) → AllNegatePredicates ps → AllNegatePredicates (all_marked_from ps n)

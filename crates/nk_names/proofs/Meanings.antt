@@ -111,17 +111,13 @@ module _ (fields : FieldTable) (lets : Lets) where
   mutual
     pub negates_meant : All (λ l. NegatesPredicates l.1) lets → (t : Tree) → misplaced_in fields lets t ≡ None → NegatesPredicates (policy_for fields lets t)
     negates_meant known (name_of w) h = named NegatesPredicates lets w.text known tt
-    negates_meant known (test w n) h = tt
-    negates_meant known (range w low high) h = tt
-    negates_meant known (assign w n) h = tt
     negates_meant known (sum_of ts) h = all_negate_meant known ts h
     negates_meant known (seq_of ts) h = all_negate_meant known ts h
     negates_meant known (not_of t line) h =
         let r = none_both _ _ h in
         (of_not (is_predicate (policy_for fields lets t)) (not_wrong _ kind.NotAPredicate line r.0), negates_meant known t r.1)
     negates_meant known (star_of t) h = negates_meant known t h
-    negates_meant known dup h = tt
-    negates_meant known (link a m b n) h = tt
+    negates_meant known t h = tt
 
     -- the same of parts
     pub all_negate_meant : All (λ l. NegatesPredicates l.1) lets → (ts : Trees) → misplaced_among fields lets ts ≡ None → AllNegatePredicates (policies_for fields lets ts)

@@ -16,17 +16,12 @@ module _ (fields : FieldTable) (lets : Lets) where
 
   mutual
     pub none_misplaced : (t : Tree) → is_predicate (policy_for fields lets t) ≡ true → misplaced_in fields lets t ≡ None
-    none_misplaced (name_of w) h = refl
-    none_misplaced (test w n) h = refl
-    none_misplaced (range w low high) h = refl
-    none_misplaced (assign w n) h = refl
     none_misplaced (sum_of ts) h = none_among ts h
     none_misplaced (seq_of ts) h = none_among ts h
     none_misplaced (not_of t line) h =
         none_first (text_fault_if (not (is_predicate (policy_for fields lets t))) kind.NotAPredicate line) (misplaced_in fields lets t) (ap (λ b. text_fault_if (not b) kind.NotAPredicate line) h) (none_misplaced t h)
     none_misplaced (star_of t) h = absurd cc
-    none_misplaced dup h = refl
-    none_misplaced (link a m b n) h = refl
+    none_misplaced t h = refl
 
     -- the same among parts
     pub none_among : (ts : Trees) → are_predicates (policies_for fields lets ts) ≡ true → misplaced_among fields lets ts ≡ None

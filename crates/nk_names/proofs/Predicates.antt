@@ -20,13 +20,10 @@ mutual
   pub no_dups : (p : Policy) → is_predicate p ≡ true → dups_of p ≡ 0
   no_dups (test f n) h = refl
   no_dups (range f low high) h = refl
-  no_dups (assign f n) h = absurd cc
   no_dups (sum_of ps) h = none_have_dups ps h
   no_dups (seq_of ps) h = none_have_dups ps h
   no_dups (not_of p) h = no_dups p h
-  no_dups (star_of p) h = absurd cc
-  no_dups (dup l) h = absurd cc
-  no_dups (link a m b n l) h = absurd cc
+  no_dups p h = absurd cc
 
   -- the same of parts
   pub none_have_dups : (ps : Policies) → are_predicates ps ≡ true → dups_of_all ps ≡ 0

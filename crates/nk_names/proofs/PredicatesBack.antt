@@ -18,15 +18,11 @@ use Rattle.nk_names.proofs.ReadingBack.{pol_within, nests, pol_on, fits, tree_fo
 mutual
   -- the complements in a predicate are over predicates
   negates : (p : Policy) → is_predicate p ≡ true → NegatesPredicates p
-  negates (test f n) h = tt
-  negates (range f low high) h = tt
-  negates (assign f n) h = tt
   negates (sum_of ps) h = all_negate ps h
   negates (seq_of ps) h = all_negate ps h
   negates (not_of p) h = (h, negates p h)
   negates (star_of p) h = absurd cc
-  negates (dup l) h = tt
-  negates (link a m b n l) h = tt
+  negates p h = tt
 
   -- the same of parts
   all_negate : (ps : Policies) → are_predicates ps ≡ true → AllNegatePredicates ps
@@ -38,15 +34,13 @@ mutual
 mutual
   -- a predicate has nothing to number
   unmarked : (p : Policy) (n : ℕ) → is_predicate p ≡ true → marked_from p n ≡ p
-  unmarked (test f v) n h = refl
-  unmarked (range f low high) n h = refl
-  unmarked (assign f v) n h = refl
   unmarked (sum_of ps) n h = ap sum_of (all_unmarked ps n h)
   unmarked (seq_of ps) n h = ap seq_of (all_unmarked ps n h)
   unmarked (not_of p) n h = ap not_of (unmarked p n h)
   unmarked (star_of p) n h = absurd cc
   unmarked (dup l) n h = absurd cc
   unmarked (link a m b k l) n h = absurd cc
+  unmarked p n h = refl
 
   -- the same of parts
   all_unmarked : (ps : Policies) (n : ℕ) → are_predicates ps ≡ true → all_marked_from ps n ≡ ps
@@ -60,15 +54,11 @@ module _ (lines line : ℕ) (fields : FieldTable) where
   mutual
     -- the tree of a policy's text further on is the tree of its text on a later line
     moved : (p : Policy) → tree_moved lines (tree_for line fields p) ≡ tree_for (line + lines) fields p
-    moved (test f v) = refl
-    moved (range f low high) = refl
-    moved (assign f v) = refl
     moved (sum_of ps) = ap tree.sum_of (all_moved ps)
     moved (seq_of ps) = ap tree.seq_of (all_moved ps)
     moved (not_of p) = ap (λ t. tree.not_of t (line + lines)) (moved p)
     moved (star_of p) = ap tree.star_of (moved p)
-    moved (dup l) = refl
-    moved (link a m b n l) = refl
+    moved p = refl
 
     -- the same of parts
     all_moved : (ps : Policies) → trees_moved lines (trees_for line fields ps) ≡ trees_for (line + lines) fields ps

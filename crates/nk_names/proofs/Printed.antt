@@ -116,9 +116,7 @@ in_parentheses p = ap (λ l. codes "(" ++ l) (text_append (lexemes_of_pol p) (Le
 
 term_text : (f : Form) → text_of (lexemes_of_term (term_from f)) ≡ enclosed (is_a_sum f) (form_text f)
 term_text (a_sum p) = in_parentheses p
-term_text (a_seq t) = refl
-term_text (a_star f) = refl
-term_text (an_atom a) = refl
+term_text f = refl
 
 factor_text : (f : Form) → text_of (lexemes_of_factor (factor_from f)) ≡ enclosed (is_a_sum f || is_a_seq f) (form_text f)
 factor_text (a_sum p) = in_parentheses p
@@ -135,55 +133,24 @@ atom_text (an_atom a) = refl
 module _ (line : ℕ) (fields : FieldTable) where
   -- a form is what the policy is
   sum_is : (p : Policy) → is_a_sum (form_of line fields p) ≡ is_sum p
-  sum_is (test f n) = refl
-  sum_is (range f low high) = refl
-  sum_is (assign f n) = refl
   sum_is (sum_of no_part) = refl
-  sum_is (sum_of (part p ps)) = refl
   sum_is (seq_of no_part) = refl
-  sum_is (seq_of (part p ps)) = refl
-  sum_is (not_of p) = refl
-  sum_is (star_of p) = refl
-  sum_is (dup l) = refl
-  sum_is (link a m b n l) = refl
+  sum_is p = refl
 
   seq_is : (p : Policy) → is_a_seq (form_of line fields p) ≡ is_seq p
-  seq_is (test f n) = refl
-  seq_is (range f low high) = refl
-  seq_is (assign f n) = refl
   seq_is (sum_of no_part) = refl
-  seq_is (sum_of (part p ps)) = refl
   seq_is (seq_of no_part) = refl
-  seq_is (seq_of (part p ps)) = refl
-  seq_is (not_of p) = refl
-  seq_is (star_of p) = refl
-  seq_is (dup l) = refl
-  seq_is (link a m b n l) = refl
+  seq_is p = refl
 
   star_is : (p : Policy) → is_a_star (form_of line fields p) ≡ is_star p
-  star_is (test f n) = refl
-  star_is (range f low high) = refl
-  star_is (assign f n) = refl
   star_is (sum_of no_part) = refl
-  star_is (sum_of (part p ps)) = refl
   star_is (seq_of no_part) = refl
-  star_is (seq_of (part p ps)) = refl
-  star_is (not_of p) = refl
-  star_is (star_of p) = refl
-  star_is (dup l) = refl
-  star_is (link a m b n l) = refl
+  star_is p = refl
 
   -- no predicate is a star
   no_star : (p : Policy) → is_predicate p ≡ true → is_star p ≡ false
-  no_star (test f n) h = refl
-  no_star (range f low high) h = refl
-  no_star (assign f n) h = refl
-  no_star (sum_of ps) h = refl
-  no_star (seq_of ps) h = refl
-  no_star (not_of p) h = refl
   no_star (star_of p) h = absurd cc
-  no_star (dup l) h = refl
-  no_star (link a m b n l) h = refl
+  no_star p h = refl
 
   or_false : (b : Bool) → (b || false) ≡ b
   or_false true = refl

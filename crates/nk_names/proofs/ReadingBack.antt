@@ -33,35 +33,25 @@ use Rattle.nk_names.proofs.Printed.{Form, a_sum, a_seq, a_star, an_atom, pol_fro
 -- parentheses open no less
 pub pol_within : (f : Form) → nesting_of_pol (pol_from f) ≤ nesting_of_atom (atom_from f)
 pol_within (a_sum p) = omega arith
-pol_within (a_seq t) = omega arith
-pol_within (a_star f) = omega arith
-pol_within (an_atom a) = omega arith
+pol_within f = omega arith
 
 term_within : (f : Form) → nesting_of_term (term_from f) ≤ nesting_of_atom (atom_from f)
 term_within (a_sum p) = omega arith
-term_within (a_seq t) = omega arith
-term_within (a_star f) = omega arith
-term_within (an_atom a) = omega arith
+term_within f = omega arith
 
 factor_within : (f : Form) → nesting_of_factor (factor_from f) ≤ nesting_of_atom (atom_from f)
 factor_within (a_sum p) = omega arith
-factor_within (a_seq t) = omega arith
-factor_within (a_star f) = omega arith
-factor_within (an_atom a) = omega arith
+factor_within f = omega arith
 
 module _ (line : ℕ) (fields : FieldTable) where
   mutual
     -- with the policy's own parentheses fewer are open than it is deep
     pub nests : (p : Policy) → nesting_of_atom (atom_from (form_of line fields p)) + 1 ≤ depth_of p
-    nests (test f n) = omega arith
-    nests (range f low high) = omega arith
-    nests (assign f n) = omega arith
     nests (sum_of ps) = sum_nests ps
     nests (seq_of ps) = seq_nests ps
     nests (not_of p) = omega (arith, nests p)
     nests (star_of p) = omega (arith, nests p)
-    nests (dup l) = omega arith
-    nests (link a m b n l) = omega arith
+    nests p = omega arith
 
     sum_nests : (ps : Policies) → nesting_of_atom (atom_from (sum_form line fields ps)) + 1 ≤ 1 + depths_of ps
     sum_nests no_part = omega arith
@@ -95,27 +85,19 @@ IsFormOn line (an_atom a) = IsAtomOn line a
 
 pub pol_on : (line : ℕ) (f : Form) → IsFormOn line f → IsPolOn line (pol_from f)
 pol_on line (a_sum p) h = h
-pol_on line (a_seq t) h = h
-pol_on line (a_star f) h = h
-pol_on line (an_atom a) h = h
+pol_on line f h = h
 
 term_on : (line : ℕ) (f : Form) → IsFormOn line f → IsTermOn line (term_from f)
 term_on line (a_sum p) h = h
-term_on line (a_seq t) h = h
-term_on line (a_star f) h = h
-term_on line (an_atom a) h = h
+term_on line f h = h
 
 factor_on : (line : ℕ) (f : Form) → IsFormOn line f → IsFactorOn line (factor_from f)
 factor_on line (a_sum p) h = h
-factor_on line (a_seq t) h = h
-factor_on line (a_star f) h = h
-factor_on line (an_atom a) h = h
+factor_on line f h = h
 
 atom_on : (line : ℕ) (f : Form) → IsFormOn line f → IsAtomOn line (atom_from f)
 atom_on line (a_sum p) h = h
-atom_on line (a_seq t) h = h
-atom_on line (a_star f) h = h
-atom_on line (an_atom a) h = h
+atom_on line f h = h
 
 module _ (line : ℕ) (fields : FieldTable) (writable : IsWritable fields) where
   -- a field's name is one
@@ -187,21 +169,15 @@ form_tree f = pol_tree (pol_from f)
 -- parentheses leave no trace
 term_tree : (f : Form) → tree.seq_from (factors_of (term_from f)) ≡ form_tree f
 term_tree (a_sum p) = refl
-term_tree (a_seq t) = refl
-term_tree (a_star f) = refl
-term_tree (an_atom a) = refl
+term_tree f = refl
 
 tree_of_factor : (f : Form) → factor_tree (factor_from f) ≡ form_tree f
 tree_of_factor (a_sum p) = refl
-tree_of_factor (a_seq t) = refl
-tree_of_factor (a_star f) = refl
-tree_of_factor (an_atom a) = refl
+tree_of_factor f = refl
 
 tree_of_atom : (f : Form) → atom_tree (atom_from f) ≡ form_tree f
 tree_of_atom (a_sum p) = refl
-tree_of_atom (a_seq t) = refl
-tree_of_atom (a_star f) = refl
-tree_of_atom (an_atom a) = refl
+tree_of_atom f = refl
 
 -- trees and further trees after them
 abbrev trees_on : tree.Trees → tree.Trees → tree.Trees
@@ -236,15 +212,11 @@ seq_of_some line fields t p (part q ps) h = refl
 module _ (line : ℕ) (fields : FieldTable) where
   mutual
     pub tree_is : (p : Policy) → HasNoLonePart p → form_tree (form_of line fields p) ≡ tree_for line fields p
-    tree_is (test f n) h = refl
-    tree_is (range f low high) h = refl
-    tree_is (assign f n) h = refl
     tree_is (sum_of ps) h = sum_tree ps h.0 h.1
     tree_is (seq_of ps) h = seq_tree ps h.0 h.1
     tree_is (not_of p) h = ap (λ t. tree.not_of t line) (tree_of_atom (form_of line fields p) ∙ tree_is p h)
     tree_is (star_of p) h = ap tree.star_of (tree_of_atom (form_of line fields p) ∙ tree_is p h)
-    tree_is (dup l) h = refl
-    tree_is (link a m b n l) h = refl
+    tree_is p h = refl
 
     sum_tree : (ps : Policies) → IsNotOne ps → HaveNoLonePart ps → form_tree (sum_form line fields ps) ≡ tree.sum_of (trees_for line fields ps)
     sum_tree no_part some h = refl
@@ -397,9 +369,6 @@ module _ (line : ℕ) (fields : FieldTable) (table : IsFieldTable fields) where
     mutual
       -- each `~` stands over a predicate
       placed : (p : Policy) → IsOverFields fields p → NegatesPredicates p → misplaced_in fields lets (tree_for line fields p) ≡ None
-      placed (test f v) h c = refl
-      placed (range f low high) h c = refl
-      placed (assign f v) h c = refl
       placed (sum_of ps) h c = all_placed ps h c
       placed (seq_of ps) h c = all_placed ps h c
       placed (not_of p) h c =
@@ -407,8 +376,7 @@ module _ (line : ℕ) (fields : FieldTable) (table : IsFieldTable fields) where
           (no_fault (not (is_predicate (policy_for fields lets (tree_for line fields p)))) kind.NotAPredicate line (ap not (same_predicate p h ∙ c.0)))
           (placed p h c.1)
       placed (star_of p) h c = placed p h c
-      placed (dup l) h c = refl
-      placed (link a m b k l) h c = refl
+      placed p h c = refl
 
       -- the same of parts
       all_placed : (ps : Policies) → AreOver fields ps → AllNegatePredicates ps → misplaced_among fields lets (trees_for line fields ps) ≡ None

@@ -20,13 +20,8 @@ HasPort d = ⊤
 -- as the grammar has it
 ports_written : (ws : List Written) → AllByRecursion HasPort (map declared ws)
 ports_written [] = tt
-ports_written (written_field w n ∷ ws) = (tt, ports_written ws)
-ports_written (written_tag w ∷ ws) = (tt, ports_written ws)
 ports_written (written_switch n p ps ∷ ws) = (omega arith, ports_written ws)
-ports_written (written_declared_link a m b n ∷ ws) = (tt, ports_written ws)
-ports_written (written_let line w p ∷ ws) = (tt, ports_written ws)
-ports_written (written_fabric line w p ∷ ws) = (tt, ports_written ws)
-ports_written (written_virtual a m b n w ∷ ws) = (tt, ports_written ws)
+ports_written (w ∷ ws) = (tt, ports_written ws)
 
 -- one more declaration
 one_said : (s t : DeclaredProgram) (d : Declaration) → AreFit s.topo → HasPort d → program_declaring s d ≡ Ok t → AreFit t.topo
@@ -42,9 +37,7 @@ one_said s t (switch n ps) h has e =
 one_said s t (declared_link a m b n) h has e =
     let r = beside_is s (declared_with (declared_part s) (declare.link a m b n)) t e in
     subst (λ x. AreFit x.topo) r.2 (numbers_kept (declared_part s) r.0 (declare.link a m b n) h tt r.1)
-one_said s t (definition w p line) h has e = let r = unless_ok _ _ t e in subst (λ x. AreFit x.topo) r.1 h
-one_said s t (fabric w p line) h has e = let r = unless_ok _ _ t e in subst (λ x. AreFit x.topo) r.1 h
-one_said s t (virtual_link a m b n w) h has e = let r = unless_ok _ _ t e in subst (λ x. AreFit x.topo) r.1 h
+one_said s t d h has e = let r = unless_ok _ _ t e in subst (λ x. AreFit x.topo) r.1 h
 
 pub declares_declarable : DeclaresDeclarable
 declares_declarable ts ds s read said =

@@ -27,9 +27,7 @@ one_said s t (switch n ps) h is e =
 one_said s t (declared_link a m b n) h is e =
     let r = beside_is s (declared_with (declared_part s) (declare.link a m b n)) t e in
     subst (λ x. IsWritable x.fields) r.2 (fields_kept (declared_part s) r.0 (declare.link a m b n) h tt r.1)
-one_said s t (definition w p line) h is e = let r = unless_ok _ _ t e in subst (λ x. IsWritable x.fields) r.1 h
-one_said s t (fabric w p line) h is e = let r = unless_ok _ _ t e in subst (λ x. IsWritable x.fields) r.1 h
-one_said s t (virtual_link a m b n w) h is e = let r = unless_ok _ _ t e in subst (λ x. IsWritable x.fields) r.1 h
+one_said s t d h is e = let r = unless_ok _ _ t e in subst (λ x. IsWritable x.fields) r.1 h
 
 pub declares_writable : DeclaresFields → (text : List ℕ) (ts : List Token) (ds : List Declaration) (s : DeclaredProgram)
     → tokens_of text ≡ Ok ts → file_of ts ≡ Ok ds → program_of ds ≡ Ok s → IsWritable s.fields
