@@ -167,12 +167,8 @@ link_front a m b n k pk u x l r =
 mutual
   -- the numbers of a run so far are numbers of the policy
   pub front_dups : (p : Policy) → Fronts (has_dup p) (RecordsAt p)
-  front_dups (test f n) = λ pk u x l r. absurd r
-  front_dups (range f lo hi) = λ pk u x l r. absurd r
-  front_dups (assign f n) = λ pk u x l r. absurd r
   front_dups (sum_of ps) = some_front_dups ps
   front_dups (seq_of ps) = all_front_dups ps
-  front_dups (not_of p) = λ pk u x l r. absurd r
   front_dups (star_of p) = λ pk u x l r.
       ⊎_elim
       (λ s. absurd s)
@@ -188,6 +184,7 @@ mutual
       r.1
   front_dups (dup k) = dup_front k
   front_dups (link a m b n k) = link_front a m b n k
+  front_dups p = λ pk u x l r. absurd r
 
   -- of a sum
   some_front_dups : (ps : Policies) → Fronts (some_has_dup ps) (SomeRecordsAt ps)
@@ -216,12 +213,8 @@ own_dups k j l h = ⊎_elim (λ s. false_true s) (λ s. false_true s) (choice_du
 mutual
   -- the dups of what is left are dups of the policy
   pub rest_dups : (p : Policy) (k l : ℕ) → has_dup (after p k) l ≡ true → has_dup p l ≡ true
-  rest_dups (test f n) k l h = absurd (false_true h)
-  rest_dups (range f lo hi) k l h = absurd (false_true h)
-  rest_dups (assign f n) k l h = absurd (false_true h)
   rest_dups (sum_of ps) k l h = some_rest_dups ps k l h
   rest_dups (seq_of ps) k l h = all_rest_dups ps k l h
-  rest_dups (not_of p) k l h = absurd (false_true h)
   rest_dups (star_of p) k l h =
       ⊎_elim (λ s. rest_dups p k l s) (λ s. s) (or_cases (has_dup (after p k) l) (has_dup p l) (or_end (has_dup (after p k) l) (has_dup p l) h))
   rest_dups (dup j) k l h = absurd (own_dups j k l h)
@@ -243,6 +236,7 @@ mutual
       (if k == (j + 1) then seq_of (part (after_dup (j + 1) k) no_part) else drop_policy)
       l
       h)
+  rest_dups p k l h = absurd (false_true h)
 
   -- of a sum
   some_rest_dups : (ps : Policies) (k l : ℕ) → has_dup (after_some ps k) l ≡ true

@@ -137,12 +137,8 @@ module _ (Allowed : ℕ → ℕ → Type 0) (P : Packet → Type 0)
   mutual
     -- of a policy
     pub after_assigns : (p : Policy) (k : ℕ) → AssignsOnly Allowed p → AssignsOnly Allowed (after p k)
-    after_assigns (test f n) k q = tt
-    after_assigns (range f lo hi) k q = tt
-    after_assigns (assign f n) k q = tt
     after_assigns (sum_of ps) k q = after_some_assigns ps k q
     after_assigns (seq_of ps) k q = after_all_assigns ps k q
-    after_assigns (not_of p) k q = tt
     after_assigns (star_of p) k q = (after_assigns p k q, (q, tt))
     after_assigns (dup l) k q = dup_assigns (k == l)
     after_assigns (link a m b n l) k q =
@@ -152,6 +148,7 @@ module _ (Allowed : ℕ → ℕ → Type 0) (P : Packet → Type 0)
         (if k == (l + 1) then seq_of (part (after_dup (l + 1) k) no_part) else drop_policy)
         (dup_assigns (k == l), (q.0, (q.1, (tt, tt))))
         (part_assigns (k == (l + 1)) (seq_of (part (after_dup (l + 1) k) no_part)) drop_policy (dup_assigns (k == (l + 1)), tt) tt)
+    after_assigns p k q = tt
 
     -- of a sum
     pub after_some_assigns : (ps : Policies) (k : ℕ) → AllAssignOnly Allowed ps

@@ -17,16 +17,12 @@ use Rattle.nk_policy.proofs.ListParts.{not_none, none_left, none_right}
 mutual
   -- the first dup
   pub holds_first : (p : Policy) (k : Literal) → HoldsLiteral p k → has_dup p k.mark ≡ true
-  holds_first (test f n) k h = absurd h
-  holds_first (range f lo hi) k h = absurd h
-  holds_first (assign f n) k h = absurd h
   holds_first (sum_of ps) k h = some_hold_first ps k h
   holds_first (seq_of ps) k h = some_hold_first ps k h
-  holds_first (not_of p) k h = absurd h
   holds_first (star_of p) k h = holds_first p k h
-  holds_first (dup l) k h = absurd h
   holds_first (link a m b n l) k h =
       subst (λ j. (j == l) || (j == (l + 1)) ≡ true) (sym (ap (λ (i : Literal). i.mark) h)) (or_left (l == l) (l == (l + 1)) (same_number l))
+  holds_first p k h = absurd h
 
   -- the first dup, among parts
   pub some_hold_first : (ps : Policies) (k : Literal) → SomeHoldsLiteral ps k
@@ -41,16 +37,12 @@ mutual
 mutual
   -- the second dup
   pub holds_second : (p : Policy) (k : Literal) → HoldsLiteral p k → has_dup p (k.mark + 1) ≡ true
-  holds_second (test f n) k h = absurd h
-  holds_second (range f lo hi) k h = absurd h
-  holds_second (assign f n) k h = absurd h
   holds_second (sum_of ps) k h = some_hold_second ps k h
   holds_second (seq_of ps) k h = some_hold_second ps k h
-  holds_second (not_of p) k h = absurd h
   holds_second (star_of p) k h = holds_second p k h
-  holds_second (dup l) k h = absurd h
   holds_second (link a m b n l) k h =
       subst (λ j. ((j + 1) == l) || ((j + 1) == (l + 1)) ≡ true) (sym (ap (λ (i : Literal). i.mark) h)) (or_right ((l + 1) == l) ((l + 1) == (l + 1)) (same_number (l + 1)))
+  holds_second p k h = absurd h
 
   -- the second dup, among parts
   pub some_hold_second : (ps : Policies) (k : Literal) → SomeHoldsLiteral ps k
@@ -150,14 +142,9 @@ mutual
   -- of a policy
   pub on_link : (p : Policy) → HasDistinct p → (k : Literal) → HoldsLiteral p k
       → IsOnLink k (after p k.mark)
-  on_link (test f n) d k h = absurd h
-  on_link (range f lo hi) d k h = absurd h
-  on_link (assign f n) d k h = absurd h
   on_link (sum_of ps) d k h = some_on_link ps d k h
   on_link (seq_of ps) d k h = all_on_link ps d k h
-  on_link (not_of p) d k h = absurd h
   on_link (star_of p) d k h = on_link_first k (after p k.mark) (part (star_of p) no_part) (on_link p d k h)
-  on_link (dup l) d k h = absurd h
   on_link (link a m b n l) d k h =
       subst
       (λ (i : Literal). IsOnLink i (after (link a m b n l) i.mark))
@@ -166,6 +153,7 @@ mutual
       (λ c. IsOnLink record { from_switch = a; from_port = m; to_switch = b; to_port = n; mark = l } (if c then seq_of (part (if c then id_policy else drop_policy) (part (assign 0 b) (part (assign 1 n) (part (dup (l + 1)) no_part)))) else (if l == (l + 1) then seq_of (part (if l == (l + 1) then id_policy else drop_policy) no_part) else drop_policy)))
       (sym (same_number l))
       (on_parts a m b n l))
+  on_link p d k h = absurd h
 
   -- of a sum
   pub some_on_link : (ps : Policies) → AllDistinct ps → (k : Literal) → SomeHoldsLiteral ps k
@@ -348,12 +336,8 @@ module _ (Near : Packet → Packet → Type 0) (same : (y : Packet) → Near y y
     near_off_link : (p : Policy) → HasDistinct p → has_leaf is_dup p ≡ false → has_leaf is p ≡ false
         → (k : Literal) → HoldsLiteral p k
         → NearBetween Near (HoldsLiteral p) (after p (k.mark + 1))
-    near_off_link (test f n) i d s k h = absurd h
-    near_off_link (range f lo hi) i d s k h = absurd h
-    near_off_link (assign f n) i d s k h = absurd h
     near_off_link (sum_of ps) i d s k h = some_near_off_link ps i d s k h
     near_off_link (seq_of ps) i d s k h = all_near_off_link ps i d s k h
-    near_off_link (not_of p) i d s k h = absurd h
     near_off_link (star_of p) i d s k h =
         cons_between
         (HoldsLiteral p)
@@ -361,7 +345,6 @@ module _ (Near : Packet → Packet → Type 0) (same : (y : Packet) → Near y y
         (part (star_of p) no_part)
         (near_off_link p i d s k h)
         (cons_between (HoldsLiteral p) (star_of p) no_part (star_between (HoldsLiteral p) p (near_between p d s)) (none_between (HoldsLiteral p)))
-    near_off_link (dup l) i d s k h = absurd h
     near_off_link (link a m b n l) i d s k h =
         subst
         (λ (j : Literal). NearBetween Near (HoldsLiteral (link a m b n l)) (after (link a m b n l) (j.mark + 1)))
@@ -370,6 +353,7 @@ module _ (Near : Packet → Packet → Type 0) (same : (y : Packet) → Near y y
         (λ c. NearBetween Near (HoldsLiteral (link a m b n l)) (if c then seq_of (part (if c then id_policy else drop_policy) (part (assign 0 b) (part (assign 1 n) (part (dup (l + 1)) no_part)))) else (if (l + 1) == (l + 1) then seq_of (part (if (l + 1) == (l + 1) then id_policy else drop_policy) no_part) else drop_policy)))
         (sym (next_number l))
         (second_parts (HoldsLiteral (link a m b n l)) ((l + 1) == (l + 1))))
+    near_off_link p i d s k h = absurd h
 
     -- of a sum
     some_near_off_link : (ps : Policies) → AllDistinct ps → some_has_leaf is_dup ps ≡ false
@@ -448,15 +432,11 @@ off_link p i d s k h =
 mutual
   -- of a policy
   none_passes : (p : Policy) → has_leaf (λ q. false) p ≡ false
-  none_passes (test f n) = refl
-  none_passes (range f lo hi) = refl
-  none_passes (assign f n) = refl
   none_passes (sum_of ps) = none_of_parts ps
   none_passes (seq_of ps) = none_of_parts ps
   none_passes (not_of p) = none_passes p
   none_passes (star_of p) = none_passes p
-  none_passes (dup l) = refl
-  none_passes (link a m b n l) = refl
+  none_passes p = refl
 
   -- of its parts
   none_of_parts : (ps : Policies) → some_has_leaf (λ q. false) ps ≡ false

@@ -11,9 +11,6 @@ mutual
   -- the numbers of a policy that is numbered from n on lie from n on, and there are as many as dups
   pub number_within : (p : Policy) (n l : ℕ) → has_dup (marked_from p n) l ≡ true
       → (n ≤ l) × (l < n + dups_of p)
-  number_within (test f m) n l h = absurd (false_true h)
-  number_within (range f lo hi) n l h = absurd (false_true h)
-  number_within (assign f m) n l h = absurd (false_true h)
   number_within (sum_of ps) n l h = numbers_within ps n l h
   number_within (seq_of ps) n l h = numbers_within ps n l h
   number_within (not_of p) n l h = number_within p n l h
@@ -24,6 +21,7 @@ mutual
       (λ s. let e = same_from l n s in (omega (arith, e), omega (arith, e)))
       (λ s. let e = same_from l (n + 1) s in (omega (arith, e), omega (arith, e)))
       (or_cases (l == n) (l == (n + 1)) h)
+  number_within p n l h = absurd (false_true h)
 
   -- those of its parts do
   pub numbers_within : (ps : Policies) (n l : ℕ) → some_has_dup (all_marked_from ps n) l ≡ true
@@ -38,15 +36,10 @@ mutual
 mutual
   -- they differ
   pub marked_distinct : (p : Policy) (n : ℕ) → HasDistinct (marked_from p n)
-  marked_distinct (test f m) n = tt
-  marked_distinct (range f lo hi) n = tt
-  marked_distinct (assign f m) n = tt
   marked_distinct (sum_of ps) n = all_marked_distinct ps n
   marked_distinct (seq_of ps) n = all_marked_distinct ps n
-  marked_distinct (not_of p) n = tt
   marked_distinct (star_of p) n = marked_distinct p n
-  marked_distinct (dup k) n = tt
-  marked_distinct (link a m b j k) n = tt
+  marked_distinct p n = tt
 
   -- those of its parts do
   pub all_marked_distinct : (ps : Policies) (n : ℕ) → AllDistinct (all_marked_from ps n)

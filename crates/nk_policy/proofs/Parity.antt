@@ -38,9 +38,6 @@ abbrev mutual
 mutual
   -- each dup is below it
   pub dups_below : (p : Policy) (l : ℕ) → has_dup p l ≡ true → l < bound_of p
-  dups_below (test f n) l h = absurd (false_true h)
-  dups_below (range f lo hi) l h = absurd (false_true h)
-  dups_below (assign f n) l h = absurd (false_true h)
   dups_below (sum_of ps) l h = all_dups_below ps l h
   dups_below (seq_of ps) l h = all_dups_below ps l h
   dups_below (not_of p) l h = dups_below p l h
@@ -51,6 +48,7 @@ mutual
       (λ s. let e = same_from l k s in omega (arith, e))
       (λ s. let e = same_from l (k + 1) s in omega (arith, e))
       (or_cases (l == k) (l == (k + 1)) h)
+  dups_below p l h = absurd (false_true h)
 
   -- each dup of the parts is
   pub all_dups_below : (ps : Policies) (l : ℕ) → some_has_dup ps l ≡ true → l < bound_of_all ps

@@ -199,12 +199,8 @@ first_nothing p ps a = record {
 mutual
   -- nothing is left after a dup that the policy hasn't
   nothing_left : (p : Policy) (k : ℕ) → has_dup p k ≡ false → Nothing (after p k)
-  nothing_left (test f n) k h = drop_nothing
-  nothing_left (range f lo hi) k h = drop_nothing
-  nothing_left (assign f n) k h = drop_nothing
   nothing_left (sum_of ps) k h = nothing_of_some ps k h
   nothing_left (seq_of ps) k h = nothing_of_all ps k h
-  nothing_left (not_of p) k h = drop_nothing
   nothing_left (star_of p) k h = first_nothing (after p k) (part (star_of p) no_part) (nothing_left p k h)
   nothing_left (dup j) k h = choose_nothing (k == j) id_policy drop_policy h drop_nothing
   nothing_left (link a m b n j) k h =
@@ -215,6 +211,7 @@ mutual
       (if k == (j + 1) then seq_of (part (after_dup (j + 1) k) no_part) else drop_policy)
       b'.0
       (choose_nothing (k == (j + 1)) (seq_of (part (after_dup (j + 1) k) no_part)) drop_policy b'.1 drop_nothing)
+  nothing_left p k h = drop_nothing
 
   -- of a sum
   nothing_of_some : (ps : Policies) (k : ℕ) → some_has_dup ps k ≡ false → Nothing (after_some ps k)

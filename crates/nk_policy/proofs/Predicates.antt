@@ -12,13 +12,10 @@ module _ {A : Type 0} (mark : ℕ → Packet → A) where
         → (pk : Packet) (w : List A) (y : Packet) → way_of p mark pk w y → (w ≡ []) × (y ≡ pk)
     predicate_keeps (test f n) h pk w y r = (r.1, r.2)
     predicate_keeps (range f lo hi) h pk w y r = (r.2, r.3)
-    predicate_keeps (assign f n) h pk w y r = cc
     predicate_keeps (sum_of ps) h pk w y r = some_predicate_keeps ps h pk w y r
     predicate_keeps (seq_of ps) h pk w y r = predicates_keep ps h pk w y r
     predicate_keeps (not_of p) h pk w y r = r.0
-    predicate_keeps (star_of p) h pk w y r = cc
-    predicate_keeps (dup l) h pk w y r = cc
-    predicate_keeps (link a m b n l) h pk w y r = cc
+    predicate_keeps p h pk w y r = cc
 
     -- a sum of predicates
     pub some_predicate_keeps : (ps : Policies) → are_predicates ps ≡ true

@@ -33,15 +33,11 @@ module _ {A : Type 0} (f : Packet → A) where
   mutual
     -- a policy that is numbered anew
     pub marked_ways : (p : Policy) (n : ℕ) → way_of (marked_from p n) bare ≡ way_of p bare
-    marked_ways (test g m) n = refl
-    marked_ways (range g lo hi) n = refl
-    marked_ways (assign g m) n = refl
     marked_ways (sum_of ps) n = some_marked_ways ps n
     marked_ways (seq_of ps) n = all_marked_ways ps n
     marked_ways (not_of p) n = ap no_way (marked_ways p n)
     marked_ways (star_of p) n = ap star_way (marked_ways p n)
-    marked_ways (dup l) n = refl
-    marked_ways (link a m b k l) n = refl
+    marked_ways p n = refl
 
     -- the parts of a sum
     some_marked_ways : (ps : Policies) (n : ℕ)
@@ -64,15 +60,11 @@ module _ {A : Type 0} (mark : ℕ → Packet → A) where
   mutual
     -- a policy
     pub written_ways : (p : Policy) → way_of (without_links p) mark ≡ way_of p mark
-    written_ways (test g m) = refl
-    written_ways (range g lo hi) = refl
-    written_ways (assign g m) = refl
     written_ways (sum_of ps) = some_written_ways ps
     written_ways (seq_of ps) = all_written_ways ps
     written_ways (not_of p) = ap no_way (written_ways p)
     written_ways (star_of p) = ap star_way (written_ways p)
-    written_ways (dup l) = refl
-    written_ways (link a m b k l) = refl
+    written_ways p = refl
 
     -- the parts of a sum
     some_written_ways : (ps : Policies) → some_way_of (all_without_links ps) mark ≡ some_way_of ps mark
@@ -99,17 +91,12 @@ star_front R F pk u x l = (n : ℕ) × within_either no_dup (rounds n R) F pk u 
 mutual
   -- and the same runs so far
   pub written_records : (p : Policy) → RecordsAt (without_links p) ≡ RecordsAt p
-  written_records (test g m) = refl
-  written_records (range g lo hi) = refl
-  written_records (assign g m) = refl
   written_records (sum_of ps) = some_written_records ps
   written_records (seq_of ps) = all_written_records ps
-  written_records (not_of p) = refl
   written_records (star_of p) =
       ap (λ (R : Way (Packet × ℕ)). star_front R (RecordsAt (without_links p))) (written_ways numbered p)
       ∙ ap (star_front (way_of p numbered)) (written_records p)
-  written_records (dup l) = refl
-  written_records (link a m b k l) = refl
+  written_records p = refl
 
   -- the parts of a sum
   some_written_records : (ps : Policies) → SomeRecordsAt (all_without_links ps) ≡ SomeRecordsAt ps
@@ -134,15 +121,12 @@ or_false false = refl
 mutual
   -- and the same dups
   pub written_dups : (p : Policy) (l : ℕ) → has_dup (without_links p) l ≡ has_dup p l
-  written_dups (test g m) l = refl
-  written_dups (range g lo hi) l = refl
-  written_dups (assign g m) l = refl
   written_dups (sum_of ps) l = all_written_dups ps l
   written_dups (seq_of ps) l = all_written_dups ps l
   written_dups (not_of p) l = written_dups p l
   written_dups (star_of p) l = written_dups p l
-  written_dups (dup k) l = refl
   written_dups (link a m b n k) l = ap (λ c. (l == k) || c) (or_false (l == (k + 1)))
+  written_dups p l = refl
 
   -- of the parts
   all_written_dups : (ps : Policies) (l : ℕ) → some_has_dup (all_without_links ps) l ≡ some_has_dup ps l
@@ -154,15 +138,11 @@ mutual
 mutual
   -- the depth
   pub marked_depth : (p : Policy) (n : ℕ) → depth_of (marked_from p n) ≡ depth_of p
-  marked_depth (test g m) n = refl
-  marked_depth (range g lo hi) n = refl
-  marked_depth (assign g m) n = refl
   marked_depth (sum_of ps) n = ap (λ d. 1 + d) (marked_depths ps n)
   marked_depth (seq_of ps) n = ap (λ d. 1 + d) (marked_depths ps n)
   marked_depth (not_of p) n = ap (λ d. 1 + d) (marked_depth p n)
   marked_depth (star_of p) n = ap (λ d. 1 + d) (marked_depth p n)
-  marked_depth (dup l) n = refl
-  marked_depth (link a m b k l) n = refl
+  marked_depth p n = refl
 
   -- of the parts
   marked_depths : (ps : Policies) (n : ℕ) → depths_of (all_marked_from ps n) ≡ depths_of ps
@@ -174,15 +154,11 @@ mutual
 mutual
   -- the size
   pub marked_size : (p : Policy) (n : ℕ) → size_of (marked_from p n) ≡ size_of p
-  marked_size (test g m) n = refl
-  marked_size (range g lo hi) n = refl
-  marked_size (assign g m) n = refl
   marked_size (sum_of ps) n = ap (λ d. 1 + d) (marked_sizes ps n)
   marked_size (seq_of ps) n = ap (λ d. 1 + d) (marked_sizes ps n)
   marked_size (not_of p) n = ap (λ d. 1 + d) (marked_size p n)
   marked_size (star_of p) n = ap (λ d. 1 + d) (marked_size p n)
-  marked_size (dup l) n = refl
-  marked_size (link a m b k l) n = refl
+  marked_size p n = refl
 
   -- of the parts
   marked_sizes : (ps : Policies) (n : ℕ) → sizes_of (all_marked_from ps n) ≡ sizes_of ps
@@ -194,15 +170,11 @@ mutual
 mutual
   -- how many dups
   pub marked_dups : (p : Policy) (n : ℕ) → dups_of (marked_from p n) ≡ dups_of p
-  marked_dups (test g m) n = refl
-  marked_dups (range g lo hi) n = refl
-  marked_dups (assign g m) n = refl
   marked_dups (sum_of ps) n = all_marked_dups ps n
   marked_dups (seq_of ps) n = all_marked_dups ps n
   marked_dups (not_of p) n = marked_dups p n
   marked_dups (star_of p) n = marked_dups p n
-  marked_dups (dup l) n = refl
-  marked_dups (link a m b k l) n = refl
+  marked_dups p n = refl
 
   -- of the parts
   all_marked_dups : (ps : Policies) (n : ℕ) → dups_of_all (all_marked_from ps n) ≡ dups_of_all ps
@@ -214,15 +186,10 @@ mutual
 mutual
   -- whether it is a predicate
   pub marked_predicate : (p : Policy) (n : ℕ) → is_predicate (marked_from p n) ≡ is_predicate p
-  marked_predicate (test g m) n = refl
-  marked_predicate (range g lo hi) n = refl
-  marked_predicate (assign g m) n = refl
   marked_predicate (sum_of ps) n = marked_predicates ps n
   marked_predicate (seq_of ps) n = marked_predicates ps n
   marked_predicate (not_of p) n = marked_predicate p n
-  marked_predicate (star_of p) n = refl
-  marked_predicate (dup l) n = refl
-  marked_predicate (link a m b k l) n = refl
+  marked_predicate p n = refl
 
   -- of the parts
   marked_predicates : (ps : Policies) (n : ℕ)
@@ -246,15 +213,11 @@ mutual
   -- a policy that is numbered anew has its numbers in a row, in text order
   pub marked_numbers : (p : Policy) (n : ℕ)
       → numbers_of (marked_from p n) ≡ range_with_len n (dups_of p)
-  marked_numbers (test g m) n = refl
-  marked_numbers (range g lo hi) n = refl
-  marked_numbers (assign g m) n = refl
   marked_numbers (sum_of ps) n = all_marked_numbers ps n
   marked_numbers (seq_of ps) n = all_marked_numbers ps n
   marked_numbers (not_of p) n = marked_numbers p n
   marked_numbers (star_of p) n = marked_numbers p n
-  marked_numbers (dup l) n = refl
-  marked_numbers (link a m b k l) n = refl
+  marked_numbers p n = refl
 
   -- its parts have
   all_marked_numbers : (ps : Policies) (n : ℕ)
@@ -268,9 +231,6 @@ mutual
 mutual
   -- a dup's number stands among the numbers
   number_listed : (p : Policy) (l : ℕ) → has_dup p l ≡ true → In (numbers_of p) l
-  number_listed (test g m) l h = absurd (false_true h)
-  number_listed (range g lo hi) l h = absurd (false_true h)
-  number_listed (assign g m) l h = absurd (false_true h)
   number_listed (sum_of ps) l h = number_of_part ps l h
   number_listed (seq_of ps) l h = number_of_part ps l h
   number_listed (not_of p) l h = number_listed p l h
@@ -278,6 +238,7 @@ mutual
   number_listed (dup k) l h = inl (same_from l k h)
   number_listed (link a m b n k) l h =
       ⊎_elim (λ s. inl (same_from l k s)) (λ s. inr (inl (same_from l (k + 1) s))) (or_cases (l == k) (l == (k + 1)) h)
+  number_listed p l h = absurd (false_true h)
 
   -- a part's
   number_of_part : (ps : Policies) (l : ℕ) → some_has_dup ps l ≡ true → In (numbers_of_all ps) l
@@ -291,9 +252,6 @@ mutual
 mutual
   -- a listed number is a dup's
   listed_number : (p : Policy) (l : ℕ) → In (numbers_of p) l → has_dup p l ≡ true
-  listed_number (test g m) l h = absurd h
-  listed_number (range g lo hi) l h = absurd h
-  listed_number (assign g m) l h = absurd h
   listed_number (sum_of ps) l h = part_of_number ps l h
   listed_number (seq_of ps) l h = part_of_number ps l h
   listed_number (not_of p) l h = listed_number p l h
@@ -304,6 +262,7 @@ mutual
       (λ e. or_left (l == k) (l == (k + 1)) (same_test l k e))
       (λ i. ⊎_elim (λ e. or_right (l == k) (l == (k + 1)) (same_test l (k + 1) e)) (λ j. absurd j) i)
       h
+  listed_number p l h = absurd h
 
   -- a part's
   part_of_number : (ps : Policies) (l : ℕ) → In (numbers_of_all ps) l → some_has_dup ps l ≡ true
@@ -324,15 +283,11 @@ numbers_are p l = (
 mutual
   -- to number a policy once more is to number it once
   pub marked_again : (p : Policy) (m n : ℕ) → marked_from (marked_from p m) n ≡ marked_from p n
-  marked_again (test g k) m n = refl
-  marked_again (range g lo hi) m n = refl
-  marked_again (assign g k) m n = refl
   marked_again (sum_of ps) m n = ap sum_of (all_marked_again ps m n)
   marked_again (seq_of ps) m n = ap seq_of (all_marked_again ps m n)
   marked_again (not_of p) m n = ap not_of (marked_again p m n)
   marked_again (star_of p) m n = ap star_of (marked_again p m n)
-  marked_again (dup l) m n = refl
-  marked_again (link a j b k l) m n = refl
+  marked_again p m n = refl
 
   -- its parts
   all_marked_again : (ps : Policies) (m n : ℕ)
@@ -346,15 +301,13 @@ mutual
 mutual
   -- a policy that has no dup stays as it is
   pub dupless_marked : (p : Policy) (n : ℕ) → dups_of p ≡ 0 → marked_from p n ≡ p
-  dupless_marked (test g k) n none = refl
-  dupless_marked (range g lo hi) n none = refl
-  dupless_marked (assign g k) n none = refl
   dupless_marked (sum_of ps) n none = ap sum_of (all_dupless_marked ps n none)
   dupless_marked (seq_of ps) n none = ap seq_of (all_dupless_marked ps n none)
   dupless_marked (not_of p) n none = ap not_of (dupless_marked p n none)
   dupless_marked (star_of p) n none = ap star_of (dupless_marked p n none)
   dupless_marked (dup l) n none = absurd (omega (arith, none))
   dupless_marked (link a j b k l) n none = absurd (omega (arith, none))
+  dupless_marked p n none = refl
 
   -- its parts
   all_dupless_marked : (ps : Policies) (n : ℕ) → dups_of_all ps ≡ 0 → all_marked_from ps n ≡ ps

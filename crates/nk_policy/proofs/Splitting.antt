@@ -80,16 +80,13 @@ link_holds a m b n k pk u x l r =
 mutual
   -- a policy
   pub holds_dup : (p : Policy) → HoldsDup p
-  holds_dup (test f n) pk u x l r = absurd r
-  holds_dup (range f lo hi) pk u x l r = absurd r
-  holds_dup (assign f n) pk u x l r = absurd r
   holds_dup (sum_of ps) pk u x l r = some_hold_dup ps pk u x l r
   holds_dup (seq_of ps) pk u x l r = all_hold_dup ps pk u x l r
-  holds_dup (not_of p) pk u x l r = absurd r
   holds_dup (star_of p) pk u x l r =
       ⊎_elim (λ a. absurd a) (λ b. holds_dup p b.2 b.1 x l b.5) r.1
   holds_dup (dup k) pk u x l r = dup_holds k pk u x l r
   holds_dup (link a m b n k) pk u x l r = link_holds a m b n k pk u x l r
+  holds_dup p pk u x l r = absurd r
 
   -- a sum
   pub some_hold_dup : (ps : Policies) (pk : Packet) (u : Marked) (x : Packet) (l : ℕ)

@@ -21,15 +21,12 @@ module _ (tag : ℕ) (past : 2 ≤ tag) where
     -- a policy that doesn't touch a field assigns others alone
     pub assigns_others : (p : Policy) → has_leaf (is_on_field tag) p ≡ false
         → AssignsOnly (IsOther tag) p
-    assigns_others (test f n) h = tt
-    assigns_others (range f lo hi) h = tt
     assigns_others (assign f n) h = other_field tag f h
     assigns_others (sum_of ps) h = all_assign_others ps h
     assigns_others (seq_of ps) h = all_assign_others ps h
-    assigns_others (not_of p) h = tt
     assigns_others (star_of p) h = assigns_others p h
-    assigns_others (dup l) h = tt
     assigns_others (link a m b n l) h = (λ e. omega (arith, past, e), λ e. omega (arith, past, e))
+    assigns_others p h = tt
 
     -- its parts do
     pub all_assign_others : (ps : Policies) → some_has_leaf (is_on_field tag) ps ≡ false

@@ -9,15 +9,12 @@ module _ (Allowed More : ℕ → ℕ → Type 0) (more : (f n : ℕ) → Allowed
   mutual
     -- the assignments are among the tests and assignments
     pub assigns_from_uses : (p : Policy) → UsesOnly Allowed p → AssignsOnly More p
-    assigns_from_uses (test f n) u = tt
-    assigns_from_uses (range f lo hi) u = tt
     assigns_from_uses (assign f n) u = more f n u
     assigns_from_uses (sum_of ps) u = all_assign_from_uses ps u
     assigns_from_uses (seq_of ps) u = all_assign_from_uses ps u
-    assigns_from_uses (not_of p) u = tt
     assigns_from_uses (star_of p) u = assigns_from_uses p u
-    assigns_from_uses (dup l) u = tt
     assigns_from_uses (link a m b n l) u = (more 0 b u.2, more 1 n u.3)
+    assigns_from_uses p u = tt
 
     -- of the parts
     all_assign_from_uses : (ps : Policies) → AllUseOnly Allowed ps → AllAssignOnly More ps
@@ -28,15 +25,11 @@ module _ (Allowed : ℕ → ℕ → Type 0) where
   mutual
     -- a policy that is numbered anew has the same ones
     pub marked_uses : (p : Policy) (n : ℕ) → UsesOnly Allowed (marked_from p n) ↔ UsesOnly Allowed p
-    marked_uses (test f m) n = (λ u. u, λ u. u)
-    marked_uses (range f lo hi) n = (λ u. u, λ u. u)
-    marked_uses (assign f m) n = (λ u. u, λ u. u)
     marked_uses (sum_of ps) n = all_marked_use ps n
     marked_uses (seq_of ps) n = all_marked_use ps n
     marked_uses (not_of p) n = marked_uses p n
     marked_uses (star_of p) n = marked_uses p n
-    marked_uses (dup l) n = (λ u. u, λ u. u)
-    marked_uses (link a m b k l) n = (λ u. u, λ u. u)
+    marked_uses p n = (λ u. u, λ u. u)
 
     -- of the parts
     all_marked_use : (ps : Policies) (n : ℕ)
@@ -50,18 +43,15 @@ module _ (Allowed : ℕ → ℕ → Type 0) where
   mutual
     -- with its link literals written out too
     pub written_uses : (p : Policy) → UsesOnly Allowed (without_links p) ↔ UsesOnly Allowed p
-    written_uses (test f m) = (λ u. u, λ u. u)
-    written_uses (range f lo hi) = (λ u. u, λ u. u)
-    written_uses (assign f m) = (λ u. u, λ u. u)
     written_uses (sum_of ps) = all_written_use ps
     written_uses (seq_of ps) = all_written_use ps
     written_uses (not_of p) = written_uses p
     written_uses (star_of p) = written_uses p
-    written_uses (dup l) = (λ u. u, λ u. u)
     written_uses (link a m b n l) = (
       λ u. (u.0, u.1.0, u.1.1.1.0, u.1.1.1.1.0),
       λ u. (u.0, (u.1, (tt, (u.2, (u.3, (tt, tt)))))),
     )
+    written_uses p = (λ u. u, λ u. u)
 
     -- of the parts
     all_written_use : (ps : Policies)
@@ -81,12 +71,8 @@ module _ (Allowed : ℕ → ℕ → Type 0) where
   mutual
     -- what is left after a dup has some of them
     pub rest_uses : (p : Policy) (k : ℕ) → UsesOnly Allowed p → UsesOnly Allowed (after p k)
-    rest_uses (test f n) k u = tt
-    rest_uses (range f lo hi) k u = tt
-    rest_uses (assign f n) k u = tt
     rest_uses (sum_of ps) k u = some_rest_uses ps k u
     rest_uses (seq_of ps) k u = all_rest_uses ps k u
-    rest_uses (not_of p) k u = tt
     rest_uses (star_of p) k u = (rest_uses p k u, (u, tt))
     rest_uses (dup l) k u = choice_uses (k == l) id_policy drop_policy tt tt
     rest_uses (link a m b n l) k u =
@@ -101,6 +87,7 @@ module _ (Allowed : ℕ → ℕ → Type 0) where
         drop_policy
         (choice_uses (k == (l + 1)) id_policy drop_policy tt tt, tt)
         tt)
+    rest_uses p k u = tt
 
     -- of a sum
     some_rest_uses : (ps : Policies) (k : ℕ) → AllUseOnly Allowed ps
