@@ -5,7 +5,7 @@ use Rattle.std.specs.List.{list_any}
 use Rattle.nk_field.specs.declared.packet.Packet.{Packet}
 use Rattle.nk_field.proofs.Lists.{In, contains_from_in}
 use Rattle.nk_topo.specs.Topology.{Topology, Link, AreLinks, link_from}
-use Rattle.nk_policy.specs.Policy.{Policy, Policies, test, range, assign, sum_of, seq_of, not_of, star_of, dup, link, no_part, part}
+use Rattle.nk_policy.specs.Policy.{Policy, Policies, sum_of, seq_of, star_of, link, no_part, part}
 use Rattle.nk_policy.specs.Leaves.{has_leaf, some_has_leaf}
 use Rattle.nk_policy.specs.Literals.{Literal, HoldsLiteral, SomeHoldsLiteral, IsAtSource}
 use Rattle.nk_policy.proofs.Tests.{both_false, both_true, or_cases, same_from}

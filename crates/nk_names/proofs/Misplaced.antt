@@ -5,7 +5,7 @@ use Rattle.nk_lex.specs.Faults.{first_of}
 use Rattle.nk_field.specs.Packet.{FieldTable}
 use Rattle.nk_policy.specs.Policy.{is_predicate, are_predicates}
 use Rattle.nk_policy.proofs.Tests.{both_true}
-use Rattle.nk_grammar.specs.Tree.{Tree, Trees, name_of, test, range, assign, sum_of, seq_of, not_of, star_of, dup, link, no_part, part}
+use Rattle.nk_grammar.specs.Tree.{Tree, Trees, sum_of, seq_of, not_of, star_of, no_part, part}
 use Rattle.nk_names.specs.declared.fault.FaultKind.TheVariants as kind
 use Rattle.nk_names.specs.Meant.{Lets, MaybeTextFault, text_fault_if, policy_for, policies_for, misplaced_in, misplaced_among}
 

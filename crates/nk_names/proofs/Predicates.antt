@@ -1,7 +1,7 @@
 -- What the checks of a row's predicate leave known.
 use Rattle.std.proofs.Common.{◌≡◌, ℕ, ◌<◌, ◌≤◌, true, None, List, [], refl, sym, ap, subst, ◌∙◌, arith}
 use Rattle.nk_field.specs.Packet.{FieldTable, IsFieldTable}
-use Rattle.nk_policy.specs.Policy.{Policy, Policies, test, range, assign, sum_of, seq_of, not_of, star_of, dup, link, no_part, part, depth_of, dups_of, dups_of_all, is_predicate, are_predicates, marked_from}
+use Rattle.nk_policy.specs.Policy.{Policy, Policies, test, range, sum_of, seq_of, not_of, no_part, part, depth_of, dups_of, dups_of_all, is_predicate, are_predicates, marked_from}
 use Rattle.nk_policy.proofs.Tests.{both_true}
 use Rattle.nk_policy.proofs.Remade.{marked_predicate}
 use Rattle.nk_grammar.specs.Tree.{Tree}

@@ -3,7 +3,7 @@ use Rattle.std.proofs.Common.{◌≡◌, ◌+◌, ℕ, true, [], None, not, refl
 use Rattle.std.specs.Prelude.{nat_lt, Ok}
 use Rattle.nk_lex.specs.Faults.{unless}
 use Rattle.nk_field.specs.Packet.{FieldTable}
-use Rattle.nk_policy.specs.Policy.{Policy, Policies, test, range, assign, sum_of, seq_of, not_of, star_of, dup, link, no_part, part, depth_of, dups_of, is_predicate, are_predicates, marked_from, all_marked_from}
+use Rattle.nk_policy.specs.Policy.{Policy, Policies, sum_of, seq_of, not_of, star_of, dup, link, no_part, part, depth_of, dups_of, is_predicate, are_predicates, marked_from, all_marked_from}
 use Rattle.nk_policy.proofs.Tests.{both_true}
 use Rattle.nk_grammar.specs.Tree as tree
 use Rattle.nk_grammar.specs.Moved.{tree_moved, trees_moved}

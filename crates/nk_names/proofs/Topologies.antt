@@ -5,7 +5,7 @@ use Rattle.std.specs.List.{AllByRecursion}
 use Rattle.nk_declare.specs.Declarations.{declared_with}
 use Rattle.nk_declare.specs.Declarations as declare
 use Rattle.nk_declare.proofs.Kept.{unless_ok, AreFit, fit_declarable, numbers_kept}
-use Rattle.nk_grammar.specs.File.{Declaration, field, tag, switch, declared_link, definition, fabric, virtual_link, Written, written_field, written_tag, written_switch, written_declared_link, written_let, written_fabric, written_virtual, declared}
+use Rattle.nk_grammar.specs.File.{Declaration, field, tag, switch, declared_link, Written, written_switch, declared}
 use Rattle.nk_grammar.specs.Answer.{IsParse}
 use Rattle.nk_grammar.proofs.Answering.{answers}
 use Rattle.nk_names.specs.ProgramOf.{DeclaredProgram, empty_program, declared_part, program_declaring}

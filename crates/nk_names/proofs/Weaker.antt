@@ -1,6 +1,6 @@
 -- What a policy assigns, under a weaker condition.
 use Rattle.std.proofs.Common.{ℕ}
-use Rattle.nk_policy.specs.Policy.{Policy, Policies, test, range, assign, sum_of, seq_of, not_of, star_of, dup, link, no_part, part}
+use Rattle.nk_policy.specs.Policy.{Policy, Policies, assign, sum_of, seq_of, star_of, link, no_part, part}
 use Rattle.nk_policy.specs.Ranges.{AssignsOnly, AllAssignOnly}
 
 mutual

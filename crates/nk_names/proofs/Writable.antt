@@ -7,7 +7,7 @@ use Rattle.nk_declare.specs.Declarations.{declared_with}
 use Rattle.nk_declare.specs.Declarations as declare
 use Rattle.nk_declare.proofs.Kept.{unless_ok, built_in_writable, fields_kept}
 use Rattle.nk_grammar.specs.Fields.{IsFieldOfText, DeclaresFields}
-use Rattle.nk_grammar.specs.File.{Declaration, field, tag, switch, declared_link, definition, fabric, virtual_link}
+use Rattle.nk_grammar.specs.File.{Declaration, field, tag, switch, declared_link}
 use Rattle.nk_grammar.specs.FileMachine.{file_of}
 use Rattle.nk_names.specs.ProgramOf.{DeclaredProgram, empty_program, declared_part, program_declaring, program_of}
 use Rattle.nk_names.specs.ReadBack.{IsWritable}
