@@ -1,7 +1,7 @@
 -- Dups numbered in text order have different numbers, from the first one on.
 use Rattle.std.proofs.Common.{◌≡◌, ℕ, ◌+◌, ◌<◌, ◌≤◌, true, ⊎_elim, ap, subst, ◌∙◌, arith}
 use Rattle.std.specs.Prelude.{◌==◌}
-use Rattle.nk_policy.specs.Policy.{Policy, Policies, test, range, assign, sum_of, seq_of, not_of, star_of, dup, link, no_part, part, dups_of, dups_of_all, marked_from, all_marked_from}
+use Rattle.nk_policy.specs.Policy.{Policy, Policies, sum_of, seq_of, not_of, star_of, dup, link, no_part, part, dups_of, dups_of_all, marked_from, all_marked_from}
 use Rattle.nk_policy.specs.After.{has_dup, some_has_dup}
 use Rattle.nk_policy.specs.Distinct.{HasDistinct, AllDistinct}
 use Rattle.nk_policy.specs.PositionSets.{IsNumbered, AreSides}

@@ -4,7 +4,7 @@ use Rattle.std.specs.Prelude.{◌==◌, if◌then◌else◌, ◌↔◌, Contains
 use Rattle.nk_field.specs.declared.packet.Packet.{Packet}
 use Rattle.nk_field.proofs.Lists.{in_from_contains, contains_from_in}
 use Rattle.nk_field.proofs.Ascending.{rising_from, increasing_from, one_list}
-use Rattle.nk_policy.specs.Policy.{Policy, Policies, test, range, assign, sum_of, seq_of, not_of, star_of, dup, link, no_part, part}
+use Rattle.nk_policy.specs.Policy.{Policy, Policies, assign, sum_of, seq_of, star_of, dup, link, no_part, part}
 use Rattle.nk_policy.specs.Meaning.{Gives, way_of}
 use Rattle.nk_policy.specs.Progress.{numbered, RecordsAt}
 use Rattle.nk_policy.specs.After.{id_policy, drop_policy, has_dup, some_has_dup, after_dup, after, after_some, after_all}

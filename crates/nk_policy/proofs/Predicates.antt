@@ -1,7 +1,7 @@
 -- A predicate keeps the packet and records nothing.
 use Rattle.std.proofs.Common.{◌≡◌, ℕ, true, ⊎_elim, List, [], ◌++◌, ap, ◌∙◌}
 use Rattle.nk_field.specs.declared.packet.Packet.{Packet}
-use Rattle.nk_policy.specs.Policy.{Policy, Policies, test, range, assign, sum_of, seq_of, not_of, star_of, dup, link, no_part, part, is_predicate, are_predicates}
+use Rattle.nk_policy.specs.Policy.{Policy, Policies, test, range, sum_of, seq_of, not_of, no_part, part, is_predicate, are_predicates}
 use Rattle.nk_policy.specs.Meaning.{way_of, some_way_of, way_of_all}
 use Rattle.nk_policy.proofs.Tests.{both_true}
 

@@ -4,7 +4,7 @@ use Rattle.std.specs.Prelude.{◌==◌, ◌||◌, ◌&&◌, ◌↔◌, Contains}
 use Rattle.std.specs.List.{range_with_len}
 use Rattle.nk_field.specs.declared.packet.Packet.{Packet}
 use Rattle.nk_field.proofs.Lists.{In, in_left, in_right, in_either, in_from_contains, contains_from_in}
-use Rattle.nk_policy.specs.Policy.{Policy, Policies, test, range, assign, sum_of, seq_of, not_of, star_of, dup, link, no_part, part, depth_of, depths_of, size_of, sizes_of, dups_of, dups_of_all, numbers_of, numbers_of_all, is_predicate, are_predicates, marked_from, all_marked_from, without_links, all_without_links}
+use Rattle.nk_policy.specs.Policy.{Policy, Policies, sum_of, seq_of, not_of, star_of, dup, link, no_part, part, depth_of, depths_of, size_of, sizes_of, dups_of, dups_of_all, numbers_of, numbers_of_all, is_predicate, are_predicates, marked_from, all_marked_from, without_links, all_without_links}
 use Rattle.nk_policy.specs.Meaning.{Way, keep, followed_by, rounds, way_of, some_way_of, way_of_all}
 use Rattle.nk_policy.specs.Progress.{Front, numbered, no_dup, within_either, RecordsAt, SomeRecordsAt, AllRecordAt}
 use Rattle.nk_policy.specs.After.{has_dup, some_has_dup}

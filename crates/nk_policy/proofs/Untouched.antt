@@ -3,7 +3,7 @@ use Rattle.std.proofs.Common.{◌≡◌, ◌≢◌, ℕ, ◌≤◌, false, ap, �
 use Rattle.std.specs.Prelude.{◌==◌, slice_set}
 use Rattle.std.proofs.lemmas.List.{set_comm}
 use Rattle.nk_field.specs.declared.packet.Packet.{Packet}
-use Rattle.nk_policy.specs.Policy.{Policy, Policies, test, range, assign, sum_of, seq_of, not_of, star_of, dup, link, no_part, part}
+use Rattle.nk_policy.specs.Policy.{Policy, Policies, assign, sum_of, seq_of, star_of, link, no_part, part}
 use Rattle.nk_policy.specs.Leaves.{has_leaf, some_has_leaf, is_on_field}
 use Rattle.nk_policy.specs.Ranges.{AssignsOnly, AllAssignOnly}
 use Rattle.nk_policy.proofs.Tests.{both_false}

@@ -1,7 +1,7 @@
 -- The tests and assignments of a policy: those of policies made from it are among them.
 use Rattle.std.proofs.Common.{ℕ, ◌+◌, Bool, true, false}
 use Rattle.std.specs.Prelude.{◌==◌, ◌↔◌, if◌then◌else◌}
-use Rattle.nk_policy.specs.Policy.{Policy, Policies, test, range, assign, sum_of, seq_of, not_of, star_of, dup, link, no_part, part, dups_of, marked_from, all_marked_from, without_links, all_without_links}
+use Rattle.nk_policy.specs.Policy.{Policy, Policies, assign, sum_of, seq_of, not_of, star_of, dup, link, no_part, part, dups_of, marked_from, all_marked_from, without_links, all_without_links}
 use Rattle.nk_policy.specs.After.{id_policy, drop_policy, has_dup, after_dup, after, after_some, after_all}
 use Rattle.nk_policy.specs.Ranges.{AssignsOnly, AllAssignOnly, UsesOnly, AllUseOnly}
 
