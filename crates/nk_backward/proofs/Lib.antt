@@ -9,3 +9,5 @@ pub mod Taking
 pub mod Missing
 pub mod Sided
 pub mod Starting
+pub mod Placing
+pub mod Sweeping

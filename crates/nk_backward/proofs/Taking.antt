@@ -11,7 +11,7 @@ use Rattle.nk_determ.specs.Pairs.{Under, Once}
 use Rattle.nk_outs.specs.declared.outs.Given.{Given}
 use Rattle.nk_outs.specs.Outs.{entry, AreGiven}
 use Rattle.nk_goal.specs.Entries.{HaveSets, IsMerged}
-use Rattle.nk_outs.proofs.Kept.{Has, packet_on, packet_back, has_on, has_back}
+use Rattle.nk_outs.proofs.Kept.{Has, packet_on, has_on, has_back}
 use Rattle.nk_goal.proofs.Growing.{under_on, under_back}
 use Rattle.nk_goal.proofs.Adding.{under_append, under_left, under_right, each_append}
 use Rattle.nk_steps.proofs.Locals.{acts_in_range}
@@ -242,29 +242,12 @@ part_last a st ts goal back given was = record {
       | inr here ↦ here
     ]
 
--- nothing leads to a goal of no entries
-pub closure_none : (st : StoreState) (ts : List Transitions) → IsClosure st ts [] st []
-closure_none st ts = record {
-  sound = λ i z w u. absurd u;
-  full = full;
-  packets = tt;
-  once = tt;
-}
-  where
-    full : (n i : ℕ) (z : List ℕ) → IsStorePacket st z → LeadsInto st ts (Under st []) n i z → Under st [] i z
-    full zero i z w l = l
-    full (suc n) i z w l = absurd (none n l.0 l.1 l.3)
-      where
-        none : (n i : ℕ) (z : List ℕ) → LeadsInto st ts (Under st []) n i z → ⊥
-        none zero i z l = l
-        none (suc n) i z l = none n l.0 l.1 l.3
-
--- the first frontier: all entries, each set once
-pub frontier_of : (st s1 : StoreState) (goal back : List (ℕ × ℕ)) → Grows st s1 → HaveSets st goal → IsMerged st [] goal s1 back → IsWholeFrontier s1 goal back
-frontier_of st s1 goal back g sets m = record {
-  packets = sets_on st s1 goal g sets;
-  inside = λ i z w u. m.more i z (packet_back st s1 z g w) (under_back st s1 goal i z g sets u);
-  whole = λ i z w u. elim (m.either i z (packet_back st s1 z g w) u) [ inl none ↦ absurd none | inr there ↦ under_on st s1 goal i z g sets there ];
+-- a frontier that has all entries
+pub frontier_all : (st : StoreState) (back : List (ℕ × ℕ)) → HaveSets st back → IsWholeFrontier st back back
+frontier_all st back sets = record {
+  packets = sets;
+  inside = λ i z w u. u;
+  whole = λ i z w u. u;
 }
 
 -- the closure of entries with the same packets, in a store before, is the goal's

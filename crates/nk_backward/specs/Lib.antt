@@ -1,4 +1,6 @@
 pub mod Transitions
 pub mod Predecessors
+pub mod Places
 pub mod Closures
+pub mod Sweeps
 pub mod Starts

@@ -13,6 +13,7 @@ ghost use Rattle.nk_backward.specs.Closures.{IsTakenOut, IsTakenBelow, LeadsToSe
 use crate::predecessors::{
     Predecessors, in_order, outs_into, place_of, predecessors_of, run_of_set, set_at,
 };
+use crate::sweeps::sweep_some;
 use crate::transitions::Transitions;
 use indexmap::IndexMap;
 use nk_apply::{both, union_all};
@@ -25,7 +26,8 @@ use nk_store::{Id, Store};
 use std::alloc::{AllocError, Global};
 
 /// Entries with all packets from where transitions lead into the given ones, in any number: the least fixed point of preimages.
-/// The transitions into each set are made once, when they are first needed. The only error is that memory ran out.
+/// Where a few sweeps don't find it, the transitions into each set are made, once, and the entries are taken back along them. The
+/// only error is that memory ran out.
 pub(crate) fn close_back(
     st: &mut Store,
     ts: &List<Transitions>,
@@ -39,36 +41,87 @@ pub(crate) fn close_back(
     ensures ok { IfOk result (λ back. IsClosure st.old ts.now goal st.new back) }
     ensures pre { OnOk result (IfSome pre.new (λ p. ArePredecessors st.new ts.now p.places p.into.entries)) }
 {
-    if goal.len() == 0 {
-        return Ok(Entries::new(IndexMap::new(st.alloc())));
-    }
-    if let Some(known) = &*pre {
-        let back = close_by(st, ts, known, goal)?;
-        return Ok(back);
-    }
-    let made = predecessors_of(st, ts)?;
-    let back = close_by(st, ts, &made, goal)?;
-    *pre = Some(made);
-    Ok(back)
+    let mut back = IndexMap::new(st.alloc());
+    add_level(st, &mut back, &goal)?;
+    close_all(st, ts, pre, &mut back)?;
+    Ok(Entries::new(back))
 }
 
-/// The same by the transitions into each set.
+/// Adds all packets from where transitions lead into the entries.
+fn close_all(
+    st: &mut Store,
+    ts: &List<Transitions>,
+    pre: &mut Option<Predecessors>,
+    back: &mut IndexMap<SetId, Id>,
+) -> Result<(), AllocError>
+    requires given { AreAllGiven st.old ts.now }
+    requires pre { IfSome pre.old (λ p. ArePredecessors st.old ts.now p.places p.into.entries) }
+    requires back { HaveSets st.old back.old.entries }
+    requires once { Once back.old.entries }
+    ensures grows { Grows st.old st.new }
+    ensures ok { OnOk result (IsClosure st.old ts.now back.old.entries st.new back.new.entries) }
+    ensures pre { OnOk result (IfSome pre.new (λ p. ArePredecessors st.new ts.now p.places p.into.entries)) }
+{
+    let closed = sweep_some(st, ts, back)?;
+    if closed {
+        return Ok(());
+    }
+    close_rest(st, ts, pre, back)?;
+    Ok(())
+}
+
+/// The same by the transitions into each set, which are made when they are first needed.
+fn close_rest(
+    st: &mut Store,
+    ts: &List<Transitions>,
+    pre: &mut Option<Predecessors>,
+    back: &mut IndexMap<SetId, Id>,
+) -> Result<(), AllocError>
+    requires given { AreAllGiven st.old ts.now }
+    requires pre { IfSome pre.old (λ p. ArePredecessors st.old ts.now p.places p.into.entries) }
+    requires back { HaveSets st.old back.old.entries }
+    requires once { Once back.old.entries }
+    ensures grows { Grows st.old st.new }
+    ensures ok { OnOk result (IsClosure st.old ts.now back.old.entries st.new back.new.entries) }
+    ensures pre { OnOk result (IfSome pre.new (λ p. ArePredecessors st.new ts.now p.places p.into.entries)) }
+{
+    if let Some(known) = &*pre {
+        close_by(st, ts, known, back)?;
+        return Ok(());
+    }
+    let made = predecessors_of(st, ts)?;
+    close_by(st, ts, &made, back)?;
+    *pre = Some(made);
+    Ok(())
+}
+
+/// The same by the transitions into each set as they were made.
 fn close_by(
     st: &mut Store,
     ts: &List<Transitions>,
     pre: &Predecessors,
-    goal: List<(SetId, Id)>,
-) -> Result<Entries, AllocError>
+    back: &mut IndexMap<SetId, Id>,
+) -> Result<(), AllocError>
     requires given { AreAllGiven st.old ts.now }
     requires pre { ArePredecessors st.old ts.now pre.now.places pre.now.into.entries }
-    requires goal { HaveSets st.old goal }
+    requires back { HaveSets st.old back.old.entries }
+    requires once { Once back.old.entries }
     ensures grows { Grows st.old st.new }
-    ensures ok { IfOk result (λ back. IsClosure st.old ts.now goal st.new back) }
+    ensures ok { OnOk result (IsClosure st.old ts.now back.old.entries st.new back.new.entries) }
 {
-    let mut back = IndexMap::new(st.alloc());
-    add_level(st, &mut back, &goal)?;
-    take_all_back(st, ts, pre, goal, &mut back)?;
-    Ok(Entries::new(back))
+    let all = entries_of(st.alloc(), back)?;
+    take_all_back(st, ts, pre, all, back)
+}
+
+/// The entries as a list.
+fn entries_of(alloc: Global, pairs: &IndexMap<SetId, Id>) -> Result<List<(SetId, Id)>, AllocError>
+    ensures { IfOk result (λ ps. ps ≡ pairs.now.entries) }
+{
+    let mut all = List::new(alloc);
+    for (s, x) in pairs.iter() {
+        all.push((*s, *x))?;
+    }
+    Ok(all)
 }
 
 /// Adds all packets from where transitions lead into the entries. The frontier has what is not yet taken back, at first all of
@@ -210,7 +263,7 @@ fn take_out(
 }
 
 /// The packets that a transition leads to some of these.
-fn led_to(st: &mut Store, o: &Given, x: Id) -> Result<Id, AllocError>
+pub(crate) fn led_to(st: &mut Store, o: &Given, x: Id) -> Result<Id, AllocError>
     requires from { IsSet st.old o.now.packets }
     requires to { IsSet st.old x }
     ensures grows { Grows st.old st.new }
@@ -223,7 +276,7 @@ fn led_to(st: &mut Store, o: &Given, x: Id) -> Result<Id, AllocError>
 
 /// Adds those of the found packets that don't stand under their sets yet. Those of one set that stand next to each other go in at
 /// once.
-fn put_all_new(
+pub(crate) fn put_all_new(
     st: &mut Store,
     found: &[(SetId, Id)],
     back: &mut IndexMap<SetId, Id>,

@@ -5,8 +5,10 @@
 mod closure;
 mod entries;
 mod exploring;
+mod postorder;
 mod predecessors;
 mod starts;
+mod sweeps;
 mod transitions;
 mod violations;
 

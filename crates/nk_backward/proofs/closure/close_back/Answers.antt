@@ -1,26 +1,19 @@
-use Rattle.std.proofs.Common.{◌≡◌, ◌∙◌, [], sym, subst}
+use Rattle.std.proofs.Common.{sym, subst}
+use Rattle.nk_goal.specs.Entries.{IsMerged}
 use Rattle.nk_backward.specs.Closures.{IsClosure}
-use Rattle.nk_backward.proofs.Listing.{empty_list}
 use Rattle.nk_backward.proofs.Tracing.{all_given_on}
-use Rattle.nk_backward.proofs.Gaining.{sets_on}
-use Rattle.nk_backward.proofs.Preceding.{predecessors_on, known_on}
-use Rattle.nk_backward.proofs.Taking.{closure_none, closure_before}
+use Rattle.nk_backward.proofs.Preceding.{known_on}
+use Rattle.nk_backward.proofs.Taking.{closure_from}
 use Rattle.nk_backward.proofs.closure.close_back.Goals as goal
 
-pub returns-then-len-eq0-clause-ok : goal.returns-then-len-eq0-clause-ok
-returns-then-len-eq0-clause-ok c =
-    let none : c.args.goal ≡ [] = empty_list c.args.goal (sym c.len.ensures ∙ c.if-len-eq0.true) in
-    subst (λ ps. IsClosure c.args.st.now c.args.ts.now ps c.args.st.now c.new-then-len-eq0.result) (sym none) (subst (λ ps. IsClosure c.args.st.now c.args.ts.now [] c.args.st.now ps) (sym (c.new-then-len-eq0.ensures ∙ c.new.ensures.empty)) (closure_none c.args.st.now c.args.ts.now))
+pub close_all-requires-clause-given : goal.close_all-requires-clause-given
+close_all-requires-clause-given c = all_given_on c.args.st.now c.add_level.new.st c.args.ts.now c.add_level.ensures.grows c.requires.given
 
-pub returns-in-Some-clause-pre : goal.returns-in-Some-clause-pre
-returns-in-Some-clause-pre c = known_on c.args.st.now c.close_by.new.st c.args.ts.now c.args.pre.now c.close_by.ensures.grows c.requires.given c.requires.pre
-
-pub close_by-requires-2-clause-goal : goal.close_by-requires-2-clause-goal
-close_by-requires-2-clause-goal c = sets_on c.args.st.now c.predecessors_of.new.st c.args.goal c.predecessors_of.ensures.grows c.requires.goal
+pub close_all-requires-clause-pre : goal.close_all-requires-clause-pre
+close_all-requires-clause-pre c = known_on c.args.st.now c.add_level.new.st c.args.ts.now c.args.pre.now c.add_level.ensures.grows c.requires.given c.requires.pre
 
 pub returns-clause-ok : goal.returns-clause-ok
-returns-clause-ok c = closure_before c.args.st.now c.predecessors_of.new.st c.close_by-2.new.st c.args.ts.now c.args.goal c.in_ok-back-2.back c.predecessors_of.ensures.grows c.requires.given c.requires.goal c.in_ok-back-2.ensures.ok
-
-pub returns-clause-pre : goal.returns-clause-pre
-returns-clause-pre c =
-    predecessors_on c.predecessors_of.new.st c.close_by-2.new.st c.args.ts.now c.in_ok-made.made.places c.in_ok-made.made.into.entries c.close_by-2.ensures.grows (all_given_on c.args.st.now c.predecessors_of.new.st c.args.ts.now c.predecessors_of.ensures.grows c.requires.given) c.in_ok-made.ensures.ok
+returns-clause-ok c =
+    subst (λ ps. IsClosure c.args.st.now c.args.ts.now c.args.goal c.close_all.new.st ps) (sym c.new.ensures)
+    (closure_from c.args.st.now c.add_level.new.st c.close_all.new.st c.args.ts.now c.args.goal c.add_level.new.met.entries c.close_all.new.back.entries c.add_level.ensures.grows c.requires.given
+    (subst (λ ps. IsMerged c.args.st.now ps c.args.goal c.add_level.new.st c.add_level.new.met.entries) c.new-back.ensures.empty c.in_ok-add_level.ensures.ok) c.in_ok-close_all.ensures.ok)

@@ -1,0 +1,148 @@
+//! Entries taken back along all transitions in turn, some times over.
+ghost use Rattle.std.specs.Prelude.{◌≡◌, ◌&&◌, [], true, IfOk, OnOk, length};
+ghost use Rattle.nk_store.specs.StoreState.{Grows};
+ghost use Rattle.nk_sets.specs.PacketSets.{IsSet};
+ghost use Rattle.nk_determ.specs.Pairs.{Once};
+ghost use Rattle.nk_outs.specs.Outs.{AreGiven};
+ghost use Rattle.nk_goal.specs.Entries.{HaveSets};
+ghost use Rattle.nk_backward.specs.Transitions.{AreAllGiven};
+ghost use Rattle.nk_backward.specs.Places.{AreAllPlaces};
+ghost use Rattle.nk_backward.specs.Closures.{AreFound};
+ghost use Rattle.nk_backward.specs.Sweeps.{IsLedOut, IsLedBy, IsTakenBack, IsSwept};
+
+use crate::closure::{led_to, put_all_new};
+use crate::postorder::{Rank, in_postorder};
+use crate::transitions::Transitions;
+use indexmap::IndexMap;
+use nk_determ::SetId;
+use nk_field::List;
+use nk_goal::under;
+use nk_outs::Given;
+use nk_store::{Id, Store};
+use std::alloc::AllocError;
+
+/// How often all transitions are swept at most.
+const SWEEPS: usize = 4;
+
+/// Adds packets from where transitions lead into the entries, by a few sweeps in post-order, and answers whether none is missing
+/// then. The only error is that memory ran out.
+pub(crate) fn sweep_some(
+    st: &mut Store,
+    ts: &List<Transitions>,
+    back: &mut IndexMap<SetId, Id>,
+) -> Result<bool, AllocError>
+    requires given { AreAllGiven st.old ts.now }
+    requires back { HaveSets st.old back.old.entries }
+    requires once { Once back.old.entries }
+    ensures grows { Grows st.old st.new }
+    ensures ok { IfOk result (λ closed. IsSwept st.old ts.now back.old.entries st.new back.new.entries closed) }
+{
+    let order = in_postorder(st.alloc(), ts)?;
+    'sweeps: for _ in 0..SWEEPS {
+        let closed = sweep(st, ts, &order, back)?;
+        if closed {
+            return Ok(true);
+        }
+    }
+    Ok(false)
+}
+
+/// Takes the entries back along the transitions of each place in turn, and answers whether no packet came.
+fn sweep(
+    st: &mut Store,
+    ts: &List<Transitions>,
+    order: &List<(Rank, usize)>,
+    back: &mut IndexMap<SetId, Id>,
+) -> Result<bool, AllocError>
+    requires given { AreAllGiven st.old ts.now }
+    requires order { AreAllPlaces (length ts.now) order.now }
+    requires back { HaveSets st.old back.old.entries }
+    requires once { Once back.old.entries }
+    ensures grows { Grows st.old st.new }
+    ensures ok { IfOk result (λ closed. IsSwept st.old ts.now back.old.entries st.new back.new.entries closed) }
+{
+    let mut closed = true;
+    for k in 0..order.len() {
+        let place = order.at(k).1;
+        let t = ts.at(place);
+        let none = sweep_one(st, t, back)?;
+        closed = both_hold(closed, none);
+    }
+    Ok(closed)
+}
+
+/// Whether both are true.
+fn both_hold(a: bool, b: bool) -> bool
+    ensures { result ≡ a && b }
+{
+    a && b
+}
+
+/// Takes the entries back along the transitions of one place, and answers whether no packet came.
+fn sweep_one(
+    st: &mut Store,
+    t: &Transitions,
+    back: &mut IndexMap<SetId, Id>,
+) -> Result<bool, AllocError>
+    requires given { AreGiven st.old t.now.outs }
+    requires back { HaveSets st.old back.old.entries }
+    requires once { Once back.old.entries }
+    ensures grows { Grows st.old st.new }
+    ensures ok { IfOk result (λ none. IsTakenBack st.old t.now back.old.entries st.new back.new.entries none) }
+{
+    let found = led_from(st, t, back)?;
+    let next = put_all_new(st, found.as_slice(), back)?;
+    Ok(has_none(&next))
+}
+
+/// Whether there are no entries.
+fn has_none(ps: &List<(SetId, Id)>) -> bool
+    ensures { result ≡ true → ps.now ≡ [] }
+{
+    ps.len() == 0
+}
+
+/// The packets that transitions of one place lead into the entries, each out's for itself.
+fn led_from(
+    st: &mut Store,
+    t: &Transitions,
+    back: &IndexMap<SetId, Id>,
+) -> Result<List<(SetId, Id)>, AllocError>
+    requires given { AreGiven st.old t.now.outs }
+    requires back { HaveSets st.old back.now.entries }
+    requires once { Once back.now.entries }
+    ensures grows { Grows st.old st.new }
+    ensures ok { IfOk result (λ found. AreFound st.old (IsLedBy st.old t.now (length t.now.outs) back.now.entries) [] st.new found) }
+{
+    let mut found = List::new(st.alloc());
+    for i in 0..t.outs.len() {
+        push_led(st, t.source, t.outs.at(i), back, &mut found)?;
+    }
+    Ok(found)
+}
+
+/// Puts the packets that an out leads from a set into the entries after others.
+fn push_led(
+    st: &mut Store,
+    s: SetId,
+    o: &Given,
+    back: &IndexMap<SetId, Id>,
+    found: &mut List<(SetId, Id)>,
+) -> Result<(), AllocError>
+    requires from { IsSet st.old o.now.packets }
+    requires back { HaveSets st.old back.now.entries }
+    requires once { Once back.now.entries }
+    requires found { HaveSets st.old found.old }
+    ensures grows { Grows st.old st.new }
+    ensures ok { OnOk result (AreFound st.old (IsLedOut st.old s o.now back.now.entries) found.old st.new found.new) }
+{
+    if o.out.target == 0 {
+        return Ok(());
+    }
+    let Some(x) = under(back, SetId::from_target(o.out.target)) else {
+        return Ok(());
+    };
+    let led = led_to(st, o, x)?;
+    found.push((s, led))?;
+    Ok(())
+}
