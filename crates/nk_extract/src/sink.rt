@@ -10,7 +10,7 @@ use std::alloc::{AllocError, Global};
 
 /// What takes rows, one after the other, so that none of them need be kept. To compile an access list of 200 flows at one switch,
 /// with one tag and a text of 117,419 lines, took 45 MB and 425 million instructions with rows that are kept. It takes 12 MB and
-/// 355 million instructions with rows that are put to the text.
+/// 353 million instructions with rows that are put to the text.
 pub trait RowSink {
     ghost use Rattle.std.specs.Prelude.{List};
     ghost use Rattle.nk_table.specs.declared.Plain.{Plain};
