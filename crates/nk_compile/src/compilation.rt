@@ -11,10 +11,9 @@ use crate::counted::Counted;
 use crate::numbered::{Numbered, number_tags, policy_tables, tables_to};
 use crate::refusal::{CompileError, Refusal};
 use crate::tagging::tables_over;
-use nk_field::List;
 use nk_names::Program;
 use nk_policy::Pol;
-use nk_switches::TableSink;
+use nk_switches::{TableList, TableSink};
 use nk_table::Tables;
 use nk_topo::Topo;
 use std::alloc::{AllocError, Global};
@@ -63,9 +62,9 @@ pub fn compile_counted(
     ensures { IsCountedAnswer program.now name.now result }
 {
     let numbered = number(alloc, program, name)?;
-    let mut tables = List::new(alloc);
+    let mut tables = TableList::new(alloc);
     let tag_sets = hand_tables(numbered, &program.topo, &mut tables)?;
-    let tables = tables_over(&program.fields, &program.topo, tables)?;
+    let tables = tables_over(&program.fields, &program.topo, tables.into_tables())?;
     Ok(Counted { tables, tag_sets })
 }
 
@@ -83,9 +82,9 @@ pub fn number(alloc: Global, program: &Program, name: &str) -> Result<Numbered, 
     number_tags(alloc, &program.fields, &program.topo, &p)
 }
 
-/// Hands the printed tables of a named policy to a sink, one after the other, in the order of its program's switches: so no more than
-/// one of them need be kept. Answers the number of the policy's tag sets. The only error is that memory ran out; the sink may
-/// have taken some of the tables then.
+/// Hands the printed tables of a named policy to a sink, row by row, in the order of its program's switches: so neither tables nor
+/// rows need be kept. Answers the number of the policy's tag sets. The only error is that memory ran out; the sink may have taken
+/// some of the tables and rows then.
 pub fn hand_tables<S: TableSink>(
     numbered: Numbered,
     topo: &Topo,

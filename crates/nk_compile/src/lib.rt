@@ -17,6 +17,7 @@ mod wrong_ends;
 pub use compilation::{compile, compile_counted, compile_policy, hand_tables, number, tag_count};
 pub use counted::Counted;
 pub use ends::link_ends;
+pub use nk_extract::RowSink;
 pub use nk_switches::TableSink;
 pub use numbered::Numbered;
 pub use pair::{TablePair, compile_pair};

@@ -18,7 +18,7 @@ use crate::tagging::{print_to, tables_over};
 use nk_determ::SetId;
 use nk_field::{Fields, List};
 use nk_policy::Pol;
-use nk_switches::TableSink;
+use nk_switches::{TableList, TableSink};
 use nk_topo::Topo;
 use std::alloc::{AllocError, Global};
 
@@ -98,8 +98,8 @@ pub fn policy_tables(
     ensures error { IfErr result (IsError fields.now topo.now (tree_of p.now)) }
 {
     let numbered = number_tags(alloc, fields, topo, p)?;
-    let mut tables = List::new(alloc);
+    let mut tables = TableList::new(alloc);
     let tag_sets = tables_to(numbered, topo, &mut tables)?;
-    let tables = tables_over(fields, topo, tables)?;
+    let tables = tables_over(fields, topo, tables.into_tables())?;
     Ok(Counted { tables, tag_sets })
 }

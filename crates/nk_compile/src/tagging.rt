@@ -19,7 +19,7 @@ use nk_determ::{SetId, Sets};
 use nk_field::{Fields, List};
 use nk_policy::Pol;
 use nk_store::{Id, Store};
-use nk_switches::{TableSink, switch_tables};
+use nk_switches::{TableList, TableSink, switch_tables};
 use nk_table::{Table, Tables};
 use nk_topo::Topo;
 use std::alloc::{AllocError, Global};
@@ -132,7 +132,7 @@ pub fn printed(
 {
     let alloc = prepared.store.alloc();
     let ends = link_ends(alloc, p, prepared.states.len())?;
-    let mut tables = List::new(alloc);
+    let mut tables = TableList::new(alloc);
     print_to(prepared, ends.as_slice(), topo, first, tags, &mut tables)?;
-    tables_over(fields, topo, tables)
+    tables_over(fields, topo, tables.into_tables())
 }

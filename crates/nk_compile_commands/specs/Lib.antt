@@ -3,3 +3,4 @@ pub mod Handed
 pub mod Messages
 pub mod TextTables
 pub mod Updating
+pub mod RowsPut

@@ -13,13 +13,13 @@ ghost use Rattle.nk_reply.specs.Reply.{outcome_of};
 
 use crate::laws::compiled_tables_are_printable;
 use crate::messages::refusal_message;
-use nk_compile::{CompileError, Numbered, TableSink, hand_tables, number};
+use crate::text_sink::TextSink;
+use nk_compile::{CompileError, Numbered, hand_tables, number};
 use nk_field::Fields;
 use nk_input::{ReadText, read_program};
 use nk_names::Program;
 use nk_reply::CommandAnswer;
-use nk_table::Table;
-use nk_tabtext::{TableWriter, printed_tables_are_read};
+use nk_tabtext::printed_tables_are_read;
 use nk_topo::Topo;
 use std::alloc::{AllocError, Global};
 
@@ -77,7 +77,7 @@ fn declarations(program: Program) -> (Fields, Topo)
     program.into_declarations()
 }
 
-/// The text of the printed tables of a named policy. Each table is written as soon as it is made, and none is kept.
+/// The text of the printed tables of a named policy. Each row is written as soon as it is made, and none is kept.
 fn text_of(
     alloc: Global,
     numbered: Numbered,
@@ -90,34 +90,7 @@ fn text_of(
         → IsNumberedByName program name numbered
         → IfOk result (λ text. (t : Tables) × IsCompiled program name t × (text.items ≡ table_bytes t)) }
 {
-    let writer = TableWriter::new(alloc, fields, topo)?;
-    let mut sink = TextSink { writer };
+    let mut sink = TextSink::new(alloc, fields, topo)?;
     hand_tables(numbered, topo, &mut sink)?;
     Ok(sink.writer.end())
-}
-
-/// The text of tables, which takes them one by one.
-#[derive(Drop)]
-struct TextSink<'a> {
-    writer: TableWriter<'a>,
-}
-
-impl<'a> TableSink for TextSink<'a> {
-    ghost use Rattle.std.specs.Prelude.{List, ◌++◌};
-    ghost use Rattle.nk_field.specs.Packet.{FieldTable};
-    ghost use Rattle.nk_topo.specs.Topology.{Topology};
-    ghost use Rattle.nk_table.specs.declared.Table.{Table};
-    ghost use Rattle.nk_tabtext.specs.Written.{HasWritten};
-    ghost use Rattle.nk_compile_commands.specs.Handed.{none_written, joined_written};
-
-    ghost takes = { λ s more t. (fields : FieldTable) (topo : Topology) (before : List Table) → HasWritten fields topo before s.writer
-        → HasWritten fields topo (before ++ more) t.writer };
-
-    fn take(&mut self, table: Table) -> Result<(), AllocError> {
-        self.writer.write(&table)
-    }
-
-    ghost none = { λ s. none_written s.writer };
-
-    ghost joined = { λ s t u before more. joined_written s.writer t.writer u.writer before more };
 }

@@ -4,6 +4,7 @@
 mod compiling;
 pub mod laws;
 mod messages;
+mod text_sink;
 mod updating;
 
 pub use compiling::compile_answer;

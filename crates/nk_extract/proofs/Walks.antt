@@ -1,5 +1,5 @@
 -- The steps of the walk over a diagram.
-use Rattle.std.proofs.Common.{◌≡◌, ℕ, ◌+◌, ◌<◌, Bool, true, false, cond, min, inl, inr, List, [], ◌∷◌, ◌++◌, length, Result, Ok, Err, OnOk, refl, sym, ap, ◌∙◌, arith, append_assoc, append-nil, eqb}
+use Rattle.std.proofs.Common.{◌≡◌, ℕ, ◌+◌, ◌<◌, Bool, true, false, cond, min, inl, inr, List, [], ◌∷◌, ◌++◌, length, Result, Ok, Err, OnOk, refl, sym, ap, ◌∙◌, arith, append_assoc, append-nil, eqb, get_or, drop, drop-cons, suc}
 use Rattle.std.specs.Prelude.{◌==◌, ◌||◌, not, map, filter, slice_index}
 use Rattle.std.specs.List.{flat_map}
 use Rattle.std.proofs.lemmas.Bool.Decides.{nat_tests, eqb_tells}
@@ -202,3 +202,70 @@ case_returns width tag ms all maxes max f ps d w before mid after other shown re
     ∙ ap (λ b. before ++ (flat_map (span_rows width tag ms max f b (else_of ps) w) (spans ps 0) ++ rows_following width tag ms all (w (else_of ps)))) flag
     ∙ ap (λ m. before ++ (flat_map (span_rows width tag ms m f (not (d (else_of ps)) || all) (else_of ps) w) (spans ps 0) ++ rows_following width tag ms all (w (else_of ps)))) top
     ∙ ap (λ l. before ++ l) (sym (after_node width tag ms all maxes f ps d w))
+
+-- an empty leaf that isn't shown has no row
+pub leaf_none :
+    (width : ℕ) (tag : ℕ × ℕ × ℕ) (ms : List (ℕ × ℕ × ℕ)) (all : Bool) (outs : List Out) → length outs ≡ 0 → all ≡ false
+    → rows_following width tag ms all (record { matches = []; buckets = bucket_list tag.0 outs; shown = false } ∷ []) ≡ []
+leaf_none width tag ms all [] h e = ap (λ b. rows_following width tag ms b (record { matches = []; buckets = []; shown = false } ∷ [])) e
+leaf_none width tag ms all (o ∷ os) h e = absurd (omega (arith, h))
+
+-- another leaf has one
+pub leaf_one :
+    (width : ℕ) (tag : ℕ × ℕ × ℕ) (ms : List (ℕ × ℕ × ℕ)) (all : Bool) (outs : List Out) → (length outs ≡ 0 → all ≡ true)
+    → record { priority = min 65535 (priority_of width tag.0 ms); matches = put_match tag ms; buckets = bucket_list tag.0 outs } ∷ []
+    ≡ rows_following width tag ms all (record { matches = []; buckets = bucket_list tag.0 outs; shown = false } ∷ [])
+leaf_one width tag ms all [] h =
+    ap (λ (l : List (ℕ × ℕ × ℕ)). (record { priority = min 65535 (priority_of width tag.0 l); matches = put_match tag l; buckets = [] }) ∷ []) (sym (append-nil ms))
+    ∙ ap (λ b. rows_following width tag ms b (record { matches = []; buckets = []; shown = false } ∷ [])) (sym (h refl))
+leaf_one width tag ms all (o ∷ os) h =
+    ap (λ (l : List (ℕ × ℕ × ℕ)). (record { priority = min 65535 (priority_of width tag.0 l); matches = put_match tag l; buckets = bucket_list tag.0 (o ∷ os) }) ∷ []) (sym (append-nil ms))
+
+-- the rows of an interval's blocks, unless it has the else-child
+pub span_none :
+    (width : ℕ) (tag : ℕ × ℕ × ℕ) (ms : List (ℕ × ℕ × ℕ)) (max f : ℕ) (all : Bool) (other : ℕ) (w : ℕ → List Path) (s : Span)
+    → (s.child == other) ≡ true → span_rows width tag ms max f all other w s ≡ []
+span_none width tag ms max f all other w s e =
+    ap (λ b. cond b [] (flat_map (λ b. rows_following width tag (ms ++ (f, b.0, b.1) ∷ []) all (w s.child)) (blocks_of s.first s.last max))) e
+
+pub span_all :
+    (width : ℕ) (tag : ℕ × ℕ × ℕ) (ms : List (ℕ × ℕ × ℕ)) (max f : ℕ) (all : Bool) (other : ℕ) (w : ℕ → List Path) (s : Span)
+    → (s.child == other) ≡ false
+    → flat_map (λ b. rows_following width tag (ms ++ (f, b.0, b.1) ∷ []) all (w s.child)) (blocks_of s.first s.last max) ≡ span_rows width tag ms max f all other w s
+span_all width tag ms max f all other w s e =
+    sym (ap (λ b. cond b [] (flat_map (λ b. rows_following width tag (ms ++ (f, b.0, b.1) ∷ []) all (w s.child)) (blocks_of s.first s.last max))) e)
+
+-- a single value is one block
+pub span_one :
+    (width : ℕ) (tag : ℕ × ℕ × ℕ) (ms : List (ℕ × ℕ × ℕ)) (max f : ℕ) (all : Bool) (other : ℕ) (w : ℕ → List Path) (s : Span) (b : ℕ × ℕ)
+    → (s.child == other) ≡ false → blocks_of s.first s.last max ≡ b ∷ []
+    → rows_following width tag (ms ++ (f, b.0, b.1) ∷ []) all (w s.child) ≡ span_rows width tag ms max f all other w s
+span_one width tag ms max f all other w s b e is =
+    sym (append-nil (rows_following width tag (ms ++ (f, b.0, b.1) ∷ []) all (w s.child)))
+    ∙ ap (flat_map (λ b. rows_following width tag (ms ++ (f, b.0, b.1) ∷ []) all (w s.child))) (sym is)
+    ∙ span_all width tag ms max f all other w s e
+
+-- one more span, and one more block
+pub parts_on :
+    (width : ℕ) (tag : ℕ × ℕ × ℕ) (ms : List (ℕ × ℕ × ℕ)) (max f : ℕ) (all : Bool) (other : ℕ) (w : ℕ → List Path) (rows total : List Plain) (p : ℕ × ℕ) (ps rest : List (ℕ × ℕ)) (from : ℕ)
+    → ps ≡ p ∷ rest
+    → rows ++ flat_map (span_rows width tag ms max f all other w) (spans ps from) ≡ total
+    → (rows ++ span_rows width tag ms max f all other w (record { first = from; last = p.0; child = p.1 })) ++ flat_map (span_rows width tag ms max f all other w) (spans rest (p.0 + 1)) ≡ total
+parts_on width tag ms max f all other w rows total p ps rest from is made =
+    append_assoc rows (span_rows width tag ms max f all other w (record { first = from; last = p.0; child = p.1 })) (flat_map (span_rows width tag ms max f all other w) (spans rest (p.0 + 1)))
+    ∙ ap (λ l. rows ++ flat_map (span_rows width tag ms max f all other w) (spans l from)) (sym is)
+    ∙ made
+
+pub blocks_on :
+    {X : Type 0} (made : X → List Plain) (rows total : List Plain) (b : X) (bs rest : List X) → bs ≡ b ∷ rest
+    → rows ++ flat_map made bs ≡ total → (rows ++ made b) ++ flat_map made rest ≡ total
+blocks_on made rows total b bs rest is so = append_assoc rows (made b) (flat_map made rest) ∙ ap (λ l. rows ++ flat_map made l) (sym is) ∙ so
+
+-- no block is left
+pub blocks_done :
+    {X : Type 0} (made : X → List Plain) (rows total : List Plain) (rest : List X) → rest ≡ [] → rows ++ flat_map made rest ≡ total → rows ≡ total
+blocks_done made rows total rest none so = sym (append-nil rows) ∙ ap (λ l. rows ++ flat_map made l) (sym none) ∙ so
+
+-- what is left at a place
+pub rest_at : {A : Type 0} (xs : List A) (i : ℕ) (d : A) → i < length xs → drop i xs ≡ get_or xs i d ∷ drop (i + 1) xs
+rest_at xs i d h = let one : suc i ≡ i + 1 = omega arith in drop-cons xs i d h ∙ ap (λ n. get_or xs i d ∷ drop n xs) one

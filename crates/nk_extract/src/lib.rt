@@ -3,15 +3,18 @@
 //! has the buckets of the packet's results; or no row matches, and there is no result.
 #![tactic(auto)]
 
-mod bucket;
 pub mod laws;
+mod out_buckets;
 mod row;
 mod rows;
+mod sink;
 mod walk;
 
 ghost use Rattle.nk_extract.specs.Example.{WorkedRules, WorkedIntervals};
 
-pub use rows::rows_of;
+pub use out_buckets::{bucket, buckets};
+pub use rows::rows_to;
+pub use sink::RowSink;
 
 /// Small trees and their rows, among them a printed drop row, and intervals of values as blocks.
 pub fn worked_rules()

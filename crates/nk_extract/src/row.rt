@@ -3,11 +3,10 @@ ghost use Rattle.std.specs.Prelude.{◌≡◌, ◌≤◌, ◌<◌, ◌*◌, ◌+
 ghost use Rattle.nk_extract.specs.RuleTree.{put_match, priority_of};
 ghost use Rattle.nk_extract.specs.Ways.{bucket_list, rows_following, AreBits};
 
-use crate::bucket::buckets;
-use nk_field::{Fid, List};
+use crate::sink::RowSink;
+use nk_field::Fid;
 use nk_store::Out;
-use nk_table::Plain;
-use std::alloc::{AllocError, Global};
+use std::alloc::AllocError;
 
 /// How many fields there are, the match of the tag in these rows (the field, its value and all its digits), and the bit
 /// of the field at each place.
@@ -18,31 +17,24 @@ pub(crate) struct Frame {
     pub bits: [u32; 18],
 }
 
-/// The row of a leaf after the matches of a way; none for a drop, but where `shown` holds.
-pub(crate) fn leaf_row(
-    alloc: Global,
+/// Puts the row of a leaf after the matches of a way; none for a drop, but where `shown` holds.
+pub(crate) fn leaf_row<S: RowSink>(
     frame: &Frame,
     outs: &[Out],
     matches: &[(Fid, u64, u8)],
     shown: bool,
-    rows: &mut Vec<Plain>,
+    sink: &mut S,
 ) -> Result<(), AllocError>
     requires { AreBits frame.now.width frame.now.tag.0 frame.now.bits }
-    ensures { OnOk result (rows.new.items ≡ rows.old.items
-        ++ rows_following frame.now.width frame.now.tag matches.now shown
-        (record { matches = []; buckets = bucket_list frame.now.tag.0 outs.now; shown = false } ∷ [])) }
+    ensures { OnOk result (S.puts sink.old (rows_following frame.now.width frame.now.tag matches.now shown
+        (record { matches = []; buckets = bucket_list frame.now.tag.0 outs.now; shown = false } ∷ [])) sink.new) }
 {
     if outs.len() == 0 && !shown {
         return Ok(());
     }
-    let (tag, _, _) = frame.tag;
-    let row = Plain {
-        priority: priority(frame, matches),
-        matches: tagged(alloc, frame.tag, matches)?,
-        buckets: buckets(alloc, tag, outs)?,
-    };
-    rows.push(row)?;
-    Ok(())
+    let k = place(frame.tag.0, matches);
+    let bits = priority(frame, matches);
+    sink.put_row(bits, &matches[..k], frame.tag, &matches[k..], outs)
 }
 
 /// The priority of a row with these matches: the sum of their fields' bits.
@@ -77,32 +69,6 @@ fn before_field(bit: u32, tag: Fid, f: usize) -> u32
     ensures { result ≡ (if not (f == tag) then bit * 2 else bit) }
 {
     if f != tag.place() { bit * 2 } else { bit }
-}
-
-/// The matches with the tag's put in by field.
-fn tagged(
-    alloc: Global,
-    tag: (Fid, u64, u8),
-    matches: &[(Fid, u64, u8)],
-) -> Result<List<(Fid, u64, u8)>, AllocError>
-    ensures { IfOk result (λ ms. ms ≡ put_match tag matches.now) }
-{
-    let k = place(tag.0, matches);
-    let mut all = Vec::with_capacity(alloc, matches.len().saturating_add(1))?;
-    push_all(&mut all, &matches[..k])?;
-    all.push(tag)?;
-    push_all(&mut all, &matches[k..])?;
-    Ok(List::from_vec(all))
-}
-
-/// Puts matches at the end, one by one, as they are few.
-fn push_all(all: &mut Vec<(Fid, u64, u8)>, matches: &[(Fid, u64, u8)]) -> Result<(), AllocError>
-    ensures { OnOk result (all.new.items ≡ all.old.items ++ matches.now) }
-{
-    for m in matches {
-        all.push(*m)?;
-    }
-    Ok(())
 }
 
 /// Where a field's match stands among the matches.

@@ -1,15 +1,16 @@
-//! The walk through a diagram, down each way, that makes the rows in order.
+//! The walk through a diagram, down each way, that puts the rows in order.
 ghost use Rattle.std.specs.Prelude.{◌≡◌, ◌≤◌, [], ◌∷◌, ◌++◌, not, ◌||◌, OnOk};
+ghost use Rattle.std.specs.List.{flat_map};
 ghost use Rattle.nk_store.specs.StoreState.{IsId, node_of, IsCase};
 ghost use Rattle.nk_store.specs.declared.node.Node.TheVariants.{Case};
 ghost use Rattle.nk_extract.specs.Ways.{node_ways, span_rows, ways, rows_following, is_empty_leaf, AreBits};
 
 use crate::row::{Frame, leaf_row};
+use crate::sink::RowSink;
 use nk_field::Fid;
 use nk_prefix::laws::blocks_are_aligned;
 use nk_prefix::{blocks, digits_of};
 use nk_store::{Id, Node, Store, else_child};
-use nk_table::Plain;
 use std::alloc::AllocError;
 
 /// A choice between the blocks of a field's values and the else-child.
@@ -34,37 +35,29 @@ struct Span {
 /// The rows of a diagram after the matches of a way, to which more are put and from which they are taken again. Where
 /// `shown` holds, each drop is printed.
 #[cycle(walk)]
-pub(crate) fn walk(
+pub(crate) fn walk<S: RowSink>(
     st: &Store,
     frame: &Frame,
     d: Id,
     matches: &mut Vec<(Fid, u64, u8)>,
     shown: bool,
-    rows: &mut Vec<Plain>,
+    sink: &mut S,
 ) -> Result<(), AllocError>
     requires id { IsId st.now d }
     requires bits { AreBits frame.now.width frame.now.tag.0 frame.now.bits }
-    ensures rows { OnOk result (rows.new.items ≡ rows.old.items
-        ++ rows_following frame.now.width frame.now.tag matches.old.items shown
-        (ways frame.now.tag.0 st.now d)) }
+    ensures rows { OnOk result (S.puts sink.old (rows_following frame.now.width frame.now.tag matches.old.items shown
+        (ways frame.now.tag.0 st.now d)) sink.new) }
     ensures matches { OnOk result (matches.new.items ≡ matches.old.items) }
 {
     match st.view(d) {
-        Node::Leaf(outs) => leaf_row(
-            st.alloc(),
-            frame,
-            outs.as_slice(),
-            matches.as_slice(),
-            shown,
-            rows,
-        ),
-        Node::Case(f, parts) => walk_case(st, frame, d, *f, parts.as_slice(), matches, shown, rows),
+        Node::Leaf(outs) => leaf_row(frame, outs.as_slice(), matches.as_slice(), shown, sink),
+        Node::Case(f, parts) => walk_case(st, frame, d, *f, parts.as_slice(), matches, shown, sink),
     }
 }
 
 /// The rows of a choice after the matches of a way: those of the blocks ascending, and the else-child's last.
 #[cycle(walk)]
-fn walk_case(
+fn walk_case<S: RowSink>(
     st: &Store,
     frame: &Frame,
     d: Id,
@@ -72,14 +65,13 @@ fn walk_case(
     parts: &[(u64, Id)],
     matches: &mut Vec<(Fid, u64, u8)>,
     shown: bool,
-    rows: &mut Vec<Plain>,
+    sink: &mut S,
 ) -> Result<(), AllocError>
     requires case { IsCase st.now d f parts.now }
     requires bits { AreBits frame.now.width frame.now.tag.0 frame.now.bits }
-    ensures rows { OnOk result (rows.new.items ≡ rows.old.items
-        ++ rows_following frame.now.width frame.now.tag matches.old.items shown
+    ensures rows { OnOk result (S.puts sink.old (rows_following frame.now.width frame.now.tag matches.old.items shown
         (node_ways st.now.maxes frame.now.tag.0 (Case f parts.now) (λ c. is_empty_leaf (node_of st.now c))
-        (ways frame.now.tag.0 st.now))) }
+        (ways frame.now.tag.0 st.now))) sink.new) }
     ensures matches { OnOk result (matches.new.items ≡ matches.old.items) }
 {
     let max = st.max(f);
@@ -98,28 +90,27 @@ fn walk_case(
             last: *end,
             child: *c,
         };
-        walk_span(st, frame, choice, span, matches, rows)?;
+        walk_span(st, frame, choice, span, matches, sink)?;
         from = *end as u128 + 1;
     }
-    walk(st, frame, other, matches, shown, rows)
+    walk(st, frame, other, matches, shown, sink)
 }
 
 /// The rows of a span's child, for each of its blocks after the matches of a way; none where it is the else-child.
 #[cycle(walk)]
-fn walk_span(
+fn walk_span<S: RowSink>(
     st: &Store,
     frame: &Frame,
     choice: Choice,
     span: Span,
     matches: &mut Vec<(Fid, u64, u8)>,
-    rows: &mut Vec<Plain>,
+    sink: &mut S,
 ) -> Result<(), AllocError>
     requires id { IsId st.now span.child }
     requires bits { AreBits frame.now.width frame.now.tag.0 frame.now.bits }
     requires within { span.last ≤ choice.max }
-    ensures rows { OnOk result (rows.new.items ≡ rows.old.items
-        ++ span_rows frame.now.width frame.now.tag matches.old.items choice.max choice.field choice.shown choice.other
-        (ways frame.now.tag.0 st.now) (record { first = span.first; last = span.last; child = span.child })) }
+    ensures rows { OnOk result (S.puts sink.old (span_rows frame.now.width frame.now.tag matches.old.items choice.max choice.field choice.shown choice.other
+        (ways frame.now.tag.0 st.now) (record { first = span.first; last = span.last; child = span.child })) sink.new) }
     ensures matches { OnOk result (matches.new.items ≡ matches.old.items) }
 {
     let Span { first, last, child } = span;
@@ -129,37 +120,55 @@ fn walk_span(
     if first == last {
         blocks_are_aligned();
         let block = (first, digits_of(choice.max));
-        return walk_block(st, frame, choice, child, block, matches, rows);
+        return walk_block(st, frame, choice, child, block, matches, sink);
     }
     let all = blocks(st.alloc(), first, last, choice.max)?;
-    let cut = all.as_slice();
-    for block in cut {
-        walk_block(st, frame, choice, child, *block, matches, rows)?;
+    walk_blocks(st, frame, &choice, child, all.as_slice(), matches, sink)
+}
+
+/// The rows of a child for each of these blocks after the matches of a way.
+#[cycle(walk)]
+fn walk_blocks<S: RowSink>(
+    st: &Store,
+    frame: &Frame,
+    choice: &Choice,
+    child: Id,
+    blocks: &[(u64, u8)],
+    matches: &mut Vec<(Fid, u64, u8)>,
+    sink: &mut S,
+) -> Result<(), AllocError>
+    requires id { IsId st.now child }
+    requires bits { AreBits frame.now.width frame.now.tag.0 frame.now.bits }
+    ensures rows { OnOk result (S.puts sink.old (flat_map (λ b. rows_following frame.now.width frame.now.tag
+        (matches.old.items ++ (choice.now.field, b.0, b.1) ∷ []) choice.now.shown (ways frame.now.tag.0 st.now child)) blocks.now) sink.new) }
+    ensures matches { OnOk result (matches.new.items ≡ matches.old.items) }
+{
+    for (value, len) in blocks {
+        walk_block(st, frame, *choice, child, (*value, *len), matches, sink)?;
     }
     Ok(())
 }
 
 /// The rows of a child for one block of values after the matches of a way.
 #[cycle(walk)]
-fn walk_block(
+fn walk_block<S: RowSink>(
     st: &Store,
     frame: &Frame,
     choice: Choice,
     child: Id,
     block: (u64, u8),
     matches: &mut Vec<(Fid, u64, u8)>,
-    rows: &mut Vec<Plain>,
+    sink: &mut S,
 ) -> Result<(), AllocError>
     requires id { IsId st.now child }
     requires bits { AreBits frame.now.width frame.now.tag.0 frame.now.bits }
-    ensures rows { OnOk result (rows.new.items ≡ rows.old.items
-        ++ rows_following frame.now.width frame.now.tag (matches.old.items ++ (choice.field, block.0, block.1) ∷ [])
-        choice.shown (ways frame.now.tag.0 st.now child)) }
+    ensures rows { OnOk result (S.puts sink.old (rows_following frame.now.width frame.now.tag
+        (matches.old.items ++ (choice.field, block.0, block.1) ∷ []) choice.shown (ways frame.now.tag.0 st.now child)) sink.new) }
     ensures matches { OnOk result (matches.new.items ≡ matches.old.items) }
 {
     let (value, len) = block;
     matches.push((choice.field, value, len))?;
-    walk(st, frame, child, matches, choice.shown, rows)?;
+    walk(st, frame, child, matches, choice.shown, sink)?;
     matches.pop();
     Ok(())
 }

@@ -3,3 +3,4 @@ pub mod States
 pub mod Tagged
 pub mod Made
 pub mod Classed
+pub mod TableOf

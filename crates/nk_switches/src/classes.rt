@@ -8,6 +8,7 @@ ghost use Rattle.nk_switches.specs.Classed.{IsClassStop, IsClassTableAt};
 
 use crate::acting::all_class_states;
 use crate::members::tag_table;
+use crate::sink::TableList;
 use crate::stop::ClassStop;
 use crate::tables::all_tables;
 use crate::targets::class_targets;
@@ -47,7 +48,7 @@ pub fn class_tables(
     let table = class_targets(st.alloc(), by_tag.as_slice(), classes)?;
     ss.differ();
     st.laws();
-    let mut tables = List::new(st.alloc());
+    let mut tables = TableList::new(st.alloc());
     all_tables(st, table.as_slice(), class_states.as_slice(), &mut tables)?;
-    Ok(tables)
+    Ok(tables.into_tables())
 }

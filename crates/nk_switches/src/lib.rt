@@ -13,6 +13,6 @@ mod tag_states;
 mod targets;
 
 pub use classes::class_tables;
-pub use sink::TableSink;
+pub use sink::{TableList, TableSink};
 pub use stop::{ActingTag, ClassHere, ClassStop, Stop};
 pub use switches::switch_tables;

@@ -16,7 +16,7 @@ use nk_determ::{SetId, Sets};
 use nk_store::{Id, Store};
 use std::alloc::AllocError;
 
-/// The table of each switch, one after the other, so that no more than one need be kept. Its rows do for each of its tags what
+/// The table of each switch, row by row, so that neither tables nor rows need be kept. Its rows do for each of its tags what
 /// the tag's states do together at the switch. A copy at which they end leaves with tag 0; one that they record next leaves
 /// with the tag of the set of all labels that record it, and is left out where that set has no tag. Equal bucket lists of a
 /// switch are one group.

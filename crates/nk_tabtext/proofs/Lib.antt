@@ -19,6 +19,7 @@ pub mod Printable
 pub mod Putting
 pub mod ReadingBack
 pub mod RowSteps
+pub mod Rowing
 pub mod Setting
 pub mod Sofar
 pub mod Stages

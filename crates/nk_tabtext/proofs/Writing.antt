@@ -1,20 +1,16 @@
 -- A text that is written table by table is that of all tables.
-use Rattle.std.proofs.Common.{◌≡◌, ℕ, ◌<◌, ◌++◌, ◌||◌, Bool, true, false, inl, inr, ⊎_elim, List, [], ◌∷◌, refl, sym, ap, subst, ◌∙◌, arith, append_assoc, map}
+use Rattle.std.proofs.Common.{◌≡◌, ℕ, ◌<◌, ◌++◌, ◌||◌, Bool, true, false, inl, inr, ⊎_elim, List, [], ◌∷◌, refl, sym, ap, subst, ◌∙◌, arith, map}
 use Rattle.std.specs.Prelude.{◌==◌, if◌then◌else◌}
 use Rattle.std.specs.List.{flat_map, list_any}
 use Rattle.std.proofs.lemmas.Bool.Decides.{nat_tests}
-use Rattle.std.proofs.lemmas.Grind.{flat_map-append}
-use Rattle.std.proofs.lemmas.List.{append-nil}
-use Rattle.std.proofs.lemmas.List.Folds.{list_any-append}
 use Rattle.nk_field.specs.Packet.{FieldTable}
 use Rattle.nk_topo.specs.Topology.{SwitchPorts, Topology, IsTopology}
 use Rattle.nk_topo.proofs.Members.{In, InOrder, order_from_pairs}
 use Rattle.nk_table.proofs.Crossing.{joined_mapped}
 use Rattle.nk_table.specs.declared.Table.{Table}
 use Rattle.nk_table.specs.Rules.{rows_of, groups_at_switch}
-use Rattle.nk_tabtext.specs.declared.writer.TableWriter.{TableWriter}
-use Rattle.nk_tabtext.specs.Text.{fields_text, group_text, have_prefix, row_text, section_text, table_bytes, tag_text, topology_text, version_of, version_text}
-use Rattle.nk_tabtext.specs.Written.{HasWritten, head_text, own_section_text, some_prefix, switch_line_text, version_with}
+use Rattle.nk_tabtext.specs.Text.{group_text, have_prefix, row_text, section_text, table_bytes, version_of}
+use Rattle.nk_tabtext.specs.Written.{head_text, own_section_text, some_prefix, switch_line_text, version_with}
 use Rattle.nk_tabtext.proofs.Heads.{found_over_numbers, joined_each}
 
 -- ---- the tables of switches in order
@@ -109,57 +105,3 @@ module _ (fields : FieldTable) (topo : Topology) (tables : List Table) (is : IsT
       is_text
       ∙ ap (λ v. head_text v fields topo ++ flat_map (own_section_text fields) tables) (ap version_with known ∙ version)
       ∙ ap (λ l. head_text (version_of (record { fields = fields; topo = topo; tables = tables })) fields topo ++ l) sections
-
--- ---- the steps
-
-module _ (fields : FieldTable) (topo : Topology) (tables : List Table) (t : Table) where
-  -- whether some match is a prefix, with one more table
-  prefixes_more : (b c : Bool) → b ≡ some_prefix fields tables → c ≡ (b || have_prefix fields t.rows)
-      → c ≡ some_prefix fields (tables ++ t ∷ [])
-  prefixes_more b c known more =
-      more
-      ∙ ap (λ x. x || have_prefix fields t.rows) known
-      ∙ ap (λ x. some_prefix fields tables || x) (sym (or_false (have_prefix fields t.rows)))
-      ∙ sym (list_any-append (λ u. have_prefix fields u.rows) tables (t ∷ []))
-    where
-      or_false : (x : Bool) → (x || false) ≡ x
-      or_false true = refl
-      or_false false = refl
-
-  -- the text, with one more table
-  text_more : (b c : Bool) (old middle new : List ℕ)
-      → old ≡ head_text (version_with b) fields topo ++ flat_map (own_section_text fields) tables
-      → ((rest : List ℕ) → old ≡ version_text (version_with b) ++ rest → middle ≡ version_text (version_with c) ++ rest)
-      → new ≡ middle ++ own_section_text fields t
-      → new ≡ head_text (version_with c) fields topo ++ flat_map (own_section_text fields) (tables ++ t ∷ [])
-  text_more b c old middle new before told put =
-      put
-      ∙ ap (λ l. l ++ own_section_text fields t)
-      (told (fields_text fields ++ tag_text fields ++ topology_text topo ++ flat_map (own_section_text fields) tables)
-      (before
-      ∙ first_apart (version_text (version_with b)) (fields_text fields) (tag_text fields) (topology_text topo) (flat_map (own_section_text fields) tables)))
-      ∙ last_apart (version_text (version_with c)) (fields_text fields) (tag_text fields) (topology_text topo)
-      (flat_map (own_section_text fields) tables) (own_section_text fields t)
-      ∙ ap (λ l. head_text (version_with c) fields topo ++ l)
-      (ap (λ l. flat_map (own_section_text fields) tables ++ l) (sym (append-nil (own_section_text fields t)))
-      ∙ sym (flat_map-append (own_section_text fields) tables (t ∷ [])))
-    where
-      first_apart : (v w x y z : List ℕ) → v ++ w ++ x ++ y ++ z ≡ v ++ (w ++ x ++ y ++ z)
-      first_apart v w x y z = simp append_assoc
-
-      last_apart : (v w x y z s : List ℕ) → v ++ (w ++ x ++ y ++ z) ++ s ≡ v ++ w ++ x ++ y ++ (z ++ s)
-      last_apart v w x y z s = simp append_assoc
-
-  -- the writer has written one more table: first it told of its prefixes, and then it put the table after its text
-  pub written_more : (w v u : TableWriter) → HasWritten fields topo tables w → v.fields.now ≡ w.fields.now
-      → v.prefixes ≡ (w.prefixes || have_prefix w.fields.now t.rows)
-      → ((rest : List ℕ) → w.text.items ≡ version_text (version_with w.prefixes) ++ rest → v.text.items ≡ version_text (version_with v.prefixes) ++ rest)
-      → u.fields.now ≡ v.fields.now → u.prefixes ≡ v.prefixes → u.text.items ≡ v.text.items ++ own_section_text v.fields.now t
-      → HasWritten fields topo (tables ++ t ∷ []) u
-  written_more w v u before same more told kept_fields kept put = record {
-    same_fields = kept_fields ∙ same ∙ before.same_fields;
-    prefixes = kept ∙ prefixes_more w.prefixes v.prefixes before.prefixes (more ∙ ap (λ f. w.prefixes || have_prefix f t.rows) before.same_fields);
-    text = text_more w.prefixes u.prefixes w.text.items v.text.items u.text.items before.text
-        (λ rest e. told rest e ∙ ap (λ b. version_text (version_with b) ++ rest) (sym kept))
-        (put ∙ ap (λ f. v.text.items ++ own_section_text f t) (same ∙ before.same_fields));
-  }

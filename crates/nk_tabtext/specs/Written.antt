@@ -1,10 +1,11 @@
--- A text of tables that is written table by table. Its first line tells whether some match is a prefix, which depends on all
+-- A text of tables that is written row by row. Its first line tells whether some match is a prefix, which depends on all
 -- tables: so it tells of those that are written so far.
-use Rattle.std.specs.Prelude.{◌≡◌, ℕ, Bool, if◌then◌else◌, codes, List, ◌++◌}
+use Rattle.std.specs.Prelude.{◌≡◌, ℕ, Bool, if◌then◌else◌, codes, List, ◌++◌, ◌||◌, length}
 use Rattle.std.specs.Fmt.{decimal}
 use Rattle.std.specs.List.{flat_map, list_any}
 use Rattle.nk_field.specs.Packet.{FieldTable}
 use Rattle.nk_topo.specs.Topology.{Topology}
+use Rattle.nk_table.specs.declared.Row.{Row}
 use Rattle.nk_table.specs.declared.Table.{Table}
 use Rattle.nk_tabtext.specs.declared.writer.TableWriter.{TableWriter}
 use Rattle.nk_tabtext.specs.Text.{fields_text, group_text, have_prefix, row_text, tag_text, topology_text, version_text}
@@ -41,3 +42,17 @@ pub record HasWritten (fields : FieldTable) (topo : Topology) (tables : List Tab
   pub prefixes : w.prefixes ≡ some_prefix fields tables
   -- its text has the first lines, of the version that this asks for, and after them the tables
   pub text : w.text.items ≡ head_text (version_with w.prefixes) fields topo ++ flat_map (own_section_text fields) tables
+
+-- the writer has put these tables after those lines, and of the table of one more switch its first line and these rows
+pub record IsWriting (fields : FieldTable) (topo : Topology) (tables : List Table) (sw : ℕ) (rows : List Row) (w : TableWriter) : Type 0 where
+  -- it prints by these fields
+  pub same_fields : w.fields.now ≡ fields
+  -- it knows whether some match so far is a prefix
+  pub prefixes : w.prefixes ≡ (some_prefix fields tables || have_prefix fields rows)
+  -- what stands before the rows
+  pub front : List ℕ
+  pub front_is : front ≡ head_text (version_with w.prefixes) fields topo ++ flat_map (own_section_text fields) tables ++ switch_line_text sw
+  -- it knows where the rows begin
+  pub start : w.start ≡ length front
+  -- the rows stand at the end of its text
+  pub text : w.text.items ≡ front ++ flat_map (row_text fields) rows

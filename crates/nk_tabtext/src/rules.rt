@@ -1,10 +1,10 @@
 //! Matches, buckets, groups, rows and sections, each put after a text.
-ghost use Rattle.std.specs.Prelude.{◌≡◌, ◌++◌, not, codes, OnOk};
+ghost use Rattle.std.specs.Prelude.{◌≡◌, ◌++◌, ◌∷◌, not, codes, OnOk};
 ghost use Rattle.std.specs.List.{flat_map, list_any};
 ghost use Rattle.nk_table.specs.Rules.{rows_of};
 ghost use Rattle.nk_tabtext.specs.Text as text;
 ghost use Rattle.nk_tabtext.specs.Text.{is_tag, length_text, match_text, set_text, where_same, matches_text, sets_text, exit_text, bucket_text, target_text, row_text, group_text, rules_text, section_text, version_of, AreTablesFrom};
-ghost use Rattle.nk_tabtext.specs.Written.{own_rules_text, own_section_text, switch_line_text};
+ghost use Rattle.nk_tabtext.specs.Written.{own_rules_text, switch_line_text};
 
 use crate::{number, short};
 use nk_field::{Fid, Fields};
@@ -41,8 +41,20 @@ fn some_prefix(fs: &Fields, ms: &[(Fid, u64, u8)]) -> bool
     false
 }
 
+/// Whether some match of a row is a prefix, one of which stands by itself between those before it and those after it.
+pub(crate) fn some_parted_prefix(
+    fs: &Fields,
+    before: &[(Fid, u64, u8)],
+    between: &(Fid, u64, u8),
+    after: &[(Fid, u64, u8)],
+) -> bool
+    ensures { result ≡ list_any (λ m. not (text.is_exact fs.now m)) (before.now ++ between.now ∷ after.now) }
+{
+    some_prefix(fs, before) || !is_exact(fs, between) || some_prefix(fs, after)
+}
+
 /// Whether some match of these rows is a prefix.
-pub(crate) fn have_prefix(fs: &Fields, rows: &[Row]) -> bool
+fn have_prefix(fs: &Fields, rows: &[Row]) -> bool
     ensures { result ≡ text.have_prefix fs.now rows.now }
 {
     for row in rows {
@@ -255,6 +267,46 @@ fn row(out: &mut Vec<u8>, fs: &Fields, r: &Row) -> Result<(), AllocError>
     Ok(())
 }
 
+/// The line of a row, one of whose matches stands by itself between those before it and those after it.
+pub(crate) fn parted_row(
+    out: &mut Vec<u8>,
+    fs: &Fields,
+    priority: u16,
+    before: &[(Fid, u64, u8)],
+    between: &(Fid, u64, u8),
+    after: &[(Fid, u64, u8)],
+    what: &Target,
+) -> Result<(), AllocError>
+    ensures { OnOk result (out.new.items ≡ out.old.items ++ row_text fs.now
+        (record { priority = priority; matches = before.now ++ between.now ∷ after.now; target = what.now })) }
+{
+    short::row_word(out)?;
+    number(out, priority as u64)?;
+    short::colon(out)?;
+    parted_matches(out, fs, before, between, after, true)?;
+    parted_matches(out, fs, before, between, after, false)?;
+    short::arrow(out)?;
+    target(out, fs, what)?;
+    out.push(b'\n')?;
+    Ok(())
+}
+
+/// The matches of the tag, or the other ones, where one stands by itself between those before it and those after it.
+fn parted_matches(
+    out: &mut Vec<u8>,
+    fs: &Fields,
+    before: &[(Fid, u64, u8)],
+    between: &(Fid, u64, u8),
+    after: &[(Fid, u64, u8)],
+    tag: bool,
+) -> Result<(), AllocError>
+    ensures { OnOk result (out.new.items ≡ out.old.items ++ matches_text fs.now tag (before.now ++ between.now ∷ after.now)) }
+{
+    some_matches(out, fs, before, tag)?;
+    match_if(out, fs, between, tag)?;
+    some_matches(out, fs, after, tag)
+}
+
 /// The buckets of a group, a space before each.
 fn spaced(out: &mut Vec<u8>, fs: &Fields, bs: &[Bucket]) -> Result<(), AllocError>
     ensures { OnOk result (out.new.items ≡ out.old.items ++ flat_map (λ b. codes " " ++ bucket_text fs.now b) bs.now) }
@@ -279,7 +331,7 @@ fn group(out: &mut Vec<u8>, fs: &Fields, g: &Group) -> Result<(), AllocError>
 }
 
 /// The groups of a switch.
-fn groups(out: &mut Vec<u8>, fs: &Fields, gs: &[Group]) -> Result<(), AllocError>
+pub(crate) fn groups(out: &mut Vec<u8>, fs: &Fields, gs: &[Group]) -> Result<(), AllocError>
     ensures { OnOk result (out.new.items ≡ out.old.items ++ flat_map (group_text fs.now) gs.now) }
 {
     for g in gs {
@@ -319,7 +371,7 @@ fn own_rules(out: &mut Vec<u8>, fs: &Fields, table: &Table) -> Result<(), AllocE
 }
 
 /// The first line of a switch's table.
-fn switch_line(out: &mut Vec<u8>, sw: u16) -> Result<(), AllocError>
+pub(crate) fn switch_line(out: &mut Vec<u8>, sw: u16) -> Result<(), AllocError>
     ensures { OnOk result (out.new.items ≡ out.old.items ++ switch_line_text sw) }
 {
     out.extend_from_slice(b"table ")?;
@@ -339,12 +391,4 @@ pub(crate) fn section(
 {
     switch_line(out, sw)?;
     rules(out, fs, tables, sw)
-}
-
-/// A table with its first line.
-pub(crate) fn own_section(out: &mut Vec<u8>, fs: &Fields, table: &Table) -> Result<(), AllocError>
-    ensures { OnOk result (out.new.items ≡ out.old.items ++ own_section_text fs.now table.now) }
-{
-    switch_line(out, table.switch)?;
-    own_rules(out, fs, table)
 }

@@ -1,26 +1,31 @@
-//! The text of tables, table by table.
-ghost use Rattle.std.specs.Prelude.{◌≡◌, ℕ, ◌++◌, ◌∷◌, ◌||◌, [], List, map, IfOk, OnOk};
+//! The text of tables, row by row.
+ghost use Rattle.std.specs.Prelude.{◌≡◌, ◌≤◌, ℕ, ◌++◌, ◌∷◌, ◌||◌, not, [], List, map, length, take, drop, IfOk, OnOk};
+ghost use Rattle.std.specs.List.{flat_map, list_any};
 ghost use Rattle.nk_field.specs.Packet.{FieldTable};
 ghost use Rattle.nk_topo.specs.Topology.{Topology, IsTopology};
 ghost use Rattle.nk_table.specs.declared.Table.{Table};
-ghost use Rattle.nk_tabtext.specs.Text.{have_prefix, table_bytes, version_text};
-ghost use Rattle.nk_tabtext.specs.Written.{HasWritten, version_with};
+ghost use Rattle.nk_table.specs.declared.Row.{Row};
+ghost use Rattle.nk_tabtext.specs.Text.{group_text, have_prefix, is_exact, table_bytes, version_text};
+ghost use Rattle.nk_tabtext.specs.Written.{HasWritten, IsWriting, version_with};
 
 use crate::{head, rules};
-use nk_field::Fields;
-use nk_table::Table;
+use nk_field::{Fid, Fields};
+use nk_table::{Group, Table, Target};
 use nk_topo::Topo;
 use std::alloc::{AllocError, Global};
 
-/// A text of tables that is written table by table, so that nobody has to keep the rows of all. The tables are to come in the
-/// order of the topology's switches, one for each; then the text is that of all of them. Groups, matches and assignments are
-/// written as they stand. The only error is that memory ran out; the text may end anywhere then.
+/// A text of tables that is written row by row, so that nobody has to keep rows. Each table is begun, its rows are put, and it is
+/// ended with its groups. The tables are to come in the order of the topology's switches, one for each; then the text is that of
+/// all of them. Groups, matches and assignments are written as they stand. The only error is that memory ran out; the text may end
+/// anywhere then.
 #[derive(Drop)]
 pub struct TableWriter<'a> {
     fields: &'a Fields,
     text: Vec<u8>,
     /// Whether some match so far is a prefix.
     prefixes: bool,
+    /// Where the rows of the table that was begun last begin in the text.
+    start: usize,
 }
 
 /// The place of the version's digit in the first line.
@@ -46,29 +51,90 @@ impl<'a> TableWriter<'a> {
             fields,
             text,
             prefixes: false,
+            start: 0,
         })
     }
 
-    /// Puts the table of one more switch after it.
-    pub fn write(&mut self, table: &Table) -> Result<(), AllocError>
+    /// Begins the table of one more switch: its rows come one by one, and then its groups.
+    pub fn begin_table(&mut self, switch: u16) -> Result<(), AllocError>
         ensures { (fields : FieldTable) (topo : Topology) (tables : List Table) → HasWritten fields topo tables self.old
-            → OnOk result (HasWritten fields topo (tables ++ table.now ∷ []) self.new) }
+            → OnOk result (IsWriting fields topo tables switch [] self.new) }
     {
-        self.tell_prefixes(table);
-        rules::own_section(&mut self.text, self.fields, table)
+        rules::switch_line(&mut self.text, switch)?;
+        self.start = self.text.len();
+        Ok(())
     }
 
-    /// The first line tells of the prefixes of one more table.
-    fn tell_prefixes(&mut self, table: &Table)
+    /// Puts one more row of the table that was begun: its priority, its matches, of which one stands by itself between those before
+    /// it and those after it, and what it does.
+    pub fn put_row(
+        &mut self,
+        priority: u16,
+        before: &[(Fid, u64, u8)],
+        between: (Fid, u64, u8),
+        after: &[(Fid, u64, u8)],
+        target: &Target,
+    ) -> Result<(), AllocError>
+        ensures { (fields : FieldTable) (topo : Topology) (tables : List Table) (sw : ℕ) (rows : List Row)
+            → IsWriting fields topo tables sw rows self.old → OnOk result (IsWriting fields topo tables sw
+            (rows ++ record { priority = priority; matches = before.now ++ between ∷ after.now; target = target.now } ∷ []) self.new) }
+    {
+        self.tell_matches(before, &between, after);
+        rules::parted_row(
+            &mut self.text,
+            self.fields,
+            priority,
+            before,
+            &between,
+            after,
+            target,
+        )
+    }
+
+    /// The first line tells of the prefixes of one more row.
+    fn tell_matches(
+        &mut self,
+        before: &[(Fid, u64, u8)],
+        between: &(Fid, u64, u8),
+        after: &[(Fid, u64, u8)],
+    )
         ensures fields { self.new.fields.now ≡ self.old.fields.now }
-        ensures prefixes { self.new.prefixes ≡ (self.old.prefixes || have_prefix self.old.fields.now table.now.rows) }
+        ensures start { self.new.start ≡ self.old.start }
+        ensures prefixes { self.new.prefixes
+            ≡ (self.old.prefixes || list_any (λ m. not (is_exact self.old.fields.now m)) (before.now ++ between.now ∷ after.now)) }
         ensures text { (rest : List ℕ) → self.old.text.items ≡ version_text (version_with self.old.prefixes) ++ rest
             → self.new.text.items ≡ version_text (version_with self.new.prefixes) ++ rest }
     {
-        if !self.prefixes && rules::have_prefix(self.fields, table.rows.as_slice()) {
+        if !self.prefixes && rules::some_parted_prefix(self.fields, before, between, after) {
             self.prefixes = true;
             set_second(&mut self.text);
         }
+    }
+
+    /// Ends the table that was begun, with its groups.
+    pub fn end_table(&mut self, groups: &[Group]) -> Result<(), AllocError>
+        ensures { (fields : FieldTable) (topo : Topology) (tables : List Table) (sw : ℕ) (rows : List Row)
+            → IsWriting fields topo tables sw rows self.old → OnOk result (HasWritten fields topo
+            (tables ++ record { switch = sw; groups = groups.now; rows = rows } ∷ []) self.new) }
+    {
+        if groups.is_empty() {
+            return Ok(());
+        }
+        self.put_groups(groups)
+    }
+
+    /// Puts groups in front of the rows of the table that was begun.
+    fn put_groups(&mut self, groups: &[Group]) -> Result<(), AllocError>
+        ensures fields { OnOk result (self.new.fields.now ≡ self.old.fields.now) }
+        ensures prefixes { OnOk result (self.new.prefixes ≡ self.old.prefixes) }
+        ensures text { self.old.start ≤ length self.old.text.items → OnOk result (self.new.text.items ≡ take self.old.start self.old.text.items
+            ++ flat_map (group_text self.old.fields.now) groups.now ++ drop self.old.start self.old.text.items) }
+    {
+        let place = self.start.min(self.text.len());
+        let rows = self.text.split_off(place)?;
+        rules::groups(&mut self.text, self.fields, groups)?;
+        self.text.extend_from_slice(rows.as_slice())?;
+        Ok(())
     }
 
     /// The whole text.
@@ -81,6 +147,7 @@ impl<'a> TableWriter<'a> {
             fields: _,
             text,
             prefixes: _,
+            start: _,
         } = self;
         text
     }

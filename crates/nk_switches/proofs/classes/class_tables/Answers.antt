@@ -35,13 +35,13 @@ pub returns : goal.returns
 returns c = λ tag is.
     let made = c.in_ok-all_tables.ensures.tables in
     let same = same_some c.in-Some.tag tag (sym c.in-Some.is ∙ c.tag.ensures.is ∙ is) in
-    let kept = made.1 ∙ ap (λ l. l ++ made.0) c.new-tables.ensures in
+    let kept = c.into_tables.ensures ∙ made.1 ∙ ap (λ l. l ++ made.0) c.new-tables.ensures in
     class_tables_are c.args.st.now c.all_class_states.new.st c.args.ss.now c.all_class_states.new.ss c.args.states.now c.args.tags.now c.args.classes.now tag c.all_class_states.ensures.grows
     c.all_class_states.ensures.sets c.requires.states c.requires.known c.differ.ensures.differ c.differ.ensures.ascend c.as_slice.result.now
     (subst (IsTagTable (length c.args.tags.now) c.all_class_states.new.ss c.args.tags.now) (sym c.as_slice.ensures) c.in_ok-by_tag.ensures)
-    c.args.stops.now c.as_slice-3.result.now c.all_tables.new.sink (c.requires.stops tag is)
+    c.args.stops.now c.as_slice-3.result.now c.into_tables.result (c.requires.stops tag is)
     (subst (λ f. Matched (AreClassStates c.all_class_states.new.st c.all_class_states.new.ss c.args.states.now c.args.tags.now f) c.args.stops.now c.as_slice-3.result.now) same
     (subst (Matched (AreClassStates c.all_class_states.new.st c.all_class_states.new.ss c.args.states.now c.args.tags.now c.in-Some.tag) c.args.stops.now) (sym c.as_slice-3.ensures) c.in_ok-class_states.ensures.tag_states))
-    (subst (λ table. Matched (IsTableBy c.all_class_states.new.st table tag) c.as_slice-3.result.now c.all_tables.new.sink) (c.as_slice-2.ensures ∙ c.in_ok-table.ensures)
+    (subst (λ table. Matched (IsTableBy c.all_class_states.new.st table tag) c.as_slice-3.result.now c.into_tables.result) (c.as_slice-2.ensures ∙ c.in_ok-table.ensures)
     (subst (Matched (IsTableBy c.all_class_states.new.st c.as_slice-2.result.now tag) c.as_slice-3.result.now) (sym kept)
     (made.2 tag (c.all_class_states.ensures.grows.tag ∙ is))))

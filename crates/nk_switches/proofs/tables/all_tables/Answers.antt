@@ -18,15 +18,16 @@ switch_table-requires-clause-printable g c = λ tag is.
 
 pub loop-s-preserved : goal.loop-s-preserved
 loop-s-preserved g c =
-    let so = c.loop-s.invariant.made in record {
+    let so = c.loop-s.invariant.made in
+    let one = c.in_ok-switch_table.ensures.table in record {
       grows = grows_on _ _ _ c.loop-s.invariant.grows c.switch_table.ensures.grows;
       made = (
-        so.0 ++ c.in_ok-t.t ∷ [],
-        g.met.S.TableSink.joined c.args.sink.now c.loop-s.sink c.take.new.self so.0 (c.in_ok-t.t ∷ []) so.1 c.in_ok-take.ensures,
+        so.0 ++ one.0 ∷ [],
+        g.met.S.TableSink.joined c.args.sink.now c.loop-s.sink c.switch_table.new.sink so.0 (one.0 ∷ []) so.1 one.1,
         λ tag is.
-            tables_more c.args.st.now c.loop-s.st c.args.table.now tag c.args.all.now c.loop-s.s-index c.s-item.result c.in_ok-t.t so.0 _ c.loop-s.invariant.grows
+            tables_more c.args.st.now c.loop-s.st c.args.table.now tag c.args.all.now c.loop-s.s-index c.s-item.result one.0 so.0 _ c.loop-s.invariant.grows
             c.loop-s-test.true c.s-item.is refl
             (all_at (ArePrintableStates c.args.st.now tag) c.args.all.now c.args.all.now c.loop-s.s-index c.s-item.result (c.requires.printable tag is) refl c.loop-s-test.true c.s-item.is)
-            (c.in_ok-t.ensures.table tag (c.loop-s.invariant.grows.tag ∙ is)) (so.2 tag is),
+            (one.2 tag (c.loop-s.invariant.grows.tag ∙ is)) (so.2 tag is),
       );
     }

@@ -1,13 +1,13 @@
 use Rattle.std.proofs.Common.{◌∙◌}
-use Rattle.std.proofs.lemmas.Result.{IfOk-weaker}
+use Rattle.std.proofs.lemmas.Result.{on_ok_weaker}
 use Rattle.nk_switches.proofs.Trees.{retarget_printable, tree_of_rows, frame_grown}
 use Rattle.nk_switches.proofs.tables.tag_rows.Goals as goal
 
 pub retarget-requires : goal.retarget-requires
-retarget-requires c = (c.requires.printable c.requires.frame.0 c.requires.frame.1).id
+retarget-requires g c = (c.requires.printable c.requires.frame.0 c.requires.frame.1).id
 
-pub rows_of-requires-clause-frame : goal.rows_of-requires-clause-frame
-rows_of-requires-clause-frame c =
+pub rows_to-requires-clause-frame : goal.rows_to-requires-clause-frame
+rows_to-requires-clause-frame g c =
     let tag = c.requires.frame.0 in
     let is = c.requires.frame.1 in (
       tag,
@@ -18,9 +18,13 @@ rows_of-requires-clause-frame c =
     )
 
 pub returns-clause-rows : goal.returns-clause-rows
-returns-clause-rows c =
-    IfOk-weaker c.rows_of.result _ _
-    (λ rows k tag is.
-    tree_of_rows c.args.st.now c.retarget.new.st c.args.table.now c.args.state.diagram c.in_ok-d.d c.retarget.ensures.grows c.in_ok-d.ensures.ok tag c.args.sw c.args.state.tag rows.items
-    (k tag (c.retarget.ensures.grows.tag ∙ is)))
-    c.rows_of.ensures
+returns-clause-rows g c =
+    on_ok_weaker c.rows_to.result
+    (λ put. (
+      put.0,
+      put.1,
+      λ tag is.
+          tree_of_rows c.args.st.now c.retarget.new.st c.args.table.now c.args.state.diagram c.in_ok-d.d c.retarget.ensures.grows c.in_ok-d.ensures.ok tag c.args.sw c.args.state.tag put.0
+          (put.2 tag (c.retarget.ensures.grows.tag ∙ is)),
+    ))
+    c.rows_to.ensures

@@ -8,8 +8,8 @@ use nk_store::Out;
 use nk_table::{Bucket, Exit};
 use std::alloc::{AllocError, Global};
 
-/// The buckets of a leaf's outs, in their order.
-pub(crate) fn buckets(alloc: Global, tag: Fid, outs: &[Out]) -> Result<List<Bucket>, AllocError>
+/// The buckets of a leaf's outs, in their order. The only error is that memory ran out.
+pub fn buckets(alloc: Global, tag: Fid, outs: &[Out]) -> Result<List<Bucket>, AllocError>
     ensures { IfOk result (λ bs. bs ≡ bucket_list tag outs.now) }
 {
     let mut all = List::with_capacity(alloc, outs.len())?;
@@ -20,8 +20,9 @@ pub(crate) fn buckets(alloc: Global, tag: Fid, outs: &[Out]) -> Result<List<Buck
     Ok(all)
 }
 
-/// The bucket of an out: its assignments but the port's, then its target as the tag, and its port.
-fn bucket(alloc: Global, tag: Fid, out: &Out) -> Result<Bucket, AllocError>
+/// The bucket of an out: its assignments but the port's, then its target as the tag, and its port. The
+/// only error is that memory ran out.
+pub fn bucket(alloc: Global, tag: Fid, out: &Out) -> Result<Bucket, AllocError>
     ensures { IfOk result (λ b. b ≡ bucket_for tag out.now) }
 {
     let exit = exit(out.act.as_slice());
