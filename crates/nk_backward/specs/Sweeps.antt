@@ -20,8 +20,7 @@ IsLedOut st s q all i z = (i ≡ s) × (is_in st q.packets z ≡ true) × ((u : 
 abbrev pub IsLedBy : StoreState → Transitions → ℕ → List (ℕ × ℕ) → ℕ → List ℕ → Type 0
 IsLedBy st t k all i z = (i ≡ t.source) × ((u : ℕ) × (g : List (ℕ × ℕ)) × GivesOut st t.outs 0 k z (sent_to g (u + 1)) × Under st all u (applied g z))
 
--- the entries have come to have the packets from where the transitions lead into them, and these are all of the old ones if none
--- came
+-- the entries have gained the packets from where the transitions lead into the old ones, and if the bool is true, none came
 abbrev pub IsTakenBack : StoreState → Transitions → List (ℕ × ℕ) → StoreState → List (ℕ × ℕ) → Bool → Type 0
 IsTakenBack st t old new all none =
     (next : List (ℕ × ℕ)) × IsGained st (IsLedBy st t (length t.outs) old) old [] new all next × (none ≡ true → next ≡ [])

@@ -11,9 +11,10 @@ use std::collections::HashMap;
 /// When a search left a place: the place that the search began at, and 1 + its turn, or 0 where no search met the place.
 pub(crate) type Rank = (usize, usize);
 
-/// The places of all transitions, each once with its rank, in post-order: depth-first searches, each from the first place that none
+/// The places of all transitions with their ranks, in post-order. Depth-first searches, each from the first place that no search
 /// before it met, go from a place to where its transitions lead, and leave that first where they haven't met it before. So most
-/// transitions lead to earlier places. The only error is that memory ran out.
+/// transitions lead to earlier places. That every place is there, and no other, is promised; the order isn't. The only error is
+/// that memory ran out.
 pub(crate) fn in_postorder(
     alloc: Global,
     ts: &List<Transitions>,

@@ -24,8 +24,8 @@ use std::alloc::AllocError;
 /// How often all transitions are swept at most.
 const SWEEPS: usize = 4;
 
-/// Adds packets from where transitions lead into the entries, by a few sweeps in post-order, and answers whether none is missing
-/// then. The only error is that memory ran out.
+/// Adds packets from where transitions lead into the entries, by a few sweeps in post-order. The answer is true only if none is
+/// missing then; it is false where the last sweep still added some. The only error is that memory ran out.
 pub(crate) fn sweep_some(
     st: &mut Store,
     ts: &List<Transitions>,
@@ -47,7 +47,7 @@ pub(crate) fn sweep_some(
     Ok(false)
 }
 
-/// Takes the entries back along the transitions of each place in turn, and answers whether no packet came.
+/// Takes the entries back along the transitions of each place in turn. The answer is true only if no packet came.
 fn sweep(
     st: &mut Store,
     ts: &List<Transitions>,
@@ -78,7 +78,7 @@ fn both_hold(a: bool, b: bool) -> bool
     a && b
 }
 
-/// Takes the entries back along the transitions of one place, and answers whether no packet came.
+/// Takes the entries back along the transitions of one place. The answer is true only if no packet came.
 fn sweep_one(
     st: &mut Store,
     t: &Transitions,
