@@ -83,7 +83,7 @@ exact c bytes (policy_refused t) k = record {
   differs_only = λ e. absurd (subst IsNeither e tt);
 }
 
--- want of memory is neither
+-- running out of memory is neither
 exact_no_memory : (c : Command) (bytes : List ℕ) (s : Status) → s ≡ NoMemory → IsStatusOf c bytes s
 exact_no_memory c bytes s e = record {
   done = λ d. inr e;

@@ -131,7 +131,7 @@ pub record EndsFixed (words : List (List ℕ)) (source out err : Use) (s : Statu
   pub status : s ≡ answer.status
   pub sent : IsSentWhole answer out err
 
--- where no count rose, the run ends with the answer that is fixed, or for want of memory
+-- where no count rose, the run ends with the answer that is fixed, or because memory ran out
 abbrev pub IsComplete : List (List ℕ) → Use → Use → Use → Status → Type 0
 IsComplete words source out err s = ¬ HasRisen source → ¬ HasRisen out → ¬ HasRisen err
     → (s ≡ NoMemory) ⊎ EndsFixed words source out err s

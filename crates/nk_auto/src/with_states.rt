@@ -213,8 +213,8 @@ fn both_all(st: &mut Store, ps: &[Pol], nothing: Id) -> Result<BothWays, AllocEr
     Ok(following)
 }
 
-/// The states of a policy's dups alone, as `continued_with_states` writes them; nothing is drawn where no dup has a place. The first
-/// part of a sequence isn't drawn where it has no dup.
+/// Writes the states of a policy's dups alone, as `continued_with_states` writes them. If the list of states is empty, no diagram is
+/// made. If the first part of a sequence has no dup, no diagram is made of it.
 #[cycle(with_states)]
 #[tactic(auto, using(nk_policy::proofs::Trees::tree_of_sum, nk_policy::proofs::Trees::tree_of_seq, crate::proofs::Writing::test_written, crate::proofs::Writing::range_written, crate::proofs::Writing::set_written, crate::proofs::Writing::not_written))]
 fn write_states(

@@ -8,7 +8,7 @@ use Rattle.nk_cert.specs.declared.compared.Compared.{Compared}
 use Rattle.nk_bisim.specs.declared.answer.CompareError.{CompareError}
 use Rattle.nk_bisim.specs.declared.answer.CompareError.TheVariants.{NoMemory, NoPolicy}
 
--- both names are policies', which compare so; or one of them is none; want of memory says nothing
+-- both names are policies', which compare so; or one of them is none; running out of memory says nothing
 abbrev pub IsCompared : Program → List ℕ → List ℕ → Result Compared CompareError → Type 0
 IsCompared program left right (Ok r) =
     (p : Policy) × (q : Policy) × (policy_named program left ≡ Some p) × (policy_named program right ≡ Some q) × IsComparison program.fields p q r

@@ -28,7 +28,7 @@ pub fn compare(
     }
 }
 
-/// The same of a program whose policies are let go once both are written out, and the program's fields.
+/// The same of a program whose policies are dropped once both are written out, and the program's fields.
 pub fn compare_owned_program(
     alloc: Global,
     program: Program,

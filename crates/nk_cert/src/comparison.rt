@@ -47,7 +47,7 @@ pub fn compare_policies(
     compare_by_levels(&mut st, &both, bound as usize)
 }
 
-/// The same of policies that are let go once their automaton is made. The right one's dups are numbered on from the left one's
+/// The same of policies that are dropped once their automaton is made. The right one's dups are numbered on from the left one's
 /// already, and the answer is that of each policy that is the right one once it is so numbered.
 pub fn compare_owned(alloc: Global, fields: &Fields, p: Pol, q: Pol) -> Result<Compared, AllocError>
     requires numbered { marked_from (tree_of p) 1 ≡ tree_of p }
@@ -66,7 +66,7 @@ pub fn compare_owned(alloc: Global, fields: &Fields, p: Pol, q: Pol) -> Result<C
 }
 
 /// The automaton of two policies together, the dups of the left one numbered from 1 on and those of the right one on from
-/// there. Both are let go once it is made. The only error is that memory ran out.
+/// there. Both are dropped once it is made. The only error is that memory ran out.
 pub fn owned_automaton(st: &mut Store, p: Pol, q: Pol) -> Result<Both, AllocError>
     requires left { marked_from (tree_of p) 1 ≡ tree_of p }
     requires right { marked_from (tree_of q) (1 + dups_of (tree_of p)) ≡ tree_of q }

@@ -112,13 +112,13 @@ abbrev pub HasStartRow : List Row → Type 0
 HasStartRow [] = ⊥
 HasStartRow (row ns t line ∷ later) = ns ≡ []
 
--- this is the fault of what is wanted; want of memory may come at any
+-- this is the fault of what is wanted; memory may run out at any point
 abbrev pub IsCertFault : {X : Type 0} → CertError → Result X CertError → Type 0
 IsCertFault NoMemory wanted = ⊤
 IsCertFault (CertFault line) wanted = wanted ≡ Err (CertFault line)
 IsCertFault (Fault kind line) wanted = wanted ≡ Err (Fault kind line)
 
--- what is returned is what is wanted, seen so, or want of memory
+-- what is returned is what is wanted, seen so, or that memory ran out
 abbrev pub CertReturns : {X Y : Type 0} → (X → Y) → Result X CertError → Result Y CertError → Type 0
 CertReturns view (Ok x) wanted = wanted ≡ Ok (view x)
 CertReturns view (Err e) wanted = IsCertFault e wanted

@@ -51,7 +51,7 @@ text_of_written (Err e) = Err (grammar_fault e)
 abbrev pub text_of_tokens : List Token → Result (DeclaredProgram × CertificateValue) TextError
 text_of_tokens ts = text_of_written (certified_of ts)
 
--- this is the fault of what is wanted; want of memory may come at any
+-- this is the fault of what is wanted; memory may run out at any point
 abbrev pub IsTextFault : {X : Type 0} → TextError → Result X TextError → Type 0
 IsTextFault NoMemory wanted = ⊤
 IsTextFault (Unexpected line) wanted = wanted ≡ Err (Unexpected line)
@@ -59,7 +59,7 @@ IsTextFault (TooDeep line) wanted = wanted ≡ Err (TooDeep line)
 IsTextFault (Fault kind line) wanted = wanted ≡ Err (Fault kind line)
 IsTextFault (CertFault line) wanted = wanted ≡ Err (CertFault line)
 
--- what is returned is what is wanted, seen so, or want of memory
+-- what is returned is what is wanted, seen so, or that memory ran out
 abbrev pub ReturnsText : {X Y : Type 0} → (X → Y) → Result X TextError → Result Y TextError → Type 0
 ReturnsText view (Ok x) wanted = wanted ≡ Ok (view x)
 ReturnsText view (Err e) wanted = IsTextFault e wanted

@@ -10,7 +10,7 @@ use nk_names::{FaultKind, NamesError};
 use std::alloc::AllocError;
 use thiserror::Error;
 
-/// The first fault of a certificate's rows, or want of memory.
+/// The first fault of a certificate's rows, or that memory ran out.
 #[derive(Clone, Copy, Debug, PartialEq, Eq, Error)]
 pub enum CertError {
     /// Memory ran out.
@@ -51,7 +51,7 @@ impl From<NamesError> for CertError {
     }
 }
 
-/// The first fault of a text with a certificate, or want of memory: that of the grammar, else that of the declarations, else that
+/// The first fault of a text with a certificate, or that memory ran out: that of the grammar, else that of the declarations, else that
 /// of the rows.
 #[derive(Clone, Copy, Debug, PartialEq, Eq, Error)]
 pub enum TextError {

@@ -36,7 +36,7 @@ StandsFor Text left right bytes = (line : List ℕ) × HasFault bytes line
 StandsFor Refused left right bytes = LackPolicy left right bytes
 StandsFor s left right bytes = ⊥
 
--- the bytes are what the status stands for, and of bytes that a status stands for it is the one, but for want of memory
+-- the bytes are what the status stands for, and of bytes that a status stands for it is the one, unless memory ran out
 pub record IsImpactStatus (left right bytes : List ℕ) (s : Status) : Type 0 where
   pub stands : (s ≡ NoMemory) ⊎ StandsFor s left right bytes
   pub comes : (t : Status) → StandsFor t left right bytes → (s ≡ t) ⊎ (s ≡ NoMemory)

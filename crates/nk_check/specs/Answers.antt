@@ -13,7 +13,7 @@ use Rattle.nk_cert.specs.Values.{finding_of}
 
 -- both names are policies', and this is found of the certificate of the two, the dups of the second one numbered on from
 -- those of the first; where that is that it is valid, both policies give the same histories on every packet in range; or one of
--- them is none; want of memory says nothing
+-- them is none; running out of memory says nothing
 abbrev pub IsChecked : Program → List ℕ → List ℕ → CertificateValue → Result Verdict CheckError → Type 0
 IsChecked program left right c (Ok v) =
     (p : Policy) × (q : Policy) × (policy_named program left ≡ Some p) × (policy_named program right ≡ Some q) × IsFinding program.fields p (marked_from q (1 + dups_of p)) c (finding_of v)

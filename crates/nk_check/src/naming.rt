@@ -43,7 +43,7 @@ pub fn check(
     }
 }
 
-/// The same of a program whose policies are let go once both are written out.
+/// The same of a program whose policies are dropped once both are written out.
 pub fn check_owned(
     alloc: Global,
     program: Program,
@@ -64,7 +64,7 @@ pub fn check_owned(
     }
 }
 
-/// What is found of a certificate of two policies, the right one's dups numbered on from the left one's. Both are let go once their
+/// What is found of a certificate of two policies, the right one's dups numbered on from the left one's. Both are dropped once their
 /// automaton is made.
 fn check_both(
     alloc: Global,

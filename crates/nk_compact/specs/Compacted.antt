@@ -76,7 +76,7 @@ IsCompactReason fields topo p (TooManyTags found) =
     (static_refusal fields topo p ≡ None) × EndsOnEdges fields topo p × (found ≡ most_tags fields fields.tag + 1) × HaveTagClasses fields topo p found
 IsCompactReason fields topo p r = IsReason fields topo p r
 
--- the reason for which a policy is refused; want of memory says nothing
+-- the reason for which a policy is refused; running out of memory says nothing
 abbrev pub IsCompactError : FieldTable → Topology → Policy → CompileError → Type 0
 IsCompactError fields topo p NoMemory = ⊤
 IsCompactError fields topo p (Refused r) = IsCompactReason fields topo p r
@@ -91,7 +91,7 @@ abbrev pub IsCompacted : Program → List ℕ → Compact → Type 0
 IsCompacted program name c =
     (p : Policy) × (policy_named program name ≡ Some p) × IsCompactOf program.fields program.topo p c × Carries program p c.tables
 
--- these, or why there are none; want of memory may come at any point
+-- these, or why there are none; memory may run out at any point
 abbrev pub AnswersCompact : Program → List ℕ → Result Compact CompileError → Type 0
 AnswersCompact program name (Ok c) = IsCompacted program name c
 AnswersCompact program name (Err NoMemory) = ⊤

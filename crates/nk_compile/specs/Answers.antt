@@ -19,7 +19,7 @@ pub record IsMade (fields : FieldTable) (topo : Topology) (p : Policy) (t : Tabl
   pub few : AtMost (most_tags fields fields.tag) (IsTagSet p (IsStartPacket fields topo))
   pub printed : IsTableOf fields topo (IsStartPacket fields topo) p t
 
--- the reason for which a policy is refused; want of memory says nothing
+-- the reason for which a policy is refused; running out of memory says nothing
 abbrev pub IsError : FieldTable → Topology → Policy → CompileError → Type 0
 IsError fields topo p NoMemory = ⊤
 IsError fields topo p (Refused r) = IsReason fields topo p r
@@ -29,7 +29,7 @@ abbrev pub IsPolicyAnswer : Program → Policy → Result Tables CompileError �
 IsPolicyAnswer program p (Ok t) = IsCompiledPolicy program p t
 IsPolicyAnswer program p (Err e) = IsError program.fields program.topo p e
 
--- why a name has no answer: the first reason to refuse it; want of memory may come at any
+-- why a name has no answer: the first reason to refuse it; memory may run out at any point
 abbrev pub IsNoAnswer : Program → List ℕ → CompileError → Type 0
 IsNoAnswer program name NoMemory = ⊤
 IsNoAnswer program name (Refused r) = IsRefused program name r

@@ -24,7 +24,7 @@ pub record IsMadePair (fields : FieldTable) (topo : Topology) (p q : Policy) (r 
   pub printed_old : IsTableOf fields topo (IsStartPacket fields topo) p r.old
   pub printed_new : IsTableAfter r.old_tags fields topo (IsStartPacket fields topo) q r.new
 
--- the reason for which two policies are refused; want of memory says nothing
+-- the reason for which two policies are refused; running out of memory says nothing
 abbrev pub IsPairError : FieldTable → Topology → Policy → Policy → CompileError → Type 0
 IsPairError fields topo p q NoMemory = ⊤
 IsPairError fields topo p q (Refused r) = IsPairReason fields topo p q r

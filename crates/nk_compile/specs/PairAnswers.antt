@@ -70,7 +70,7 @@ IsPairRefused program old new r =
     × (policy_named program new ≡ Some q)
     × IsPairReason program.fields program.topo p q r
 
--- the tables, or why there are none; want of memory may come at any point
+-- the tables, or why there are none; memory may run out at any point
 abbrev pub IsPairAnswer : Program → List ℕ → List ℕ → Result TablePair CompileError → Type 0
 IsPairAnswer program old new (Ok r) = IsCompiledPair program old new r
 IsPairAnswer program old new (Err NoMemory) = ⊤

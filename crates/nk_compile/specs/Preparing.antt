@@ -50,7 +50,7 @@ pub record IsNumberedByName (program : Program) (name : List ℕ) (n : Numbered)
   pub held : IsWellFormed program.fields policy
   pub numbered : IsNumberedPolicy program.fields program.topo policy n
 
--- why a policy is refused before its tags are numbered; want of memory says nothing
+-- why a policy is refused before its tags are numbered; running out of memory says nothing
 abbrev pub IsEarlyError : FieldTable → Topology → Policy → CompileError → Type 0
 IsEarlyError fields topo p NoMemory = ⊤
 IsEarlyError fields topo p (Refused NoPolicy) = ⊥

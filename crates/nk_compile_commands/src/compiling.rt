@@ -59,7 +59,7 @@ fn answer_to_program(
     }
 }
 
-/// The text of the printed tables of a program's policy. The program's policies are let go before the first table is made.
+/// The text of the printed tables of a program's policy. The program's policies are dropped before the first table is made.
 fn printed(alloc: Global, numbered: Numbered, program: Program) -> Result<Vec<u8>, AllocError>
     requires { (name : List ℕ) × IsNumberedByName program name numbered }
     ensures { (name : List ℕ) → IsNumberedByName program name numbered
@@ -69,7 +69,7 @@ fn printed(alloc: Global, numbered: Numbered, program: Program) -> Result<Vec<u8
     text_of(alloc, numbered, &fields, &topo)
 }
 
-/// The fields and the topology of a program. Its policies are let go.
+/// The fields and the topology of a program. Its policies are dropped.
 fn declarations(program: Program) -> (Fields, Topo)
     ensures fields { result.0 ≡ program.fields }
     ensures topo { result.1 ≡ program.topo }

@@ -140,17 +140,17 @@ declared_by ds = declared_after ds nothing_declared
 
 -- ---- what a call answers
 
--- this is the first fault; want of memory may come at any
+-- this is the first fault; memory may run out at any point
 abbrev pub IsFirstFault : DeclareError → MaybeFault → Type 0
 IsFirstFault NoMemory first = ⊤
 IsFirstFault (Fault k line) first = first ≡ Some (Fault k line)
 
--- this is the answer's fault; want of memory may come at any
+-- this is the answer's fault; memory may run out at any point
 abbrev pub IsDeclareFault : {X : Type 0} → DeclareError → Result X DeclareError → Type 0
 IsDeclareFault NoMemory wanted = ⊤
 IsDeclareFault (Fault k line) wanted = wanted ≡ Err (Fault k line)
 
--- what is returned is what is wanted, seen so, or want of memory
+-- what is returned is what is wanted, seen so, or that memory ran out
 abbrev pub DeclareReturns : {X Y : Type 0} → (X → Y) → Result X DeclareError → Result Y DeclareError → Type 0
 DeclareReturns view (Ok x) wanted = wanted ≡ Ok (view x)
 DeclareReturns view (Err e) wanted = IsDeclareFault e wanted

@@ -31,7 +31,7 @@ pub enum DeclareFault {
     ValueOutOfRange,
 }
 
-/// The first fault of a declaration, or want of memory.
+/// The first fault of a declaration, or that memory ran out.
 #[derive(Clone, Copy, Debug, PartialEq, Eq, Error)]
 pub enum DeclareError {
     /// Memory ran out.

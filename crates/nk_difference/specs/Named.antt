@@ -8,7 +8,7 @@ use Rattle.nk_difference.specs.declared.predicates.Difference.{Difference}
 use Rattle.nk_bisim.specs.declared.answer.CompareError.{CompareError}
 use Rattle.nk_bisim.specs.declared.answer.CompareError.TheVariants.{NoMemory, NoPolicy}
 
--- both names are policies', whose difference this is; or one of them is none; want of memory says nothing
+-- both names are policies', whose difference this is; or one of them is none; running out of memory says nothing
 abbrev pub IsNamedDifference : Program → List ℕ → List ℕ → Result Difference CompareError → Type 0
 IsNamedDifference program left right (Ok d) =
     (p : Policy) × (q : Policy) × (policy_named program left ≡ Some p) × (policy_named program right ≡ Some q) × IsDifferenceOf program.fields p q d

@@ -11,7 +11,7 @@ use nk_names::Program;
 use std::alloc::Global;
 
 /// Which packets two named policies of a program differ on, and the program's fields. A name that is no policy's is refused;
-/// the only other error is that memory ran out. The program's policies are let go once both are written out.
+/// the only other error is that memory ran out. The program's policies are dropped once both are written out.
 pub fn named_difference(
     alloc: Global,
     program: Program,

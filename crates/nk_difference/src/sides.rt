@@ -27,7 +27,7 @@ use std::alloc::{AllocError, Global};
 /// Which packets two policies differ on, exactly: the packets in range from which the left policy has a history that the right
 /// one hasn't, and the other way round. The left policy's dups are numbered from 1 on in text order, and the right one's go on
 /// from there; the answer is that of each policy that is the right one once it is so numbered. Each complement is of a
-/// predicate; tests, ranges and assignments are of the fields and their values. Both policies are let go once their automaton is
+/// predicate; tests, ranges and assignments are of the fields and their values. Both policies are dropped once their automaton is
 /// made. The only error is that memory ran out.
 pub fn difference(alloc: Global, fields: &Fields, p: Pol, q: Pol) -> Result<Difference, AllocError>
     requires numbered { marked_from (tree_of p) 1 ≡ tree_of p }

@@ -20,8 +20,8 @@ pub fn buckets(alloc: Global, tag: Fid, outs: &[Out]) -> Result<List<Bucket>, Al
     Ok(all)
 }
 
-/// The bucket of an out: its assignments but the port's, then its target as the tag, and its port. The
-/// only error is that memory ran out.
+/// The bucket of an out: its assignments without the port's, then its target as the tag, and then its port, or back where the
+/// act sets none. The only error is that memory ran out.
 pub fn bucket(alloc: Global, tag: Fid, out: &Out) -> Result<Bucket, AllocError>
     ensures { IfOk result (λ b. b ≡ bucket_for tag out.now) }
 {

@@ -32,8 +32,8 @@ struct Span {
     child: Id,
 }
 
-/// The rows of a diagram after the matches of a way, to which more are put and from which they are taken again. Where
-/// `shown` holds, each drop is printed.
+/// Puts the rows of a diagram to the sink. Each row has the matches of the path to the diagram in front of its own. The matches
+/// are as before afterwards. If `shown` holds, each drop is printed.
 #[cycle(walk)]
 pub(crate) fn walk<S: RowSink>(
     st: &Store,
@@ -55,7 +55,7 @@ pub(crate) fn walk<S: RowSink>(
     }
 }
 
-/// The rows of a choice after the matches of a way: those of the blocks ascending, and the else-child's last.
+/// Puts the rows of a choice, after the matches of a path: the rows of the blocks in ascending order, and the else-child's last.
 #[cycle(walk)]
 fn walk_case<S: RowSink>(
     st: &Store,
@@ -96,7 +96,7 @@ fn walk_case<S: RowSink>(
     walk(st, frame, other, matches, shown, sink)
 }
 
-/// The rows of a span's child, for each of its blocks after the matches of a way; none where it is the else-child.
+/// Puts the rows of a span's child, for each block of the span, after the matches of a path; none if it is the else-child.
 #[cycle(walk)]
 fn walk_span<S: RowSink>(
     st: &Store,
@@ -126,7 +126,7 @@ fn walk_span<S: RowSink>(
     walk_blocks(st, frame, &choice, child, all.as_slice(), matches, sink)
 }
 
-/// The rows of a child for each of these blocks after the matches of a way.
+/// Puts the rows of a child for each of these blocks, after the matches of a path.
 #[cycle(walk)]
 fn walk_blocks<S: RowSink>(
     st: &Store,
@@ -149,7 +149,7 @@ fn walk_blocks<S: RowSink>(
     Ok(())
 }
 
-/// The rows of a child for one block of values after the matches of a way.
+/// Puts the rows of a child for one block of values, after the matches of a path.
 #[cycle(walk)]
 fn walk_block<S: RowSink>(
     st: &Store,

@@ -190,7 +190,7 @@ rest_of_file (t ∷ ts) r line = and_then (judged t.line (read_one r (terminal_o
 abbrev pub file_of : List Token → Result (List Declaration) GrammarError
 file_of ts = rest_of_file ts first_reading 1
 
--- want of memory says nothing, any other fault is the one that is wanted
+-- running out of memory says nothing, any other fault is the one that is wanted
 abbrev pub ParseFails : {Y : Type 0} → GrammarError → Result Y GrammarError → Type 0
 ParseFails error.NoMemory wanted = ⊤
 ParseFails e wanted = wanted ≡ Err e

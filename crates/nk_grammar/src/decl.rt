@@ -127,7 +127,7 @@ impl Stage {
     }
 }
 
-/// Why tokens are no text: their first fault, or want of memory.
+/// Why tokens are no text: their first fault, or that memory ran out.
 #[derive(Clone, Copy, Debug, PartialEq, Eq, Error)]
 pub enum GrammarError {
     /// Memory ran out.

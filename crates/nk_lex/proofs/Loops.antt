@@ -125,7 +125,7 @@ left_at_fault bytes at first before from line ts e g w h =
 
 -- ---- what is answered
 
--- a fault that isn't want of memory is the text's
+-- a fault that isn't running out of memory is the text's
 pub fails_is : {Y : Type 0} (e : LexError) (read : Result Y LexError) → IsFaultOfText e → LexFails e read → read ≡ Err e
 fails_is error.NoMemory read f h = absurd f
 fails_is (error.BadByte line) read f h = h

@@ -26,7 +26,7 @@ pub struct Token {
     pub text: Bytes,
 }
 
-/// Why a text has no tokens: its first fault, or want of memory.
+/// Why a text has no tokens: its first fault, or that memory ran out.
 #[derive(Clone, Copy, Debug, PartialEq, Eq, Error)]
 pub enum LexError {
     /// Memory ran out.

@@ -154,12 +154,12 @@ program_of_names names = record {
 abbrev pub program_by : Program → DeclaredProgram
 program_by p = record { fields = p.fields; topo = p.topo; lets = p.lets; fabrics = p.fabrics; virtuals = p.virtuals }
 
--- a text has this fault; want of memory may come at any
+-- a text has this fault; memory may run out at any point
 abbrev pub IsNamesFault : {X : Type 0} → NamesError → Result X NamesError → Type 0
 IsNamesFault NoMemory wanted = ⊤
 IsNamesFault (Fault k line) wanted = wanted ≡ Err (Fault k line)
 
--- what is returned is what is wanted, seen so, or want of memory
+-- what is returned is what is wanted, seen so, or that memory ran out
 abbrev pub NamesReturns : {X Y : Type 0} → (X → Y) → Result X NamesError → Result Y NamesError → Type 0
 NamesReturns view (Ok x) wanted = wanted ≡ Ok (view x)
 NamesReturns view (Err e) wanted = IsNamesFault e wanted

@@ -43,7 +43,7 @@ pub enum FaultKind {
     TooLarge,
 }
 
-/// Why the declarations of a text make no program: their first fault, or want of memory.
+/// Why the declarations of a text make no program: their first fault, or that memory ran out.
 #[derive(Clone, Copy, Debug, PartialEq, Eq, Error)]
 pub enum NamesError {
     /// Memory ran out.

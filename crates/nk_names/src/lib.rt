@@ -106,7 +106,7 @@ impl Program {
         self.virtuals.as_slice()
     }
 
-    /// The fields and the topology. The policies are let go.
+    /// The fields and the topology. The policies are dropped.
     pub fn into_declarations(self) -> (Fields, Topo)
         ensures fields { result.0 ≡ self.fields }
         ensures topo { result.1 ≡ self.topo }
@@ -121,7 +121,7 @@ impl Program {
         (fields, topo)
     }
 
-    /// The fields. All else of the program is let go.
+    /// The fields. The rest of the program is dropped.
     pub fn into_fields(self) -> Fields
         ensures { result ≡ self.fields }
     {

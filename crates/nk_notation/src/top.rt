@@ -43,7 +43,7 @@ pub fn translate_by_words<S: Source, O: Sink, E: Sink>(
     // A fault is told only where a call failed.
     ensures faults { TellsFailedCalls (use_of S.left S.faults source.old source.new)
         (use_of O.taken O.faults out.old out.new) (use_of E.taken E.faults err.old err.new) result }
-    // A failed read is never taken for the end of the input, nor for want of memory: the run says so, or fails at saying so. The
+    // A failed read is never taken for the end of the input, nor for running out of memory: the run says so, or fails at saying so. The
     // source's count of faults was below its last value.
     ensures read_faults { S.faults source.old < S.faults source.new
         → IsDelivered (use_of E.taken E.faults err.old err.new) (codes "read fault\n") Status.ReadFault result }

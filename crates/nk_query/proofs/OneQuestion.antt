@@ -51,7 +51,7 @@ module _ (program other : Program) (same : program_by program ≡ program_by oth
       l
   never_lacks (waypoint name from middle target) (apart_of p a b) h l = h
 
-  -- nothing but want of memory keeps a question that can be made from being asked
+  -- a question that can be made is asked unless memory runs out
   pub no_cause : (asked : Asked) (x : Question) (cause : QueryError) → IsNamedQuestion program asked x → IsHindranceByName other asked cause → cause ≡ NoMemory
   no_cause asked x NoMemory h c = refl
   no_cause asked x NoPolicy h c = absurd (never_lacks asked x h.names c)

@@ -249,7 +249,7 @@ rest_of_text (t ∷ ts) r line = and_then (table_judged t.line (read_table_token
 abbrev pub written_of : List Token → Result WrittenTables ReadError
 written_of ts = rest_of_text ts first_table_reading 1
 
--- want of memory says nothing, any other fault is the one that is wanted
+-- running out of memory says nothing, any other fault is the one that is wanted
 abbrev pub TableParseFails : {Y : Type 0} → ReadError → Result Y ReadError → Type 0
 TableParseFails error.NoMemory wanted = ⊤
 TableParseFails e wanted = wanted ≡ Err e

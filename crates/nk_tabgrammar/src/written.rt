@@ -116,7 +116,7 @@ pub struct WrittenTables {
     pub tables: List<WrittenTable>,
 }
 
-/// Why a text has no tables: its first fault, or want of memory.
+/// Why a text has no tables: its first fault, or that memory ran out.
 #[derive(Clone, Copy, Debug, PartialEq, Eq, Error)]
 pub enum ReadError {
     /// Memory ran out.

@@ -76,7 +76,7 @@ real_ports : (before : List ℕ) (ps : List Number) → Real (ports_fault before
 real_ports before [] = real_none
 real_ports before (p ∷ ps) = real_first (port_fault before p) (ports_fault (before ++ p.value ∷ []) ps) (real_port before p) (real_ports (before ++ p.value ∷ []) ps)
 
--- a declaration's answer, where it is no want of memory
+-- a declaration's answer, where it isn't running out of memory
 abbrev IsRealAnswer : Result DeclaredValue DeclareError → Type 0
 IsRealAnswer (Err refused.NoMemory) = ⊥
 IsRealAnswer r = Unit {0}

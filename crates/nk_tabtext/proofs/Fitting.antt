@@ -102,7 +102,7 @@ module _ {Y : Type 0} (S : Y → PartialValue → Type 0) where
       on None = s
       on (Some l) = refl
 
--- a fault of declarations, which isn't want of memory
+-- a fault of declarations, which isn't running out of memory
 abbrev pub IsReal : MaybeFault → Type 0
 IsReal None = Unit {0}
 IsReal (Some refused.NoMemory) = ⊥

@@ -1,4 +1,4 @@
--- What compiling a name answers is one, but for want of memory.
+-- What compiling a name answers is one, unless memory ran out.
 use Rattle.std.proofs.Common.{◌≡◌, ℕ, ◌⊎◌, inl, inr, List, refl, sym, ap}
 use Rattle.std.specs.Prelude.{Result, Ok, Err}
 use Rattle.nk_names.specs.declared.Program.{Program}

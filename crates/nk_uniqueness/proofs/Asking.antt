@@ -54,7 +54,7 @@ module _ (program other : Program) (same : program_by program ≡ program_by oth
       let e = one_question program other same asked h.0 k.0 h.1 k.1 in
       true_false (sym k.2.0 ∙ sym (ap rest_are_predicates e) ∙ h.2)
 
-  -- beside want of memory there is one cause
+  -- besides running out of memory there is one cause
   pub one_cause : (asked : Asked) (a b : QueryError) → IsHindranceByName program asked a → IsHindranceByName other asked b
       → (a ≡ NoMemory) ⊎ ((b ≡ NoMemory) ⊎ (a ≡ b))
   one_cause asked NoMemory b h k = inl refl

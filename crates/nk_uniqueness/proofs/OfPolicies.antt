@@ -1,4 +1,4 @@
--- What compiling a policy answers is one, but for want of memory, whether it has a name or not.
+-- What compiling a policy answers is one, unless memory ran out, whether it has a name or not.
 use Rattle.std.proofs.Common.{◌≡◌, ℕ, ◌⊎◌, inl, inr, List, Some, refl, sym, ap, subst}
 use Rattle.std.specs.Prelude.{Result, Ok, Err}
 use Rattle.nk_field.specs.Packet.{FieldTable}

@@ -1,4 +1,4 @@
--- What compiling two names for an update answers is one, but for want of memory.
+-- What compiling two names for an update answers is one, unless memory ran out.
 use Rattle.std.proofs.Common.{◌≡◌, ℕ, ◌⊎◌, inl, inr, Some, List, length, refl, sym, ap, subst, ◌∙◌}
 use Rattle.std.specs.Prelude.{Result, Ok, Err}
 use Rattle.nk_policy.specs.Policy.{Policy}

@@ -52,7 +52,7 @@ pub fn check_reply<S: Source>(alloc: Global, left: &str, right: &str, source: &m
     judge_text(alloc, &NamedPair { left, right }, source)
 }
 
-/// What is found of a certificate over a program, whose policies are let go once both are written out.
+/// What is found of a certificate over a program, whose policies are dropped once both are written out.
 fn answer_to_certificate(
     alloc: Global,
     left: &str,

@@ -41,7 +41,7 @@ pub(crate) fn broken_message(
     found_message(alloc, b"broken\n", fields, &found.start, &found.history)
 }
 
-/// The message for a query that is refused. Of want of memory there is none.
+/// The message for a query that is refused. There is none for running out of memory.
 pub(crate) fn query_message(alloc: Global, cause: QueryError) -> Result<Vec<u8>, AllocError>
     ensures { IfOk result (λ v. TellsQuery cause v.items) }
 {

@@ -28,7 +28,7 @@ pub(crate) fn physical_size(
     Ok(replaced_size(links, ends, sizes.as_slice(), p))
 }
 
-/// How many elements the fabric of each virtual link has. Each is written out, and let go once it is measured.
+/// How many elements the fabric of each virtual link has. Each is written out, and dropped once it is measured.
 fn fabric_sizes(alloc: Global, links: &[VirtualLink]) -> Result<Vec<u64>, AllocError>
     ensures { IfOk result (λ sizes. sizes.items ≡ map fabric_size links.now) }
 {

@@ -39,7 +39,7 @@ found a words m r e faultless has reads =
     ∙ ap (λ x. subcommand_of x words) e in
     rw (none, ← rows) reads
 
--- an error that isn't want of memory has a kind, so there is a fault
+-- an error that isn't running out of memory has a kind, so there is a fault
 some_kind : (ks : Kinds) (e : Error) → (kind_of e ≡ OutOfMemory → ⊥) → HasKind ks e → (length ks == 0) ≡ false
 some_kind [] e n (inl h) = absurd (n h)
 some_kind [] e n (inr h) = absurd h
