@@ -48,19 +48,35 @@ pub enum Kind {
     CloseBracket,
 }
 
+/// Whether a name is this word. Nearly each name differs from a word in its length or its first two bytes, and then nothing is called
+/// to compare them.
+#[inline(always)]
+fn is_word(name: &[u8], word: &[u8]) -> bool
+    ensures { result ≡ bytes_eq name.now word.now }
+{
+    if name.len() != word.len() {
+        return false;
+    }
+    match (name, word) {
+        ([a, b, rest @ ..], [c, d, others @ ..]) => a == c && b == d && rest == others,
+        _ => name == word,
+    }
+}
+
 /// The kind of a keyword; of any other text that of a name.
 pub fn kind_of_name(name: &str) -> Kind
     ensures { result ≡ kind_of_name name.now }
 {
-    if name == "field" {
+    let name = name.as_bytes();
+    if is_word(name, b"field") {
         Kind::Field
-    } else if name == "tag" {
+    } else if is_word(name, b"tag") {
         Kind::Tag
-    } else if name == "switch" {
+    } else if is_word(name, b"switch") {
         Kind::Switch
-    } else if name == "ports" {
+    } else if is_word(name, b"ports") {
         Kind::Ports
-    } else if name == "link" {
+    } else if is_word(name, b"link") {
         Kind::Link
     } else {
         kind_past_declarations(name)
@@ -68,7 +84,7 @@ pub fn kind_of_name(name: &str) -> Kind
 }
 
 /// The kind of a text that is none of the first five keywords.
-fn kind_past_declarations(name: &str) -> Kind
+fn kind_past_declarations(name: &[u8]) -> Kind
     ensures { result ≡ (if bytes_eq name.now (codes "let") then kind.Let
         else if bytes_eq name.now (codes "certificate") then kind.Certificate
         else if bytes_eq name.now (codes "row") then kind.Row
@@ -86,15 +102,15 @@ fn kind_past_declarations(name: &str) -> Kind
         else if bytes_eq name.now (codes "by") then kind.By
         else kind.Name) }
 {
-    if name == "let" {
+    if is_word(name, b"let") {
         Kind::Let
-    } else if name == "certificate" {
+    } else if is_word(name, b"certificate") {
         Kind::Certificate
-    } else if name == "row" {
+    } else if is_word(name, b"row") {
         Kind::Row
-    } else if name == "start" {
+    } else if is_word(name, b"start") {
         Kind::Start
-    } else if name == "id" {
+    } else if is_word(name, b"id") {
         Kind::Id
     } else {
         kind_past_certificates(name)
@@ -102,7 +118,7 @@ fn kind_past_declarations(name: &str) -> Kind
 }
 
 /// The kind of a text that is none of the first ten keywords.
-fn kind_past_certificates(name: &str) -> Kind
+fn kind_past_certificates(name: &[u8]) -> Kind
     ensures { result ≡ (if bytes_eq name.now (codes "drop") then kind.Drop
         else if bytes_eq name.now (codes "dup") then kind.Dup
         else if bytes_eq name.now (codes "tables") then kind.Tables
@@ -115,15 +131,15 @@ fn kind_past_certificates(name: &str) -> Kind
         else if bytes_eq name.now (codes "by") then kind.By
         else kind.Name) }
 {
-    if name == "drop" {
+    if is_word(name, b"drop") {
         Kind::Drop
-    } else if name == "dup" {
+    } else if is_word(name, b"dup") {
         Kind::Dup
-    } else if name == "tables" {
+    } else if is_word(name, b"tables") {
         Kind::Tables
-    } else if name == "table" {
+    } else if is_word(name, b"table") {
         Kind::Table
-    } else if name == "group" {
+    } else if is_word(name, b"group") {
         Kind::Group
     } else {
         kind_past_tables(name)
@@ -131,7 +147,7 @@ fn kind_past_certificates(name: &str) -> Kind
 }
 
 /// The kind of a text that is none of the first fifteen keywords.
-fn kind_past_tables(name: &str) -> Kind
+fn kind_past_tables(name: &[u8]) -> Kind
     ensures { result ≡ (if bytes_eq name.now (codes "out") then kind.Out
         else if bytes_eq name.now (codes "in") then kind.In
         else if bytes_eq name.now (codes "virtual") then kind.Virtual
@@ -139,15 +155,15 @@ fn kind_past_tables(name: &str) -> Kind
         else if bytes_eq name.now (codes "by") then kind.By
         else kind.Name) }
 {
-    if name == "out" {
+    if is_word(name, b"out") {
         Kind::Out
-    } else if name == "in" {
+    } else if is_word(name, b"in") {
         Kind::In
-    } else if name == "virtual" {
+    } else if is_word(name, b"virtual") {
         Kind::Virtual
-    } else if name == "fabric" {
+    } else if is_word(name, b"fabric") {
         Kind::Fabric
-    } else if name == "by" {
+    } else if is_word(name, b"by") {
         Kind::By
     } else {
         Kind::Name
