@@ -18,6 +18,7 @@ pub mod Numbers
 pub mod Printable
 pub mod Putting
 pub mod ReadingBack
+pub mod Remembering
 pub mod RowSteps
 pub mod Rowing
 pub mod Setting

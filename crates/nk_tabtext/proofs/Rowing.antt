@@ -1,5 +1,5 @@
 -- A table that is written row by row, and then its groups in front of the rows.
-use Rattle.std.proofs.Common.{◌≡◌, ℕ, ◌≤◌, ◌+◌, ◌++◌, ◌||◌, Bool, true, false, List, [], ◌∷◌, length, length-append, take, take-append-drop, drop, refl, sym, ap, ◌∙◌, arith, append_assoc, Result, Ok, Err, OnOk}
+use Rattle.std.proofs.Common.{◌≡◌, ℕ, ◌≤◌, ◌+◌, ◌++◌, ◌||◌, Bool, true, false, List, [], ◌∷◌, length, length-append, take, take-append-drop, drop, refl, sym, ap, subst, ◌∙◌, arith, append_assoc, Result, Ok, Err, OnOk}
 use Rattle.std.specs.Prelude.{not}
 use Rattle.std.specs.Fmt.{digits}
 use Rattle.std.specs.List.{flat_map, list_any}
@@ -13,6 +13,7 @@ use Rattle.nk_table.specs.declared.Row.{Row}
 use Rattle.nk_table.specs.declared.Table.{Table}
 use Rattle.nk_tabtext.specs.declared.writer.TableWriter.{TableWriter}
 use Rattle.nk_tabtext.specs.Text.{fields_text, group_text, have_prefix, is_exact, row_text, tag_text, topology_text, version_text}
+use Rattle.nk_tabtext.specs.Remembered.{RemembersSome}
 use Rattle.nk_tabtext.specs.Written.{HasWritten, IsWriting, head_text, own_section_text, some_prefix, switch_line_text, version_with}
 
 -- both versions have one digit
@@ -46,8 +47,9 @@ module _ (fields : FieldTable) (topo : Topology) (tables : List Table) (sw : ℕ
 
   -- the first line of one more table was put
   pub table_begun : (w u : TableWriter) → HasWritten fields topo tables w → u.fields.now ≡ w.fields.now → u.prefixes ≡ w.prefixes
-      → u.text.items ≡ w.text.items ++ switch_line_text sw → u.start ≡ length u.text.items → IsWriting fields topo tables sw [] u
-  table_begun w u before same kept put start = record {
+      → u.text.items ≡ w.text.items ++ switch_line_text sw → u.start ≡ length u.text.items → u.last ≡ w.last
+      → IsWriting fields topo tables sw [] u
+  table_begun w u before same kept put start stay = record {
     same_fields = same ∙ before.same_fields;
     prefixes = kept ∙ before.prefixes ∙ or_false (some_prefix fields tables);
     front = u.text.items;
@@ -57,6 +59,7 @@ module _ (fields : FieldTable) (topo : Topology) (tables : List Table) (sw : ℕ
         ∙ ap front_with (sym kept);
     start = start;
     text = sym (append-nil u.text.items);
+    last = subst (RemembersSome fields) (sym stay) before.last;
   }
 
   apart : (v f t y s l r : List ℕ) → v ++ f ++ t ++ y ++ s ++ l ++ r ≡ v ++ (f ++ (t ++ (y ++ (s ++ (l ++ r)))))
@@ -80,9 +83,10 @@ module _ (fields : FieldTable) (topo : Topology) (tables : List Table) (sw : ℕ
       → v.fields.now ≡ w.fields.now → v.start ≡ w.start
       → v.prefixes ≡ (w.prefixes || list_any (λ m. not (is_exact w.fields.now m)) r.matches)
       → ((rest : List ℕ) → w.text.items ≡ version_text (version_with w.prefixes) ++ rest → v.text.items ≡ version_text (version_with v.prefixes) ++ rest)
-      → u.fields.now ≡ v.fields.now → u.start ≡ v.start → u.prefixes ≡ v.prefixes → u.text.items ≡ v.text.items ++ row_text v.fields.now r
+      → u.fields.now ≡ v.fields.now → u.start ≡ v.start → u.prefixes ≡ v.prefixes → RemembersSome v.fields.now u.last
+      → u.text.items ≡ v.text.items ++ row_text v.fields.now r
       → IsWriting fields topo tables sw (rows ++ r ∷ []) u
-  row_put rows r w v u before same from more told kept_fields kept_start kept put = record {
+  row_put rows r w v u before same from more told kept_fields kept_start kept known put = record {
     same_fields = kept_fields ∙ same ∙ before.same_fields;
     prefixes =
         kept
@@ -103,6 +107,7 @@ module _ (fields : FieldTable) (topo : Topology) (tables : List Table) (sw : ℕ
         ∙ ap (λ l. front_with v.prefixes ++ (flat_map (row_text fields) rows ++ l)) (sym (append-nil (row_text fields r)))
         ∙ ap (λ l. front_with v.prefixes ++ l) (sym (flat_map-append (row_text fields) rows (r ∷ [])))
         ∙ ap (λ b. front_with b ++ flat_map (row_text fields) (rows ++ r ∷ [])) (sym kept);
+    last = subst (λ f. RemembersSome f u.last) (same ∙ before.same_fields) known;
   }
     where
       parts : (b : Bool) → front_with b ++ flat_map (row_text fields) rows
@@ -111,12 +116,18 @@ module _ (fields : FieldTable) (topo : Topology) (tables : List Table) (sw : ℕ
           apart (version_text (version_with b)) (fields_text fields) (tag_text fields) (topology_text topo) (flat_map (own_section_text fields) tables)
           (switch_line_text sw) (flat_map (row_text fields) rows)
 
+  -- what a writer remembers, by the fields of one that remembers the same
+  pub known_by : (rows : List Row) (w v : TableWriter) → IsWriting fields topo tables sw rows w → v.fields.now ≡ w.fields.now
+      → v.last ≡ w.last → RemembersSome v.fields.now v.last
+  known_by rows w v k same stay =
+      subst (λ f. RemembersSome f v.last) (sym (same ∙ k.same_fields)) (subst (RemembersSome fields) (sym stay) k.last)
+
   -- the table was ended, with these groups in front of its rows
   pub table_ended : (rows : List Row) (groups : List Group) (w u : TableWriter) → IsWriting fields topo tables sw rows w
-      → u.fields.now ≡ w.fields.now → u.prefixes ≡ w.prefixes
+      → u.fields.now ≡ w.fields.now → u.prefixes ≡ w.prefixes → u.last ≡ w.last
       → u.text.items ≡ take w.start w.text.items ++ flat_map (group_text w.fields.now) groups ++ drop w.start w.text.items
       → HasWritten fields topo (tables ++ record { switch = sw; groups = groups; rows = rows } ∷ []) u
-  table_ended rows groups w u k same kept put = record {
+  table_ended rows groups w u k same kept stay put = record {
     same_fields = same ∙ k.same_fields;
     prefixes =
         kept
@@ -135,6 +146,7 @@ module _ (fields : FieldTable) (topo : Topology) (tables : List Table) (sw : ℕ
         ∙ joined (head_text (version_with u.prefixes) fields topo) (flat_map (own_section_text fields) tables) (switch_line_text sw) (flat_map (group_text fields) groups) (flat_map (row_text fields) rows)
         ∙ ap (λ l. head_text (version_with u.prefixes) fields topo ++ (flat_map (own_section_text fields) tables ++ l)) (sym (append-nil (own_section_text fields whole)))
         ∙ ap (λ l. head_text (version_with u.prefixes) fields topo ++ l) (sym (flat_map-append (own_section_text fields) tables (whole ∷ [])));
+    last = subst (RemembersSome fields) (sym stay) k.last;
   }
     where
       whole : Table
@@ -146,7 +158,7 @@ module _ (fields : FieldTable) (topo : Topology) (tables : List Table) (sw : ℕ
   -- the table was ended, with no groups
   pub plain_ended : (rows : List Row) (w : TableWriter) → IsWriting fields topo tables sw rows w
       → HasWritten fields topo (tables ++ record { switch = sw; groups = []; rows = rows } ∷ []) w
-  plain_ended rows w k = table_ended rows [] w w k refl refl (sym (all_of w.start w.text.items))
+  plain_ended rows w k = table_ended rows [] w w k refl refl refl (sym (all_of w.start w.text.items))
     where
       all_of : (n : ℕ) (l : List ℕ) → take n l ++ [] ++ drop n l ≡ l
       all_of n l = ap (λ t. t ++ drop n l) (append-nil (take n l)) ∙ take-append-drop n l
@@ -157,7 +169,7 @@ module _ (fields : FieldTable) (topo : Topology) (tables : List Table) (sw : ℕ
       let long = ap length k.text ∙ length-append k.front (flat_map (row_text fields) rows) in
       omega (arith, long, k.start)
 
--- three facts of an Ok answer give a fourth
-pub on_three : {T E : Type 0} (r : Result T E) (P Q R S : Type 0) → (P → Q → R → S) → OnOk r P → OnOk r Q → OnOk r R → OnOk r S
-on_three (Ok x) P Q R S f p q r = f p q r
-on_three (Err e) P Q R S f p q r = p
+-- four facts of an Ok answer give a fifth
+pub on_four : {T E : Type 0} (r : Result T E) (P Q R S U : Type 0) → (P → Q → R → S → U) → OnOk r P → OnOk r Q → OnOk r R → OnOk r S → OnOk r U
+on_four (Ok x) P Q R S U f p q r s = f p q r s
+on_four (Err e) P Q R S U f p q r s = p

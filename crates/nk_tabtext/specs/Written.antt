@@ -8,6 +8,7 @@ use Rattle.nk_topo.specs.Topology.{Topology}
 use Rattle.nk_table.specs.declared.Row.{Row}
 use Rattle.nk_table.specs.declared.Table.{Table}
 use Rattle.nk_tabtext.specs.declared.writer.TableWriter.{TableWriter}
+use Rattle.nk_tabtext.specs.Remembered.{RemembersSome}
 use Rattle.nk_tabtext.specs.Text.{fields_text, group_text, have_prefix, row_text, tag_text, topology_text, version_text}
 
 -- the lines before the tables
@@ -17,6 +18,10 @@ head_text version fs topo = version_text version ++ fields_text fs ++ tag_text f
 -- the first line of a switch's table
 abbrev pub switch_line_text : ℕ → List ℕ
 switch_line_text sw = codes "table " ++ decimal sw ++ codes "\n"
+
+-- the line of a row, by the text of its matches and that of what it does
+abbrev pub row_line_text : ℕ → List ℕ → List ℕ → List ℕ
+row_line_text priority matches target = codes "row " ++ decimal priority ++ codes " : " ++ matches ++ codes "-> " ++ target ++ codes "\n"
 
 -- the groups and rows of a table
 abbrev pub own_rules_text : FieldTable → Table → List ℕ
@@ -42,6 +47,8 @@ pub record HasWritten (fields : FieldTable) (topo : Topology) (tables : List Tab
   pub prefixes : w.prefixes ≡ some_prefix fields tables
   -- its text has the first lines, of the version that this asks for, and after them the tables
   pub text : w.text.items ≡ head_text (version_with w.prefixes) fields topo ++ flat_map (own_section_text fields) tables
+  -- what it remembers of matches is right
+  pub last : RemembersSome fields w.last
 
 -- the writer has put these tables after those lines, and of the table of one more switch its first line and these rows
 pub record IsWriting (fields : FieldTable) (topo : Topology) (tables : List Table) (sw : ℕ) (rows : List Row) (w : TableWriter) : Type 0 where
@@ -56,3 +63,5 @@ pub record IsWriting (fields : FieldTable) (topo : Topology) (tables : List Tabl
   pub start : w.start ≡ length front
   -- the rows stand at the end of its text
   pub text : w.text.items ≡ front ++ flat_map (row_text fields) rows
+  -- what it remembers of matches is right
+  pub last : RemembersSome fields w.last

@@ -15,6 +15,7 @@ ghost use Rattle.nk_tabtext.specs.Text.{table_bytes, section_text};
 mod declaring;
 mod filling;
 mod head;
+mod last_matches;
 mod laws;
 mod partial;
 mod reading;

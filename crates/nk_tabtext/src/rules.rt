@@ -4,7 +4,7 @@ ghost use Rattle.std.specs.List.{flat_map, list_any};
 ghost use Rattle.nk_table.specs.Rules.{rows_of};
 ghost use Rattle.nk_tabtext.specs.Text as text;
 ghost use Rattle.nk_tabtext.specs.Text.{is_tag, length_text, match_text, set_text, where_same, matches_text, sets_text, exit_text, bucket_text, target_text, row_text, group_text, rules_text, section_text, version_of, AreTablesFrom};
-ghost use Rattle.nk_tabtext.specs.Written.{own_rules_text, switch_line_text};
+ghost use Rattle.nk_tabtext.specs.Written.{own_rules_text, row_line_text, switch_line_text};
 
 use crate::{number, short};
 use nk_field::{Fid, Fields};
@@ -12,7 +12,7 @@ use nk_table::{Bucket, Exit, Group, Row, Table, Tables, Target, digits_at, rows_
 use std::alloc::AllocError;
 
 /// Whether a field is the tag.
-fn is_the_tag(fs: &Fields, f: Fid) -> bool
+pub(crate) fn is_the_tag(fs: &Fields, f: Fid) -> bool
     ensures { result ≡ is_tag fs.now f }
 {
     match fs.tag() {
@@ -130,7 +130,11 @@ fn length(out: &mut Vec<u8>, fs: &Fields, m: &(Fid, u64, u8)) -> Result<(), Allo
 }
 
 /// A match, with a space after it.
-fn one_match(out: &mut Vec<u8>, fs: &Fields, m: &(Fid, u64, u8)) -> Result<(), AllocError>
+pub(crate) fn one_match(
+    out: &mut Vec<u8>,
+    fs: &Fields,
+    m: &(Fid, u64, u8),
+) -> Result<(), AllocError>
     ensures { OnOk result (out.new.items ≡ out.old.items ++ match_text fs.now m.now) }
 {
     let (f, value, _) = *m;
@@ -267,44 +271,24 @@ fn row(out: &mut Vec<u8>, fs: &Fields, r: &Row) -> Result<(), AllocError>
     Ok(())
 }
 
-/// The line of a row, one of whose matches stands by itself between those before it and those after it.
-pub(crate) fn parted_row(
+/// The line of a row, by the text of its matches.
+pub(crate) fn row_line(
     out: &mut Vec<u8>,
     fs: &Fields,
     priority: u16,
-    before: &[(Fid, u64, u8)],
-    between: &(Fid, u64, u8),
-    after: &[(Fid, u64, u8)],
+    matches: &[u8],
     what: &Target,
 ) -> Result<(), AllocError>
-    ensures { OnOk result (out.new.items ≡ out.old.items ++ row_text fs.now
-        (record { priority = priority; matches = before.now ++ between.now ∷ after.now; target = what.now })) }
+    ensures { OnOk result (out.new.items ≡ out.old.items ++ row_line_text priority matches.now (target_text fs.now what.now)) }
 {
     short::row_word(out)?;
     number(out, priority as u64)?;
     short::colon(out)?;
-    parted_matches(out, fs, before, between, after, true)?;
-    parted_matches(out, fs, before, between, after, false)?;
+    out.extend_from_slice(matches)?;
     short::arrow(out)?;
     target(out, fs, what)?;
     out.push(b'\n')?;
     Ok(())
-}
-
-/// The matches of the tag, or the other ones, where one stands by itself between those before it and those after it.
-fn parted_matches(
-    out: &mut Vec<u8>,
-    fs: &Fields,
-    before: &[(Fid, u64, u8)],
-    between: &(Fid, u64, u8),
-    after: &[(Fid, u64, u8)],
-    tag: bool,
-) -> Result<(), AllocError>
-    ensures { OnOk result (out.new.items ≡ out.old.items ++ matches_text fs.now tag (before.now ++ between.now ∷ after.now)) }
-{
-    some_matches(out, fs, before, tag)?;
-    match_if(out, fs, between, tag)?;
-    some_matches(out, fs, after, tag)
 }
 
 /// The buckets of a group, a space before each.

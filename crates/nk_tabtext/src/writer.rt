@@ -8,6 +8,7 @@ ghost use Rattle.nk_table.specs.declared.Row.{Row};
 ghost use Rattle.nk_tabtext.specs.Text.{group_text, have_prefix, is_exact, table_bytes, version_text};
 ghost use Rattle.nk_tabtext.specs.Written.{HasWritten, IsWriting, version_with};
 
+use crate::last_matches::LastMatches;
 use crate::{head, rules};
 use nk_field::{Fid, Fields};
 use nk_table::{Group, Table, Target};
@@ -26,6 +27,8 @@ pub struct TableWriter<'a> {
     prefixes: bool,
     /// Where the rows of the table that was begun last begin in the text.
     start: usize,
+    /// The matches of the row that was put last.
+    last: LastMatches,
 }
 
 /// The place of the version's digit in the first line.
@@ -47,11 +50,13 @@ impl<'a> TableWriter<'a> {
     {
         let mut text = Vec::new(alloc);
         head::head(&mut text, 1, fields, topo)?;
+        let last = LastMatches::new(alloc);
         Ok(TableWriter {
             fields,
             text,
             prefixes: false,
             start: 0,
+            last,
         })
     }
 
@@ -80,15 +85,9 @@ impl<'a> TableWriter<'a> {
             (rows ++ record { priority = priority; matches = before.now ++ between ∷ after.now; target = target.now } ∷ []) self.new) }
     {
         self.tell_matches(before, &between, after);
-        rules::parted_row(
-            &mut self.text,
-            self.fields,
-            priority,
-            before,
-            &between,
-            after,
-            target,
-        )
+        self.last.set(self.fields, before, &between, after)?;
+        let matches = self.last.text.as_slice();
+        rules::row_line(&mut self.text, self.fields, priority, matches, target)
     }
 
     /// The first line tells of the prefixes of one more row.
@@ -100,6 +99,7 @@ impl<'a> TableWriter<'a> {
     )
         ensures fields { self.new.fields.now ≡ self.old.fields.now }
         ensures start { self.new.start ≡ self.old.start }
+        ensures last { self.new.last ≡ self.old.last }
         ensures prefixes { self.new.prefixes
             ≡ (self.old.prefixes || list_any (λ m. not (is_exact self.old.fields.now m)) (before.now ++ between.now ∷ after.now)) }
         ensures text { (rest : List ℕ) → self.old.text.items ≡ version_text (version_with self.old.prefixes) ++ rest
@@ -127,6 +127,7 @@ impl<'a> TableWriter<'a> {
     fn put_groups(&mut self, groups: &[Group]) -> Result<(), AllocError>
         ensures fields { OnOk result (self.new.fields.now ≡ self.old.fields.now) }
         ensures prefixes { OnOk result (self.new.prefixes ≡ self.old.prefixes) }
+        ensures last { OnOk result (self.new.last ≡ self.old.last) }
         ensures text { self.old.start ≤ length self.old.text.items → OnOk result (self.new.text.items ≡ take self.old.start self.old.text.items
             ++ flat_map (group_text self.old.fields.now) groups.now ++ drop self.old.start self.old.text.items) }
     {
@@ -148,6 +149,7 @@ impl<'a> TableWriter<'a> {
             text,
             prefixes: _,
             start: _,
+            last: _,
         } = self;
         text
     }
