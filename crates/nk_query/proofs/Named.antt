@@ -75,6 +75,11 @@ pub made_fit : (program : Program) (asked : Asked) (x : Question) → IsProgram 
 made_fit program asked x ok n (Ok q) m = subst (λ t. IsFitFor program.fields t) (sym m.1) (named_fit program asked x ok n m.0)
 made_fit program asked x ok n (Err e) m = tt
 
+-- a named policy's dups are numbered from 1
+pub named_numbered : (program : Program) (name : List ℕ) (p : Policy) → IsProgram program.fields program.topo program.lets
+    → policy_named program name ≡ Some p → marked_from p 1 ≡ p
+named_numbered program name p ok is = (let_named program name p ok is).numbered
+
 -- a named policy's link marks leave room
 pub named_marks : (program : Program) (name : List ℕ) (p : Policy) → IsProgram program.fields program.topo program.lets
     → policy_named program name ≡ Some p → MarksBelow p (2 ^ 32 - 1)

@@ -55,7 +55,7 @@ fn named_apart(
     let p = over.written(alloc)?;
     let a = start.written(alloc)?;
     let b = end.written(alloc)?;
-    apart(alloc, &p, &a, &b)
+    apart(alloc, p, a, b)
 }
 
 /// The question of `waypoint` for policies of these names.
@@ -86,5 +86,5 @@ fn named_waypoint(
     let a = start.written(alloc)?;
     let m = way.written(alloc)?;
     let b = end.written(alloc)?;
-    waypoint(alloc, &p, &a, &m, &b)
+    waypoint(alloc, p, a, &m, b)
 }

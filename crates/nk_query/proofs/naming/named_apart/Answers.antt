@@ -2,8 +2,12 @@ use Rattle.std.proofs.Common.{Some, sym, ap, ◌∙◌}
 use Rattle.nk_policy.specs.Tree.{tree_of}
 use Rattle.nk_query.specs.Asked.{apart_of}
 use Rattle.nk_query.specs.Asked.{apart as asks_apart}
-use Rattle.nk_query.proofs.Named.{named_made, made_fit}
+use Rattle.nk_query.proofs.Named.{named_made, made_fit, named_numbered}
 use Rattle.nk_query.proofs.naming.named_apart.Goals as goal
+
+pub apart-requires : goal.apart-requires
+apart-requires c =
+    named_numbered c.args.program.now c.args.name.now (tree_of c.in_ok-p.p) c.find.ensures.is (sym c.in-Some.ensures.found ∙ ap Some (sym c.in_ok-p.ensures))
 
 pub returns-clause-is : goal.returns-clause-is
 returns-clause-is c =

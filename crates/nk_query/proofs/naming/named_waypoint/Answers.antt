@@ -2,11 +2,12 @@ use Rattle.std.proofs.Common.{Some, sym, ap, ◌∙◌}
 use Rattle.nk_policy.specs.Tree.{tree_of}
 use Rattle.nk_query.specs.Asked.{waypoint_of}
 use Rattle.nk_query.specs.Asked.{waypoint as asks_waypoint}
-use Rattle.nk_query.proofs.Named.{named_made, made_fit, named_marks}
+use Rattle.nk_query.proofs.Named.{named_made, made_fit, named_marks, named_numbered}
 use Rattle.nk_query.proofs.naming.named_waypoint.Goals as goal
 
 pub waypoint-requires : goal.waypoint-requires
 waypoint-requires c = record {
+  numbered = named_numbered c.args.program.now c.args.name.now (tree_of c.in_ok-p.p) c.find.ensures.is (sym c.in-Some.ensures.found ∙ ap Some (sym c.in_ok-p.ensures));
   marks = named_marks c.args.program.now c.args.name.now (tree_of c.in_ok-p.p) c.find.ensures.is (sym c.in-Some.ensures.found ∙ ap Some (sym c.in_ok-p.ensures));
 }
 
