@@ -57,7 +57,8 @@ pub enum Place {
 }
 
 impl Place {
-    /// Another place takes this one's.
+    /// Another place takes this one's. Inlined, it writes the parts of the new place alone.
+    #[inline(always)]
     pub fn set(&mut self, place: Place)
         ensures { self.new ≡ place }
     {

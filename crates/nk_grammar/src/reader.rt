@@ -121,6 +121,7 @@ impl PolicyReader {
     }
 
     /// Makes room for one more factor and one more term, with no factor apart. No value changes.
+    #[inline(always)]
     fn make_ready(&mut self) -> Result<(), AllocError>
         ensures same { reader_state self.new ≡ reader_state self.old }
         ensures last { OnOk result (self.new.last ≡ None) }
