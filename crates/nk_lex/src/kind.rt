@@ -49,7 +49,7 @@ pub enum Kind {
 }
 
 /// Whether a name is this word. Nearly each name differs from a word in its length or its first two bytes, and then nothing is called
-/// to compare them.
+/// to compare them. With a call for each keyword, cutting a text into tokens took twice the instructions.
 #[inline(always)]
 fn is_word(name: &[u8], word: &[u8]) -> bool
     ensures { result ≡ bytes_eq name.now word.now }
