@@ -1,5 +1,5 @@
 -- Which values are in the blocks of an interval, and in which.
-use Rattle.std.proofs.Common.{◌≡◌, ◌≢◌, ℕ, zero, suc, ◌+◌, ◌-◌, ◌*◌, ◌/◌, ◌%◌, ◌^◌, ◌<◌, ◌≤◌, refl, ap, ◌∙◌, sym, subst, arith, inl, inr, ◌⊎◌, List, [], ◌∷◌}
+use Rattle.std.proofs.Common.{◌≡◌, ℕ, zero, suc, ◌+◌, ◌-◌, ◌*◌, ◌/◌, ◌%◌, ◌^◌, ◌<◌, ◌≤◌, refl, ap, ◌∙◌, sym, subst, arith, inl, inr, ◌⊎◌, List, [], ◌∷◌}
 use Rattle.std.specs.Prelude.{◌==◌, ◌&&◌, nat_lt, nat_le, Bool, true, false, cond, if◌then◌else◌, count_by, Contains}
 use Rattle.std.proofs.lemmas.Nat.{pow_pos, mod-mul-add}
 use Rattle.std.proofs.lemmas.List.Sums.{sum_by-cons}
@@ -17,9 +17,6 @@ equal_if a b h = elim (eqb_tells a b) [ inl same ↦ same.1 | inr other ↦ absu
 
 test_if : (a b : ℕ) → a ≡ b → (a == b) ≡ true
 test_if a b h = elim (eqb_tells a b) [ inl same ↦ same.0 | inr other ↦ absurd (other.1 h) ]
-
-test_not : (a b : ℕ) → a ≢ b → (a == b) ≡ false
-test_not a b h = elim (eqb_tells a b) [ inl same ↦ absurd (h same.1) | inr other ↦ other.0 ]
 
 below_mod : (n d : ℕ) → n < d → n % d ≡ n
 below_mod n d h = let same : n ≡ 0 * d + n = omega arith in ap (λ k. k % d) same ∙ mod-mul-add 0 d n h
