@@ -217,17 +217,6 @@ double_after (x ∷ y ∷ ys) (suc k) up lt other =
     let less : suc k < length (y ∷ ys) = omega (arith, lt) in
     double_after (y ∷ ys) k up.1 less other
 
--- a number that is the next one too stands twice
-double_at : (xs : List ℕ) (k : ℕ) → suc k < length xs → get_or xs k 0 ≡ get_or xs (suc k) 0 → has_double (drop k xs) ≡ true
-double_at [] k lt same = absurd (omega (arith, lt))
-double_at (x ∷ []) k lt same = absurd (omega (arith, lt))
-double_at (x ∷ y ∷ ys) zero lt same =
-    let eq : (y == x) ≡ true = grind (arith, nat_tests, same) in
-    ap (λ b. (b || list_any (λ m. m == x) ys) || has_double (y ∷ ys)) eq
-double_at (x ∷ y ∷ ys) (suc k) lt same =
-    let less : suc k < length (y ∷ ys) = omega (arith, lt) in
-    double_at (y ∷ ys) k less same
-
 -- no number of a list of at most one stands twice
 double_end : (xs : List ℕ) (k : ℕ) → length xs ≤ suc k → has_double (drop k xs) ≡ false
 double_end [] zero le = refl
