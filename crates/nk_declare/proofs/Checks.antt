@@ -11,7 +11,7 @@ use Rattle.nk_declare.specs.declared.fault.DeclareFault.{DeclareFault}
 use Rattle.nk_declare.specs.declared.fault.DeclareFault.TheVariants as fault
 use Rattle.nk_declare.specs.declared.fault.DeclareError.{DeclareError}
 use Rattle.nk_declare.specs.declared.fault.DeclareError.TheVariants.{Fault, NoMemory}
-use Rattle.nk_declare.specs.Declarations.{MaybeFault, fault_if, above, port_fault, ports_fault, IsFirstFault}
+use Rattle.nk_declare.specs.Declarations.{MaybeFault, fault_if, above, port_fault, IsFirstFault}
 
 -- of faults that have no first there is none
 pub none_both : {E : Type 0} (a b : Option E) → first_of a b ≡ None → (a ≡ None) × (b ≡ None)
@@ -46,16 +46,6 @@ pub one_refused : (before : List ℕ) (p : Number) (b : Bool) → above 65535 p 
 one_refused before p b in_range is =
     ap (λ a. first_of a (fault_if (list_any (λ q. p.value == q) before) fault.PortTwice p.line)) in_range
     ∙ ap (λ c. fault_if c fault.PortTwice p.line) (sym is)
-
--- a port at fault is the first fault
-pub port_refused : (before : List ℕ) (p : Number) (ps : List Number) (e : DeclareError) → port_fault before p ≡ Some e
-    → ports_fault before (p ∷ ps) ≡ Some e
-port_refused before p ps e h = ap (λ a. first_of a (ports_fault (before ++ p.value ∷ []) ps)) h
-
--- after a port without fault the first fault is among the others
-pub port_fits : (before : List ℕ) (p : Number) (ps : List Number) → port_fault before p ≡ None
-    → ports_fault before (p ∷ ps) ≡ ports_fault (before ++ p.value ∷ []) ps
-port_fits before p ps h = ap (λ a. first_of a (ports_fault (before ++ p.value ∷ []) ps)) h
 
 -- whether a port stands before, by what was seen
 pub stands_before : (new : Bool) (v n : ℕ) (seen before : List ℕ)
