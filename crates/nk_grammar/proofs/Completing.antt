@@ -222,13 +222,10 @@ HasStart (row ns p line ∷ rs) = ns ≡ []
 
 -- the first row is the start row, also where it is being read
 abbrev IsStarted : CertifiedPhase → List Declaration → List Row → Type 0
-IsStarted (declaring r) ds rs = rs ≡ []
-IsStarted row_wanted ds rs = rs ≡ []
-IsStarted (start_wanted line) ds rs = rs ≡ []
-IsStarted (start_read line) ds rs = rs ≡ []
 IsStarted (number_wanted line) ds rs = HasStart rs
 IsStarted (numbers_read line ns) ds rs = HasStart rs
 IsStarted (in_row line ns s) ds rs = (p : Tree) → HasStart (rs ++ row ns p line ∷ [])
+IsStarted p ds rs = rs ≡ []
 
 has_start_with : (rs qs : List Row) → HasStart rs → HasStart (rs ++ qs)
 has_start_with [] qs h = absurd h

@@ -17,28 +17,21 @@ use Rattle.nk_grammar.proofs.Nested.{lets_read}
 
 -- what may stand after a policy: no word and no number
 abbrev EndsPolicy : List Lexeme → Type 0
-EndsPolicy [] = ⊤
-EndsPolicy (Lexeme.space ∷ ys) = ⊤
-EndsPolicy (Lexeme.line_feed ∷ ys) = ⊤
 EndsPolicy (Lexeme.word w ∷ ys) = ⊥
 EndsPolicy (Lexeme.numeral n ∷ ys) = ⊥
-EndsPolicy (Lexeme.sign s ∷ ys) = ⊤
+EndsPolicy r = ⊤
 
 word_apart : (w : List ℕ) (r : List Lexeme) → EndsPolicy r → IsApart (Lexeme.word w) r
 word_apart w [] h = tt
-word_apart w (Lexeme.space ∷ ys) h = refl
-word_apart w (Lexeme.line_feed ∷ ys) h = refl
 word_apart w (Lexeme.word v ∷ ys) h = absurd h
 word_apart w (Lexeme.numeral n ∷ ys) h = absurd h
-word_apart w (Lexeme.sign s ∷ ys) h = refl
+word_apart w r h = refl
 
 number_apart : (n : ℕ) (r : List Lexeme) → EndsPolicy r → IsApart (Lexeme.numeral n) r
 number_apart n [] h = tt
-number_apart n (Lexeme.space ∷ ys) h = refl
-number_apart n (Lexeme.line_feed ∷ ys) h = refl
 number_apart n (Lexeme.word v ∷ ys) h = absurd h
 number_apart n (Lexeme.numeral m ∷ ys) h = absurd h
-number_apart n (Lexeme.sign s ∷ ys) h = refl
+number_apart n r h = refl
 
 -- a symbol but the colon may stand before anything
 sign_apart : (s : Sign) (r : List Lexeme) → is_colon s ≡ false → IsApart (Lexeme.sign s) r

@@ -11,7 +11,7 @@ use Rattle.nk_grammar.specs.declared.decl.GrammarError.TheVariants as error
 use Rattle.nk_grammar.specs.declared.place.Place.TheVariants as place
 use Rattle.nk_grammar.specs.Terminal.{Terminal, name, equal, outside, let_word, plus_sign, semicolon, star_sign, closing, terminal_of}
 use Rattle.nk_grammar.specs.Tree.{Tree, Trees, name_of, no_part, with_part, sum_from}
-use Rattle.nk_grammar.specs.Grammar.{Pol, Term, Factor, Atom, one_term, plus, one_factor, semi, plain, starred, written_not, written_id, written_drop, written_dup, written_name, written_test, written_range, written_set, written_link, paren, spell_pol, spell_term, spell_factor, spell_atom, terms_of, factors_of, factor_tree, atom_tree, pol_tree}
+use Rattle.nk_grammar.specs.Grammar.{Pol, Term, Factor, Atom, one_term, plus, one_factor, semi, plain, starred, written_not, written_name, written_test, written_range, written_set, written_link, paren, spell_pol, spell_term, spell_factor, spell_atom, terms_of, factors_of, factor_tree, atom_tree, pol_tree}
 use Rattle.nk_grammar.specs.Machine.{Open, group, negation, State, state, first_state, atom_ended, run, step, policy_ended, HasNoNegation}
 use Rattle.nk_grammar.specs.File.{definition}
 use Rattle.nk_grammar.specs.FileMachine.{Reading, reading, name_wanted, policy_named, in_policy, judged, policy_on, open_count, read_one, first_reading, one_more, ended_at, rest_of_file, file_of}
@@ -74,9 +74,6 @@ module _ (n : ℕ) where
         → Low n r (atom_ended (atom_tree a) fs ts us) → Low n (spell_atom a ++ r) (state place.Want fs ts us)
     atom_low (written_not l a) fs ts us r free le low =
         (omega arith, atom_low a (negation l ∷ fs) ts us r free (omega arith) low)
-    atom_low written_id fs ts us r free le low = (omega arith, low)
-    atom_low written_drop fs ts us r free le low = (omega arith, low)
-    atom_low written_dup fs ts us r free le low = (omega arith, low)
     atom_low (written_name w) fs ts us r free le low = (omega arith, named_low w fs ts us r free (omega arith) low)
     atom_low (written_test w k) fs ts us r free le low = (omega arith, (omega arith, (omega arith, low)))
     atom_low (written_range w a b) fs ts us r free le low =
@@ -90,6 +87,7 @@ module _ (n : ℕ) where
           (pol_low p (group ts us ∷ fs) (closing ∷ r) (λ t ts us. refl) (refl, refl, refl) (omega arith)
           (omega arith, subst (λ x. Low n r (atom_ended (sum_from x) fs ts us)) (sym (early_late p)) low)),
     )
+    atom_low a fs ts us r free le low = (omega arith, low)
 
 -- ---- a `let`
 

@@ -52,9 +52,7 @@ takes_on (known.Stopped e) j t o line h =
 pub takes_fault : (k j : Known) (t : Token) (e : GrammarError) (line : ℕ) → (e ≡ error.NoMemory → ⊥) → TakesToken k j t (Err e)
     → so_far_after (so_far (progress_of k line) [] []) t ≡ so_far (Stopped e) [] []
 takes_fault (known.Sound r) (known.Sound s) t error.NoMemory line n h = absurd (n refl)
-takes_fault (known.Sound r) (known.Sound s) t (error.Unexpected at) line n h =
-    ap (λ x. so_far_judged x (so_far (progress_of (known.Sound r) line) [] []) t.line) h.0
-takes_fault (known.Sound r) (known.Sound s) t (error.TooDeep at) line n h =
+takes_fault (known.Sound r) (known.Sound s) t e line n h =
     ap (λ x. so_far_judged x (so_far (progress_of (known.Sound r) line) [] []) t.line) h.0
 takes_fault (known.Sound r) (known.Stopped f) t e line n h = absurd h
 takes_fault (known.Stopped f) j t e line n h = absurd (differ h.1)

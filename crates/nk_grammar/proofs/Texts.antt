@@ -115,13 +115,10 @@ policy_passes k line w p ds r b =
 -- a declaration's tokens leave the declaration
 declaration_passes : (w : Written) (ds : List Declaration) (r : List Terminal) → IsAfter r
     → finish (read_all (spell_declaration w ++ r) (reading between ds)) ≡ finish (read_all r (reading between (one_more ds (declared w))))
-declaration_passes (written_field w n) ds r b = refl
-declaration_passes (written_tag w) ds r b = refl
 declaration_passes (written_switch n p ps) ds r b = ports_pass n (p ∷ []) ps ds r b
-declaration_passes (written_declared_link a m b n) ds r c = refl
 declaration_passes (written_let line w p) ds r b = policy_passes policies.Let line w p ds r b
 declaration_passes (written_fabric line w p) ds r b = policy_passes policies.Fabric line w p ds r b
-declaration_passes (written_virtual a m b n w) ds r c = refl
+declaration_passes w ds r b = refl
 
 -- the tokens of declarations give them
 file_passes : (ws : List Written) (ds : List Declaration)
