@@ -238,10 +238,6 @@ tidy (numbers_read line ns) ds rs t =
     (number_tidy (number_in t) (λ m. certifying (numbers_read line (ns ++ m.value ∷ [])) ds rs) (λ m. refl))
 tidy (in_row line ns s) ds rs t = row_tidy ds rs ns line (step s t) (policy_ended s) t
 
--- what the state says is the state
-pub tidied : (c : Certifying) (o : Option Certifying) → o ≡ Some c → AreTidy o → IsTidy c
-tidied c o e h = subst AreTidy e h
-
 -- what is known at the end
 abbrev end_of : SoFar → Result Certified GrammarError
 end_of s = certified_so_far s.progress s.declarations s.rows
