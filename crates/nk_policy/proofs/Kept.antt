@@ -3,7 +3,7 @@ use Rattle.std.proofs.Common.{◌≡◌, ℕ, zero, suc, ◌+◌, Bool, true, fa
 use Rattle.std.specs.Prelude.{◌==◌, if◌then◌else◌, slice_set}
 use Rattle.nk_field.specs.declared.packet.Packet.{Packet}
 use Rattle.nk_policy.specs.Policy.{Policy, Policies, test, range, assign, sum_of, seq_of, not_of, star_of, dup, link, no_part, part}
-use Rattle.nk_policy.specs.Meaning.{Way, followed_by, rounds, way_of, some_way_of, way_of_all}
+use Rattle.nk_policy.specs.Meaning.{Way, rounds, way_of, some_way_of, way_of_all}
 use Rattle.nk_policy.specs.Progress.{Marked, Front, numbered, within_either, RecordsAt, SomeRecordsAt, AllRecordAt}
 use Rattle.nk_policy.specs.After.{id_policy, drop_policy, has_dup, after_dup, after, after_some, after_all}
 use Rattle.nk_policy.specs.Ranges.{AssignsOnly, AllAssignOnly}
@@ -18,10 +18,6 @@ module _ (Allowed : ℕ → ℕ → Type 0) (P : Packet → Type 0)
   -- an equal packet has the property
   same_keeps : (pk y : Packet) → y ≡ pk → P pk → P y
   same_keeps pk y e h = subst (λ z. P z) (sym e) h
-
-  -- two ways in turn keep it
-  followed_keeps : (R S : Way (Packet × ℕ)) → Keeps R → Keeps S → Keeps (followed_by R S)
-  followed_keeps R S a b pk w y r h = b r.2 r.1 y r.5 (a pk r.0 r.2 r.4 h)
 
   -- rounds keep it
   rounds_keep : (R : Way (Packet × ℕ)) → Keeps R → (n : ℕ) → Keeps (rounds n R)

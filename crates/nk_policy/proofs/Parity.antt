@@ -10,7 +10,7 @@ use Rattle.nk_policy.specs.After.{has_dup, some_has_dup, after}
 use Rattle.nk_policy.specs.Distinct.{HasDistinct}
 use Rattle.nk_policy.specs.Labels.{HasRecorded}
 use Rattle.nk_policy.specs.Leaves.{has_leaf, is_dup}
-use Rattle.nk_policy.specs.Literals.{Literal, HoldsLiteral, IsAtSource, moved_by}
+use Rattle.nk_policy.specs.Literals.{Literal, HoldsLiteral, IsAtSource}
 use Rattle.nk_policy.proofs.LabelSteps.{packet_of, at_first, at_next, gives_from, rest_gives_from, gives_is_runs}
 use Rattle.nk_policy.proofs.LinkStructure.{at_sources, on_link, off_link_at_sources}
 use Rattle.nk_policy.proofs.Tests.{false_true, or_cases, same_from}
@@ -65,12 +65,6 @@ no_records [] e = refl
 no_records (r ∷ v) e = cc
 
 module _ (p : Policy) (i : HasDistinct p) (d : has_leaf is_dup p ≡ false) where
-  -- one more record after an odd list: from the first dup of a literal to its second, and the packet at its target
-  pub second_next : (pk : Packet) (u : List Packet) (x y : Packet) (k : Literal) → HoldsLiteral p k
-      → HasRecorded p pk (u ++ x ∷ []) k.mark → (l : ℕ) → RecordsAt (after p k.mark) x [] y l
-      → (l ≡ k.mark + 1) × (y ≡ moved_by k x)
-  second_next pk u x y k h at l r = (on_link p i k h).only x y l r
-
   -- what an odd list of so many records says of where a run is
   abbrev OddAt : ℕ → Type 0
   OddAt n =

@@ -1,7 +1,7 @@
 -- A run that records something at a dup is a run up to that dup, and a run of what is left after it.
 use Rattle.std.proofs.Common.{◌≡◌, ℕ, zero, suc, ◌+◌, Bool, true, false, inl, inr, ⊎_elim, [], ◌∷◌, ◌++◌, refl, sym, ap, subst, ◌∙◌, arith, append_assoc, append-nil}
 use Rattle.std.specs.Prelude.{◌==◌, ◌||◌, if◌then◌else◌}
-use Rattle.nk_policy.specs.Policy.{Policy, Policies, test, range, assign, sum_of, seq_of, not_of, star_of, dup, link, no_part, part, link_parts}
+use Rattle.nk_policy.specs.Policy.{Policy, Policies, test, range, assign, sum_of, seq_of, not_of, star_of, dup, link, no_part, part}
 use Rattle.nk_field.specs.declared.packet.Packet.{Packet}
 use Rattle.nk_policy.specs.Meaning.{followed_by, rounds, way_of, some_way_of, way_of_all}
 use Rattle.nk_policy.specs.Progress.{Marked, numbered, no_dup, within_either, RecordsAt, SomeRecordsAt, AllRecordAt}
@@ -9,16 +9,6 @@ use Rattle.nk_policy.specs.Distinct.{AreApart, HasDistinct, AllDistinct}
 use Rattle.nk_policy.specs.After.{id_policy, drop_policy, has_dup, some_has_dup, after, after_some, after_all}
 use Rattle.nk_policy.proofs.Tests.{false_true, or_left, or_right, or_end, same_test}
 use Rattle.nk_policy.proofs.ListParts.{no_middle, only_middle, cut}
-
--- a link literal means what the sequence of its six parts does: its runs
-link_way : (a m b n k : ℕ) (pk : Packet) (w : Marked) (y : Packet)
-    → way_of (link a m b n k) numbered pk w y → way_of_all (link_parts a m b n k) numbered pk w y
-link_way a m b n k pk w y r = r
-
--- its runs so far
-link_records : (a m b n k : ℕ) (pk : Packet) (u : Marked) (x : Packet) (l : ℕ)
-    → AllRecordAt (link_parts a m b n k) pk u x l → RecordsAt (link a m b n k) pk u x l
-link_records a m b n k pk u x l r = r
 
 -- the parts of a link literal from the second on
 abbrev pub after1 : ℕ → ℕ → ℕ → ℕ → Policies
