@@ -30,10 +30,6 @@ pub strict_from_neighbours : (xs : List Out)
 strict_from_neighbours [] h = tt
 strict_from_neighbours (x ∷ xs) h = strict_list (x ∷ xs) (sorted_from_all_adjacent total-law (x ∷ xs) x (λ k l. h k x l))
 
--- outs in strict order are in order, each once
-pub ordered_already : (outs : List Out) → Strict outs → AreOrdered outs outs
-ordered_already outs s = record { sorted = s; members = λ o. (λ h. h, λ h. h) }
-
 -- what holds of each out holds of a member
 pub every_member : (P : Out → Type 0) (xs : List Out) (o : Out) → Every P xs → Contains xs o → P o
 every_member P xs o e h = at xs e h.0 h.1 h.2

@@ -25,11 +25,6 @@ bare maxes width tag kept = record { nodes = []; maxes = maxes; width = width; t
 abbrev pub IsSound : StoreState → Type 0
 IsSound st = HasFields st × Sound st.maxes st.nodes
 
--- a number of the store is below the count of its nodes
-pub id_below : (st : StoreState) (d : ℕ) → IsId st d → d < length st.nodes
-unfolding IsId
-id_below st d h = h
-
 -- a node of the list newest first, read from the list oldest first
 node_back : (rs : List Node) (i : ℕ) (e : Node) → i < length rs → node_at rs i ≡ get_or (reverse rs) i e
 node_back [] i e h = absurd (omega arith)
@@ -106,16 +101,6 @@ grows_pushed st base xs ys n e k =
     let same : new ≡ with_nodes base (reverse ys) = ap (λ ns. with_nodes base ns) (sym (pushed_reversed xs ys n k)) in
     subst (λ (s : StoreState). Grows st s) same (subst (λ (s : StoreState). Grows s new) e grown)
 
--- the node put last has the number of those before it
-pub pushed_is : (base : StoreState) (xs ys : List Node) (n : Node) → ys ≡ xs ++ n ∷ [] →
-    IsId (with_nodes base (reverse ys)) (length xs) × (node_of (with_nodes base (reverse ys)) (length xs) ≡ n)
-unfolding IsId node_of
-pushed_is base xs ys n e =
-    let turned = pushed_reversed xs ys n e in (
-      subst (λ (ns : List Node). length xs < length ns) (sym turned) (omega (arith, length-reverse xs)),
-      ap (λ ns. node_at ns (length xs)) turned ∙ ap (λ k. node_at (n ∷ reverse xs) k) (sym (length-reverse xs)) ∙ node_at-new n (reverse xs),
-    )
-
 -- a store has grown from itself
 pub grows_same : (st : StoreState) → Grows st st
 grows_same st = record { ids = λ d h. h; nodes = λ d h. refl; root_fields = λ d h. refl; leaves = λ d pk h. refl; maxes = refl; width = refl; tag = refl; kept = λ operation a b d e. e }
@@ -147,25 +132,6 @@ case_child st d f ps v k = each_child (IsChild st f) 0 ps v (joined_some ps k.jo
 -- the child at a value has a smaller number
 pub case_below : (st : StoreState) (d f : ℕ) (ps : List (ℕ × ℕ)) (v : ℕ) → IsCase st d f ps → child_at 0 ps v < d
 case_below st d f ps v k = each_child (λ c. c < d) 0 ps v (joined_some ps k.joined) k.below
-
--- the node at a place of the nodes oldest first
-pub stored_node : (st : StoreState) (base : StoreState) (xs : List Node) (d : ℕ) (n : Node) →
-    with_nodes base (reverse xs) ≡ st → d < length xs → n ≡ get_or xs d n →
-    IsId st d × (node_at st.nodes d ≡ n)
-unfolding IsId
-stored_node st base xs d n e h k = (
-  subst (λ (s : StoreState). d < length s.nodes) e (omega (arith, length-reverse xs)),
-  ap (λ (s : StoreState). node_at s.nodes d) (sym e) ∙ node_reversed xs d n h ∙ sym k,
-)
-
--- the same, for a number and a node that are known to be equal to those
-pub stored_id : (st : StoreState) (base : StoreState) (xs : List Node) (d e : ℕ) (n m : Node) →
-    with_nodes base (reverse xs) ≡ st → d < length xs → n ≡ get_or xs d n → e ≡ d → n ≡ m →
-    IsId st e × (node_of st e ≡ m)
-unfolding node_of
-stored_id st base xs d e n m v h k same is =
-    let s = stored_node st base xs d n v h k in
-    (subst (IsId st) (sym same) s.0, ap (λ i. node_at st.nodes i) same ∙ s.1 ∙ is)
 
 -- no part at all covers no value
 no_parts : (high : ℕ) → Rises high 0 [] → ⊥
