@@ -5,7 +5,7 @@ use Rattle.std.proofs.lemmas.List.{length-set}
 use Rattle.nk_store.specs.declared.node.Out.{Out}
 use Rattle.nk_store.specs.declared.node.Node.{Node}
 use Rattle.nk_store.specs.declared.node.Node.TheVariants.{Leaf, Case}
-use Rattle.nk_store.specs.StoreState.{StoreState, IsId, node_of, look, root_field, Grows, HasLeaves, IsNodeOf, IsStill, IsReduced}
+use Rattle.nk_store.specs.StoreState.{StoreState, IsId, node_of, look, root_field, HasLeaves, IsNodeOf, IsStill, IsReduced}
 
 -- a diagram tests one of the eighteen fields or none
 root_field_bound : (st : StoreState) (d : ℕ) (n : Node) → IsNodeOf st d n → root_field st d ≤ 18
@@ -35,12 +35,3 @@ pub known_later : (J : List Out → List Out → List Out) (st : StoreState) (a 
     IfSome o (λ d. min (root_field st a) (root_field st b) ≤ root_field st d)
 known_later J st a b None r s n ia ib h = tt
 known_later J st a b (Some d) r s n ia ib h = later_by J st a b d (r d h.id) (s a ia) (s b ib) (root_field_bound st a (node_of st a) (n a ia)) h
-
--- what is put together of diagrams of an earlier store, by the leaves that they have now
-pub leaves_now : (J : List Out → List Out → List Out) (old new : StoreState) (a b d : ℕ) → Grows old new → IsId old a →
-    IsId old b → HasLeaves new d (λ pk. J (look old a pk) (look old b pk)) →
-    HasLeaves new d (λ pk. J (look new a pk) (look new b pk))
-leaves_now J old new a b d g ia ib h = record {
-  id = h.id;
-  leaf = λ pk w. h.leaf pk w ∙ ap (λ x. J x (look old b pk)) (sym (g.leaves a pk ia)) ∙ ap (λ y. J (look new a pk) y) (sym (g.leaves b pk ib));
-}

@@ -1,5 +1,5 @@
 -- Parts of many diagrams together.
-use Rattle.std.proofs.Common.{◌≡◌, ℕ, zero, suc, ◌+◌, ◌-◌, ◌<◌, ◌≤◌, min, cond, leb, true, false, List, [], ◌∷◌, ◌++◌, length, refl, sym, ◌∙◌, ap, subst, arith, get_or}
+use Rattle.std.proofs.Common.{◌≡◌, ℕ, zero, suc, ◌+◌, ◌-◌, ◌<◌, ◌≤◌, min, List, [], ◌∷◌, ◌++◌, length, refl, sym, ◌∙◌, ap, subst, arith, get_or}
 use Rattle.nk_store.specs.declared.node.Node.TheVariants.{Case}
 use Rattle.nk_store.specs.declared.node.Out.{Out}
 use Rattle.nk_store.specs.Nodes.{child_at, Rises}
@@ -169,14 +169,6 @@ pub whole_parts : (st : StoreState) (f d : ℕ) (ps : List (ℕ × ℕ)) → ((w
     HaveParts st f (λ v pk. look st d pk) ps → HaveParts st f (λ v pk. look st (cofactor st f v d) pk) ps
 whole_parts st f d ps s h =
     record { parts = h.parts; leaf = λ v pk w. h.leaf v pk w ∙ ap (λ k. look st k pk) (sym (s v)) }
-
--- one part for all values
-pub one_parts : (st : StoreState) (f d high : ℕ) → f < 18 → IsChild st f d → high ≡ get_or st.maxes f 0 →
-    HaveParts st f (λ v pk. look st d pk) ((high, d) ∷ [])
-one_parts st f d high lt c is = record {
-  parts = record { field = lt; rise = (omega arith, omega (arith, is), omega (arith, is)); children = (c, tt) };
-  leaf = λ v pk w. elim (leb v high) as (λ b. look st (cond b d d) pk ≡ look st d pk) [ true ↦ refl | false ↦ refl ];
-}
 
 -- none of the first n diagrams tests a field before f
 abbrev pub AreFromTo : StoreState → ℕ → List ℕ → ℕ → Type 0

@@ -1,13 +1,11 @@
 -- Where putting leaves together gives one of them.
-use Rattle.std.proofs.Common.{◌≡◌, ℕ, List, [], ◌∷◌, length, arith, refl, sym, ◌∙◌, ap, subst, inl, inr}
+use Rattle.std.proofs.Common.{◌≡◌, ℕ, List, [], ◌∷◌, length, arith, refl, sym, ◌∙◌, ap, inl, inr}
 use Rattle.nk_field.specs.Act.{applied}
 use Rattle.nk_store.specs.declared.node.Out.{Out}
-use Rattle.nk_store.specs.declared.node.Node.{Node}
-use Rattle.nk_store.specs.declared.node.Node.TheVariants.{Leaf}
 use Rattle.std.specs.declared.cmp.Ordering.TheVariants.{Less}
 use Rattle.nk_store.specs.Leaves.{Every, Strict, out_cmp}
-use Rattle.nk_store.specs.StoreState.{StoreState, IsId, look, HasLeaves, IsNodeOf, AreTidy, Grows}
-use Rattle.nk_apply.specs.Leaves.{merged, guarded}
+use Rattle.nk_store.specs.StoreState.{StoreState, IsId, look, HasLeaves, AreTidy, Grows}
+use Rattle.nk_apply.specs.Leaves.{merged}
 use Rattle.nk_apply.specs.Seqs.{prefixed}
 use Rattle.nk_apply.proofs.Sorted.{weave-at, merged_strict}
 use Rattle.nk_apply.proofs.Members.{merged_left, merged_has, strict_same}
@@ -55,16 +53,6 @@ none_beside st none x y iy h is = record {
 -- a diagram keeps its leaves in a store that grew
 pub leaves_grown : (old new : StoreState) (d : ℕ) (F : List ℕ → List Out) → Grows old new → HasLeaves old d F → HasLeaves new d F
 leaves_grown old new d F g h = record { id = g.ids d h.id; leaf = λ pk w. g.leaves d pk h.id ∙ h.leaf pk w }
-
--- nothing where a leaf without an out is not empty
-pub guarded_nothing : (st : StoreState) (a b : ℕ) (n : Node) (outs : List Out) → IsId st a → IsNodeOf st a n →
-    n ≡ Leaf outs → outs ≡ [] → HasLeaves st a (λ pk. guarded (look st a pk) (look st b pk))
-guarded_nothing st a b n outs ia k is e = record {
-  id = ia;
-  leaf = λ pk w.
-      let empty : look st a pk ≡ [] = (subst (IsNodeOf st a) is k).leaf pk ∙ e in
-      empty ∙ sym (ap (λ x. guarded x (look st b pk)) empty);
-}
 
 -- a list without items is empty
 pub no_items : {A : Type 0} (xs : List A) → length xs ≡ 0 → xs ≡ []
