@@ -25,15 +25,13 @@ use Rattle.nk_deriv.proofs.Legs.{legs_push}
 -- a predicate has no dup, and its complements are of predicates
 mutual
   pub predicate_dup_free : (p : Policy) → is_predicate p ≡ true → IsDupFree p
-  predicate_dup_free (test f n) h = tt
-  predicate_dup_free (range f lo hi) h = tt
-  predicate_dup_free (assign f n) h = tt
   predicate_dup_free (sum_of ps) h = predicates_dup_free ps h
   predicate_dup_free (seq_of ps) h = predicates_dup_free ps h
   predicate_dup_free (not_of p) h = (h, predicate_dup_free p h)
   predicate_dup_free (star_of p) h = cc
   predicate_dup_free (dup l) h = cc
   predicate_dup_free (link a m b n l) h = cc
+  predicate_dup_free p h = tt
 
   -- nor have parts that are predicates
   pub predicates_dup_free : (ps : Policies) → are_predicates ps ≡ true → AllDupFree ps

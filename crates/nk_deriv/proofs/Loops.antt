@@ -5,7 +5,7 @@ use Rattle.std.proofs.lemmas.List.{drop_all}
 use Rattle.std.proofs.lemmas.List.Elements.{All-nil, All-weaker}
 use Rattle.nk_field.specs.Packet.{IsValue}
 use Rattle.nk_policy.specs.declared.policy.Pol.{Pol}
-use Rattle.nk_policy.specs.Policy.{Policy, Policies, test, range, assign, sum_of, seq_of, not_of, star_of, dup, link, no_part, part, dups_of, dups_of_all, numbers_of, numbers_of_all, marked_from, all_marked_from, MarksBelow, AllMarksBelow}
+use Rattle.nk_policy.specs.Policy.{Policy, Policies, sum_of, seq_of, not_of, star_of, link, no_part, part, dups_of, dups_of_all, numbers_of, numbers_of_all, marked_from, all_marked_from, MarksBelow, AllMarksBelow}
 use Rattle.nk_policy.specs.Tree.{tree_of, trees_of}
 use Rattle.nk_policy.specs.Meaning.{Gives}
 use Rattle.nk_policy.specs.After.{id_policy, has_dup, some_has_dup, after, after_some, after_all}
@@ -203,15 +203,12 @@ parts_of_rests out end p e f h =
 -- marks that are numbered within 32 bits
 mutual
   pub marks_below : (p : Policy) (n most : ℕ) → n + dups_of p ≤ most + 1 → MarksBelow (marked_from p n) most
-  marks_below (test f k) n most h = tt
-  marks_below (range f lo hi) n most h = tt
-  marks_below (assign f k) n most h = tt
   marks_below (sum_of ps) n most h = all_marks_below ps n most h
   marks_below (seq_of ps) n most h = all_marks_below ps n most h
   marks_below (not_of p) n most h = marks_below p n most h
   marks_below (star_of p) n most h = marks_below p n most h
-  marks_below (dup l) n most h = tt
   marks_below (link a m b k l) n most h = omega (arith, h)
+  marks_below p n most h = tt
 
   -- of parts
   pub all_marks_below : (ps : Policies) (n most : ℕ) → n + dups_of_all ps ≤ most + 1 → AllMarksBelow (all_marked_from ps n) most

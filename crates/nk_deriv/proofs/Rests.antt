@@ -6,7 +6,7 @@ use Rattle.std.proofs.lemmas.List.Elements.{All-nil, All-cons, All-append}
 use Rattle.nk_field.specs.declared.packet.Packet.{Packet}
 use Rattle.nk_field.proofs.Lists.{map_joined}
 use Rattle.nk_policy.specs.declared.policy.Pol.{Pol}
-use Rattle.nk_policy.specs.Policy.{Policy, Policies, test, range, assign, sum_of, seq_of, not_of, star_of, dup, link, no_part, part, is_predicate, are_predicates, dups_of, dups_of_all, numbers_of, numbers_of_all}
+use Rattle.nk_policy.specs.Policy.{Policy, Policies, assign, sum_of, seq_of, not_of, star_of, dup, link, no_part, part, is_predicate, are_predicates, dups_of, dups_of_all, numbers_of, numbers_of_all}
 use Rattle.nk_policy.specs.Tree.{tree_of}
 use Rattle.nk_policy.specs.Meaning.{Gives}
 use Rattle.nk_policy.specs.Progress.{RecordsAt}
@@ -235,15 +235,13 @@ rests_star old new star next following q s c a =
 -- a predicate has no dup
 mutual
   pub predicate_numbers : (p : Policy) → is_predicate p ≡ true → numbers_of p ≡ []
-  predicate_numbers (test f n) h = refl
-  predicate_numbers (range f lo hi) h = refl
-  predicate_numbers (assign f n) h = refl
   predicate_numbers (sum_of ps) h = predicates_numbers ps h
   predicate_numbers (seq_of ps) h = predicates_numbers ps h
   predicate_numbers (not_of p) h = predicate_numbers p h
   predicate_numbers (star_of p) h = cc
   predicate_numbers (dup l) h = cc
   predicate_numbers (link a m b n l) h = cc
+  predicate_numbers p h = refl
 
   -- nor have predicates
   pub predicates_numbers : (ps : Policies) → are_predicates ps ≡ true → numbers_of_all ps ≡ []
@@ -261,15 +259,13 @@ rests_silent old new rest labels next e f =
 -- no dups, no numbers
 mutual
   pub no_dups : (p : Policy) → dups_of p ≡ 0 → numbers_of p ≡ []
-  no_dups (test f n) h = refl
-  no_dups (range f lo hi) h = refl
-  no_dups (assign f n) h = refl
   no_dups (sum_of ps) h = no_dups_in ps h
   no_dups (seq_of ps) h = no_dups_in ps h
   no_dups (not_of p) h = no_dups p h
   no_dups (star_of p) h = no_dups p h
   no_dups (dup l) h = absurd (omega (arith, h))
   no_dups (link a m b n l) h = absurd (omega (arith, h))
+  no_dups p h = refl
 
   -- of parts
   pub no_dups_in : (ps : Policies) → dups_of_all ps ≡ 0 → numbers_of_all ps ≡ []

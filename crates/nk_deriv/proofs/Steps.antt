@@ -61,16 +61,8 @@ steps_end (link a m b n l) pk x = one_ends (link a m b n l) pk x
 
 -- what is the empty sum
 pub drop_is : (p : Policy) → is_drop p ≡ true → p ≡ drop_policy
-drop_is (test f n) h = absurd (false_true h)
-drop_is (range f lo hi) h = absurd (false_true h)
-drop_is (assign f n) h = absurd (false_true h)
 drop_is (sum_of no_part) h = refl
-drop_is (sum_of (part p ps)) h = absurd (false_true h)
-drop_is (seq_of ps) h = absurd (false_true h)
-drop_is (not_of p) h = absurd (false_true h)
-drop_is (star_of p) h = absurd (false_true h)
-drop_is (dup l) h = absurd (false_true h)
-drop_is (link a m b n l) h = absurd (false_true h)
+drop_is p h = absurd (false_true h)
 
 -- it gives nothing
 pub drop_ends : (p : Policy) → is_drop p ≡ true → (pk x : Packet) → Gives p pk [] x → ⊥
