@@ -186,10 +186,6 @@ module _ (maxes : List ℕ) (tag : ℕ) (ports : slice_index maxes 1 ≡ 65535) 
       → out_cmp x y ≡ ordering_then (slice_cmp (λ p q. ordering_then (nat_cmp p.0 q.0) (nat_cmp p.1 q.1)) x.act y.act) (nat_cmp x.target y.target)
   out_cmp_is x y = refl
 
-  -- a lesser number compares as less
-  less_cmp : (m n : ℕ) → m < n → nat_cmp m n ≡ Less
-  less_cmp m n h = ap (λ b. cond b Less (cond (m == n) Equal Greater)) (let e : nat_lt m n ≡ true = grind (arith, nat_tests, h) in e)
-
   -- equal numbers compare as equal
   same_cmp : (m n : ℕ) → m ≡ n → nat_cmp m n ≡ Equal
   same_cmp m n h =
