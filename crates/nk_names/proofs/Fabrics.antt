@@ -62,9 +62,6 @@ either true true = refl
 either false true = refl
 either a b = refl
 
-turned : (a b : ℕ) → (a == b) ≡ (b == a)
-turned a b = grind arith
-
 -- one more port is found by itself, and the others as before
 pub ports_with : (test : VirtualLink → ℕ → ℕ → Bool) (links more : List VirtualLink) (k : VirtualLink) (old new : List (ℕ × ℕ)) (p : ℕ × ℕ)
     → more ≡ links ++ k ∷ []
@@ -144,12 +141,6 @@ ends_tested topo links a m b n =
     ∙ ap (λ t. text_fault_if t kind.SourceTwice m.line) (sym (source_there topo links a.value m.value)))
     (fault_is (is_target virtuals b.value n.value) fault.TargetTwice n.line
     ∙ ap (λ t. text_fault_if t kind.TargetTwice n.line) (sym (target_there topo links b.value n.value)))))
-
--- a number at fault
-pub ends_refused : (topo : Topology) (links : List VirtualLink) (a m b n : Number) (e : NamesError)
-    → literal_ends a m b n ≡ Some e → ends_fault topo links a m b n ≡ Some e
-ends_refused topo links a m b n e h =
-    ends_tested topo links a m b n ∙ ap (λ o. first_of o (tested topo links a.value m.value b.value n.value m.line n.line)) h
 
 -- a number without fault is that of a port
 within : (k : Number) → value_above 65535 k ≡ None → min k.value 65535 ≡ k.value

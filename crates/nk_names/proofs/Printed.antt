@@ -152,10 +152,6 @@ module _ (line : ℕ) (fields : FieldTable) where
   no_star (star_of p) h = absurd cc
   no_star p h = refl
 
-  or_false : (b : Bool) → (b || false) ≡ b
-  or_false true = refl
-  or_false false = refl
-
   -- the text of a part of a sum, where its own is the policy's
   term_is : (p : Policy) (text : List ℕ) → form_text (form_of line fields p) ≡ text
       → text_of (lexemes_of_term (term_from (form_of line fields p))) ≡ enclosed (is_sum p) text
