@@ -2,7 +2,7 @@
 use Rattle.std.proofs.Common.{◌≤◌, ℕ, suc, subst, List, [], ◌∷◌, ◌++◌, refl, sym, append_assoc, append-nil, arith}
 use Rattle.nk_lex.specs.declared.ident.Number.{Number}
 use Rattle.nk_grammar.specs.Terminal.{Terminal, plus_sign, semicolon, star_sign, closing}
-use Rattle.nk_grammar.specs.Grammar.{Pol, Term, Factor, Atom, one_term, plus, one_factor, semi, plain, starred, written_not, written_id, written_drop, written_dup, written_name, written_test, written_range, written_set, written_link, paren, spell_pol, spell_term, spell_factor, spell_atom}
+use Rattle.nk_grammar.specs.Grammar.{Pol, Term, Factor, Atom, one_term, plus, one_factor, semi, plain, starred, written_not, written_test, written_range, written_set, written_link, paren, spell_pol, spell_term, spell_factor, spell_atom}
 use Rattle.nk_grammar.specs.File.{Written, written_field, written_tag, written_switch, written_declared_link, written_let, written_fabric, written_virtual, spell_ports, spell_declaration, spell_file}
 use Rattle.nk_nesting.specs.Counts.{open_in_pol, open_in_term, open_in_factor, open_in_atom, open_in_ports, open_in_declaration, open_in_file, GoWith}
 
@@ -39,10 +39,6 @@ mutual
   atom_goes : (a : Atom) (n m : ℕ) (js : List ℕ) (r : List Terminal) → m ≤ n → GoWith m js r
       → GoWith n (open_in_atom n a ++ m ∷ js) (spell_atom a ++ r)
   atom_goes (written_not l a) n m js r le go = (refl, atom_goes a (suc n) m js r (omega arith) go)
-  atom_goes written_id n m js r le go = (le, go)
-  atom_goes written_drop n m js r le go = (le, go)
-  atom_goes written_dup n m js r le go = (le, go)
-  atom_goes (written_name w) n m js r le go = (le, go)
   atom_goes (written_test w k) n m js r le go = (omega arith, (omega arith, (le, go)))
   atom_goes (written_range w a b) n m js r le go =
       (omega arith, (omega arith, (omega arith, (omega arith, (le, go)))))
@@ -54,6 +50,7 @@ mutual
     subst (λ l. GoWith (suc n) (open_in_pol (suc n) p ++ m ∷ js) l) (sym (append_assoc (spell_pol p) (closing ∷ []) r))
         (pol_goes p (suc n) (m ∷ js) (closing ∷ r) (omega arith, go)),
   )
+  atom_goes a n m js r le go = (le, go)
 
 -- further ports
 ports_go : (ps : List Number) (js : List ℕ) (r : List Terminal) → GoWith 0 js r

@@ -192,12 +192,7 @@ after_ports : (n : Number) (qs : List Number) (ds : List Declaration) (ws : List
     → Goes ws (reading between (one_more ds (switch n qs))) → Goes ws (reading (port_read n qs) ds)
 after_ports n qs ds [] h = tt
 after_ports n qs ds (written_field v m ∷ ws) h = h
-after_ports n qs ds (written_tag v ∷ ws) h = h
-after_ports n qs ds (written_switch m p ps ∷ ws) h = h
-after_ports n qs ds (written_declared_link a m b k ∷ ws) h = h
-after_ports n qs ds (written_let l v p ∷ ws) h = h
-after_ports n qs ds (written_fabric l v p ∷ ws) h = h
-after_ports n qs ds (written_virtual a m b k v ∷ ws) h = h
+after_ports n qs ds ws h = h
 
 -- a token at which nothing is open
 pub nothing_open : {A : Type 0} → A → (0 ≤ 0) × (0 ≤ 256 → (0 ≤ 256) × A)

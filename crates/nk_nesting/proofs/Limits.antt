@@ -8,7 +8,7 @@ use Rattle.nk_lex.specs.declared.token.Token.{Token}
 use Rattle.nk_lex.specs.Faults.{and_then}
 use Rattle.nk_grammar.specs.declared.decl.GrammarError.{GrammarError}
 use Rattle.nk_grammar.specs.declared.decl.GrammarError.TheVariants as error
-use Rattle.nk_grammar.specs.Terminal.{Terminal, name, number, tilde, opening, closing, plus_sign, semicolon, star_sign, equal, becomes, colon, fat_arrow, id_word, drop_word, dup_word, in_word, dots, outside, terminal_of}
+use Rattle.nk_grammar.specs.Terminal.{Terminal, tilde, opening, terminal_of}
 use Rattle.nk_grammar.specs.File.{Declaration, Written, declared, spell_file}
 use Rattle.nk_grammar.specs.FileMachine.{Reading, read_one, read_all, first_reading, declarations_at_end, open_count, judged, ended_at, rest_of_file, file_of}
 use Rattle.nk_grammar.specs.Answer.{terminals, IsDeepToken, IsParse}
@@ -109,24 +109,9 @@ reads_within ts ws e few =
 
 -- the only tokens that raise the count are `(` and `~`, and by one
 pub raises : (t : Terminal) (n k : ℕ) → Changes t n k → n ≤ 256 → 256 < k → IsOpening t × (k ≡ 257)
-raises (name x) n k c le lt = absurd (omega (arith, c, le, lt))
-raises (number x) n k c le lt = absurd (omega (arith, c, le, lt))
 raises (tilde l) n k c le lt = (tt, omega (arith, c, le, lt))
 raises opening n k c le lt = (tt, omega (arith, c, le, lt))
-raises closing n k c le lt = absurd (omega (arith, c, le, lt))
-raises plus_sign n k c le lt = absurd (omega (arith, c, le, lt))
-raises semicolon n k c le lt = absurd (omega (arith, c, le, lt))
-raises star_sign n k c le lt = absurd (omega (arith, c, le, lt))
-raises equal n k c le lt = absurd (omega (arith, c, le, lt))
-raises becomes n k c le lt = absurd (omega (arith, c, le, lt))
-raises colon n k c le lt = absurd (omega (arith, c, le, lt))
-raises fat_arrow n k c le lt = absurd (omega (arith, c, le, lt))
-raises id_word n k c le lt = absurd (omega (arith, c, le, lt))
-raises drop_word n k c le lt = absurd (omega (arith, c, le, lt))
-raises dup_word n k c le lt = absurd (omega (arith, c, le, lt))
-raises in_word n k c le lt = absurd (omega (arith, c, le, lt))
-raises dots n k c le lt = absurd (omega (arith, c, le, lt))
-raises (outside z) n k c le lt = absurd (omega (arith, c, le, lt))
+raises t n k c le lt = absurd (omega (arith, c, le, lt))
 
 -- after no front of the tokens more than 256 are open
 abbrev IsShallowFrom : Reading → List Terminal → Type 0
