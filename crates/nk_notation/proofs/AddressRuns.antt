@@ -83,10 +83,6 @@ record AreOctets (a b c d : Option ℕ) (n : ℕ) : Type 0 where
 
 are_octets : (a b c d : Option ℕ) (n : ℕ) → of_octets a b c d ≡ Some n → AreOctets a b c d n
 unfolding of_octets
-are_octets None b c d n h = absurd cc
-are_octets (Some x) None c d n h = absurd cc
-are_octets (Some x) (Some y) None d n h = absurd cc
-are_octets (Some x) (Some y) (Some z) None n h = absurd cc
 are_octets (Some x) (Some y) (Some z) (Some u) n h = record {
   first = x;
   second = y;
@@ -98,6 +94,7 @@ are_octets (Some x) (Some y) (Some z) (Some u) n h = record {
   d_is = refl;
   make = ap held_number h;
 }
+are_octets a b c d n h = absurd cc
 
 before_none : before_first 46 [] ≡ []
 unfolding before_first first_place

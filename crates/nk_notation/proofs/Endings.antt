@@ -20,11 +20,7 @@ module _ (asked : Option Direction) (source out err : Use) where
   sent Differs line m t = absurd m
   sent Refused line m t = absurd m
   sent WriteFault line m t = absurd m
-  sent Usage line m t = (line, m, t)
-  sent Text line m t = (line, m, t)
-  sent ReadFault line m t = (line, m, t)
-  sent NoMemory line m t = (line, m, t)
-  sent TooLong line m t = (line, m, t)
+  sent meant line m t = (line, m, t)
 
   -- a line that was meant went out, or its sink failed at it
   line_caused : (meant s : Status) (line : List ℕ) → IsLineMeant asked source out meant line → IsDelivered err line meant s
@@ -77,12 +73,10 @@ tells_usage asked source out err s h = (
 -- the run says that a read failed, or its sink fails at that
 ending_read : (made : List ℕ → Translated) (source out err : Use) (s : Status) (e : Ending)
     → TranslationEnds made source out e → Tells e err s → source.before < source.now → IsDelivered err (codes "read fault\n") ReadFault s
-ending_read made source out err s ending.Done ends t rose = absurd (omega (arith, rose, ends.quiet))
-ending_read made source out err s ending.WriteFault ends t rose = absurd (omega (arith, rose, ends.quiet))
-ending_read made source out err s (ending.Refused f) ends t rose = absurd (omega (arith, rose, ends.quiet))
 ending_read made source out err s ending.ReadFault ends t rose = t
 ending_read made source out err s ending.NoMemory ends t rose = absurd (omega (arith, rose, ends.1))
 ending_read made source out err s ending.TooLong ends t rose = absurd (omega (arith, rose, ends.1))
+ending_read made source out err s e ends t rose = absurd (omega (arith, rose, ends.quiet))
 
 pub tells_read : (asked : Option Direction) (source out err : Use) (s : Status) → AnswersTranslation asked source out err s
     → source.before < source.now → IsDelivered err (codes "read fault\n") ReadFault s

@@ -9,15 +9,12 @@ use Rattle.nk_notation.specs.Laws.{AllKept, lexeme_bytes}
 use Rattle.nk_notation.specs.Translation.{then_rest}
 
 bytes_joined : (b : ℕ) (ls : List TextLexeme) → lexeme_bytes (joined_to_word b ls) ≡ b ∷ lexeme_bytes ls
-bytes_joined b [] = refl
-bytes_joined b (Word [] ∷ ls) = refl
 bytes_joined b (Word (c ∷ w) ∷ ls) =
     elim (c == 61) as (λ t. lexeme_bytes (cond t (Word (b ∷ []) ∷ Word (c ∷ w) ∷ ls) (Word (b ∷ c ∷ w) ∷ ls)) ≡ b ∷ c ∷ w ++ lexeme_bytes ls) [
       | true ↦ refl
       | false ↦ refl
     ]
-bytes_joined b (Byte c ∷ ls) = refl
-bytes_joined b (Note c ∷ ls) = refl
+bytes_joined b ls = refl
 
 pub bytes_cut : (noted : Bool) (bs : List ℕ) → lexeme_bytes (cut_text noted bs) ≡ bs
 bytes_cut noted [] = refl

@@ -24,13 +24,9 @@ use Rattle.nk_notation.specs.Translation.{Translated, then_rest}
 pub passed : {X : Type 0} (whole rest : List ℕ → Translated) (piece old bytes : List ℕ) (out : Use) (r : Result X Ending)
     → old ≡ [] → ((more : List ℕ) → then_rest old (whole (piece ++ more)) ≡ then_rest bytes (rest more)) → AreBytesSent bytes out r → Passes whole rest piece out r
 passed whole rest piece old bytes out (Ok x) none h sent = (bytes, λ more. subst (λ l. then_rest l (whole (piece ++ more)) ≡ then_rest bytes (rest more)) none (h more), sent)
-passed whole rest piece old bytes out (Err (ending.Refused f)) none h sent = absurd sent
-passed whole rest piece old bytes out (Err ending.Done) none h sent = absurd sent
-passed whole rest piece old bytes out (Err ending.ReadFault) none h sent = absurd sent
-passed whole rest piece old bytes out (Err ending.NoMemory) none h sent = absurd sent
-passed whole rest piece old bytes out (Err ending.TooLong) none h sent = absurd sent
 passed whole rest piece old bytes out (Err ending.WriteFault) none h sent =
     (bytes, λ more. ((rest more).bytes, ap (λ t. t.bytes) (subst (λ l. then_rest l (whole (piece ++ more)) ≡ then_rest bytes (rest more)) none (h more))), sent)
+passed whole rest piece old bytes out r none h sent = absurd sent
 
 -- The bytes that were read so far, and what was written; what comes of the whole text is that and what comes of the bytes that are left.
 pub record IsSoFar (made left : List ℕ → Translated) (s0 s1 o0 o1 : Option (List ℕ)) (n : ℕ) : Type 0 where
@@ -125,9 +121,6 @@ pub ends_at_piece : (X : Type 0) (e : Ending) (made left rest : List ℕ → Tra
     → IsSoFar made left s0 s1 o0 o1 n → GivesPiece s1 s2 n now into k → now ≤ limit → fs2 ≡ fs0 → fo1 ≡ fo0
     → Passes {X = X} left rest (take k into) (record { old = o1; new = o2; before = fo1; now = fo2 }) (Err e)
     → TranslationEnds made (record { old = s0; new = s2; before = fs0; now = fs2 }) (record { old = o0; new = o2; before = fo0; now = fo2 }) e
-ends_at_piece X ending.Done made left rest s0 s1 s2 o0 o1 o2 n now k fs0 fs2 fo0 fo1 fo2 into so piece le qs qo p = absurd p
-ends_at_piece X ending.ReadFault made left rest s0 s1 s2 o0 o1 o2 n now k fs0 fs2 fo0 fo1 fo2 into so piece le qs qo p = absurd p
-ends_at_piece X ending.TooLong made left rest s0 s1 s2 o0 o1 o2 n now k fs0 fs2 fo0 fo1 fo2 into so piece le qs qo p = absurd p
 ends_at_piece X (ending.Refused f) made left rest s0 s1 s2 o0 o1 o2 n now k fs0 fs2 fo0 fo1 fo2 into so piece le qs qo p =
     let counted = count_more (length so.text) k n now so.count piece.count le in record {
       text = so.text ++ take k into;
@@ -171,6 +164,7 @@ ends_at_piece X ending.WriteFault made left rest s0 s1 s2 o0 o1 o2 n now k fs0 f
         part = failed_past o0 o1 o2 so.written p.0 so.taken p.2.part;
       };
     }
+ends_at_piece X e made left rest s0 s1 s2 o0 o1 o2 n now k fs0 fs2 fo0 fo1 fo2 into so piece le qs qo p = absurd p
 
 -- all that was left was read, where nothing is left
 all_read : (old new : Option (List ℕ)) (bytes : List ℕ) → Consumes old new bytes → IsAtEnd new → IsAllOf old bytes

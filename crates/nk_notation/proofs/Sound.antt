@@ -35,8 +35,6 @@ word_lost w front =
 -- the bytes to come can be such that no word is malformed
 pub sound_rest : {A : Type 0} (made : A → List TextLexeme → Translated) → ((n : A) (bs : List ℕ) → (made n (map Byte bs)).fault ≡ None)
     → (n : A) (s : Open) (held : List ℕ) → is_held s held ≡ true → IsSoundSoFar (λ more. made n (lexemes_left s held more)) []
-sound_rest made sound n is_open.Between held h = ([], sound n [])
-sound_rest made sound n is_open.Long held h = ([], sound n [])
-sound_rest made sound n is_open.Comment held h = ([], sound n [])
 sound_rest made sound n is_open.Word held h =
     (long_run, ap (λ ls. (made n ls).fault) (word_lost held (held_word held h).0) ∙ sound n (held ++ long_run))
+sound_rest made sound n s held h = ([], sound n [])
