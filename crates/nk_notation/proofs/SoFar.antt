@@ -1,6 +1,6 @@
 -- A text that is translated piece by piece: what was read and written so far, and how the run ends.
-use Rattle.std.proofs.Common.{rules, ◌≡◌, ◌≤◌, ◌<◌, ◌+◌, ◌++◌, [], ◌∷◌, suc, inl, inr, ℕ, List, length, take, min, refl, sym, ap, ◌∙◌, arith, subst, zero-add, append_assoc, append-nil}
-use Rattle.std.proofs.KnownBytes.{Appends-trans, Appends-nil, Consumes-nil, Consumes-kept, Consumes-trans}
+use Rattle.std.proofs.Common.{rules, ◌≡◌, ◌≤◌, ◌<◌, ◌+◌, ◌++◌, [], ◌∷◌, suc, inl, inr, ℕ, List, length, take, min, sym, ap, ◌∙◌, arith, subst, zero-add, append_assoc, append-nil}
+use Rattle.std.proofs.KnownBytes.{Appends-trans, Consumes-kept, Consumes-trans}
 use Rattle.std.proofs.lemmas.List.{length-append, length-take}
 use Rattle.std.specs.declared.option.Option.{Option}
 use Rattle.std.specs.declared.result.Result.{Result}
@@ -37,18 +37,6 @@ pub record IsSoFar (made left : List ℕ → Translated) (s0 s1 o0 o1 : Option (
   pub written : List ℕ
   pub taken : Appends o0 o1 written
   pub all : (more : List ℕ) → made (text ++ more) ≡ then_rest written (left more)
-
--- before the first piece
-pub none_so_far : (made : List ℕ → Translated) (s o : Option (List ℕ)) → IsSoFar made made s s o o 0
-none_so_far made s o = record {
-  text = [];
-  read = Consumes-nil s;
-  count = refl;
-  fits = omega arith;
-  written = [];
-  taken = Appends-nil o;
-  all = λ more. refl;
-}
 
 two_parts : (w v : List ℕ) (t : Translated) → then_rest w (then_rest v t) ≡ then_rest (w ++ v) t
 two_parts w v t = ap (λ l. record { bytes = l; fault = t.fault }) (sym (append_assoc w v t.bytes))
