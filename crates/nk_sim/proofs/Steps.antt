@@ -5,7 +5,7 @@ use Rattle.std.specs.List.{flat_map}
 use Rattle.std.specs.List.Sorted.{IsPermutation}
 use Rattle.std.proofs.lemmas.List.{length-map}
 use Rattle.std.proofs.lemmas.List.Concat.{flat_map-append}
-use Rattle.std.proofs.lemmas.List.Elements.{All-nil, All-cons, All-map}
+use Rattle.std.proofs.lemmas.List.Elements.{All-map}
 use Rattle.std.proofs.lemmas.List.Sorted.{IsPermutation-append, All-permutation}
 use Rattle.nk_field.specs.declared.history.History.{History}
 use Rattle.nk_field.proofs.Lists.{map_joined, map_over_joined}
@@ -66,14 +66,7 @@ sent_leave t cs k fs =
     ∙ sent_copies (leaves t) t cs k fs
     ∙ joined_same _ _ (λ (c : Copy). joined_mapped (with_packet c) (leaves t) (sent_for t c.packet)) (copies_of cs k fs))
 
--- the copy at the start
-pub waits_first : (t : Tables) (pk : List ℕ) (cs : List Crossing) (fs : List Flying) → fs ≡ record { last = 0; packet = pk } ∷ [] → AreWaiting t pk 0 cs fs
-waits_first t pk cs fs e = record {
-  copies = ap (copies_of cs 0) e;
-  trails = subst (HaveTrails cs 0) (sym e) (All-cons (Has cs 0) record { last = 0; packet = pk } [] tt (All-nil (Has cs 0)));
-}
-
--- those after one crossing more
+-- the copies that wait after one crossing more
 pub waits_next : (t : Tables) (pk : List ℕ) (k : ℕ) (cs ds : List Crossing) (fs sent next : List Flying) → AreWaiting t pk k cs fs
     → sent ≡ flat_map (sent_flying t) fs → (HaveTrails cs k sent → AreCrossed t cs ds k sent next) → AreWaiting t pk (k + 1) ds next
 waits_next t pk k cs ds fs sent next are e cross =
