@@ -198,15 +198,13 @@ abbrev pub switch_so : WrittenTables → Number → Value
 switch_so x n = and_then (declared_so x) (λ v. unless_declared (number_fault v.said.topo n) v)
 
 abbrev pub FitsDeclaring : Declaring → WrittenTables → KnownValue → Type 0
-FitsDeclaring declaring.Field x k = Gives (declared_so x) (Declares x) k
 FitsDeclaring (declaring.FieldNamed w) x k = Gives (declared_so x) (λ v p. Declares x v p × (p.declaring.name ≡ w)) k
-FitsDeclaring declaring.Tag x k = Gives (declared_so x) (Declares x) k
-FitsDeclaring declaring.Switch x k = Gives (declared_so x) (Declares x) k
 FitsDeclaring (declaring.SwitchNumbered n) x k = Gives (switch_so x n) (Ported x n []) k
 FitsDeclaring (declaring.FirstPort n) x k = Gives (switch_so x n) (Ported x n []) k
 FitsDeclaring (declaring.NextPort n q qs) x k = Gives (ports_so x n (q ∷ qs)) (Ported x n (values_of (q ∷ qs))) k
 FitsDeclaring (declaring.PortRead n q qs) x k = Gives (ports_so x n (q ∷ qs)) (Ported x n (values_of (q ∷ qs))) k
 FitsDeclaring (declaring.Link q) x k = Gives (declared_so x) (λ v p. Declares x v p × Linked q p.declaring) k
+FitsDeclaring d x k = Gives (declared_so x) (Declares x) k
 
 abbrev pub FitsGrouping : Grouping → WrittenTables → WrittenTable → KnownValue → Type 0
 FitsGrouping grouping.Group x c k = Gives (grouped_so x c) (Groups x c) k

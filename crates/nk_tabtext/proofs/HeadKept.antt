@@ -165,10 +165,8 @@ fields_of_text [] h = tt
 fields_of_text (d ∷ ds) h = (h.0, fields_of_text ds h.1)
 
 has_port : (d : Declaration) → HasPort (plain_declaration d)
-has_port (declared.Field w n) = tt
-has_port (declared.Tag w) = tt
 has_port (declared.Switch n p ps) = omega arith
-has_port (declared.Link a m b n) = tt
+has_port d = tt
 
 have_ports : (ds : List Declaration) → AllByRecursion HasPort (map plain_declaration ds)
 have_ports [] = tt

@@ -194,10 +194,7 @@ feed_apart (y ∷ ys) = refl
 open_apart : (r : List Lexeme) → IsApart (Lexeme.sign Sign.open_bracket) r
 open_apart [] = tt
 open_apart (Lexeme.space ∷ ys) = refl
-open_apart (Lexeme.line_feed ∷ ys) = refl
-open_apart (Lexeme.word v ∷ ys) = refl
-open_apart (Lexeme.numeral m ∷ ys) = refl
-open_apart (Lexeme.sign t ∷ ys) = refl
+open_apart r = refl
 
 -- they stand apart
 value_apart : (b : Bool) (v n : ℕ) (r : List Lexeme) → IsApart (Lexeme.numeral v) (lex_length b n (Lexeme.space ∷ r))
@@ -299,10 +296,7 @@ bucket_bytes fs b r =
 close_apart : (r : List Lexeme) → IsApart (Lexeme.sign Sign.close_bracket) r
 close_apart [] = tt
 close_apart (Lexeme.space ∷ ys) = refl
-close_apart (Lexeme.line_feed ∷ ys) = refl
-close_apart (Lexeme.word v ∷ ys) = refl
-close_apart (Lexeme.numeral m ∷ ys) = refl
-close_apart (Lexeme.sign t ∷ ys) = refl
+close_apart r = refl
 
 exit_apart : (e : Exit) (r : List Lexeme) → IsExitShown e → AreSeparate r → AreSeparate (lex_exit e r)
 exit_apart exit.Back r h a = ((refl, refl), refl, (tt, refl, ((refl, refl), refl, (tt, close_apart r, a))))

@@ -179,20 +179,15 @@ pub record Rest (f g : FillingValue) : Type 0 where
 
 pub owns_still : (x : WrittenTables) (c : WrittenTable) (o : Owner) (ss ts : List (ℕ × ℕ)) (e : Exit) (v : Sofar) (p : PartialValue) (f : FillingValue) → Owns x c o ss v p
     → Rest f p.filling → f.sets ≡ ts → Owns x c o ts (with_sets v ts e) (record p { filling = f })
-owns_still x c (owner.First n) ss ts e v p f h r s = (
-  opens_still x c c [] [] v (with_sets v ts e) p f h.0 refl refl refl r.switch (r.groups ∙ h.0.groups) (r.rows ∙ h.0.rows),
-  record { buckets = r.buckets ∙ h.1.buckets; matches = r.matches ∙ h.1.matches; sets = s },
-  r.number ∙ h.2,
-)
-owns_still x c (owner.Next g) ss ts e v p f h r s = (
-  opens_still x c c [] [] v (with_sets v ts e) p f h.0 refl refl refl r.switch (r.groups ∙ h.0.groups) (r.rows ∙ h.0.rows),
-  record { buckets = r.buckets ∙ h.1.buckets; matches = r.matches ∙ h.1.matches; sets = s },
-  r.number ∙ h.2,
-)
 owns_still x c (owner.Row q ms) ss ts e v p f h r s = (
   opens_still x c c v.rows v.rows v (with_sets v ts e) p f h.0 refl refl refl r.switch (r.groups ∙ h.0.groups) (r.rows ∙ h.0.rows),
   record { buckets = r.buckets ∙ h.1.buckets; matches = r.matches ∙ h.1.matches; sets = s },
   r.priority ∙ h.2,
+)
+owns_still x c o ss ts e v p f h r s = (
+  opens_still x c c [] [] v (with_sets v ts e) p f h.0 refl refl refl r.switch (r.groups ∙ h.0.groups) (r.rows ∙ h.0.rows),
+  record { buckets = r.buckets ∙ h.1.buckets; matches = r.matches ∙ h.1.matches; sets = s },
+  r.number ∙ h.2,
 )
 
 pub owns_sets : (x : WrittenTables) (c : WrittenTable) (o : Owner) (ss : List (ℕ × ℕ)) (v : Sofar) (p : PartialValue) → Owns x c o ss v p → p.filling.sets ≡ ss

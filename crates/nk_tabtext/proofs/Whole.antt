@@ -90,51 +90,26 @@ gives_going (Err e) R (Stopped l) h = absurd (never e h)
   where
     never : (f : ReadError) → Gives (Err f) R (Stopped l) → ⊥
     never error.NoMemory g = g
-    never (error.BadByte line) g = g
-    never (error.NumberTooLarge line) g = g
-    never (error.Unexpected line) g = g
-    never (error.TableFault line) g = g
+    never f g = g
 
 row_going : (r : InRow) (x : WrittenTables) (c : WrittenTable) (k : KnownValue) → Fits (stage.InRow r) x c k → IsGoing k
 row_going in_row.Row x c k h = gives_going _ _ k h
-row_going (in_row.RowNumbered q) x c k h = gives_going _ _ k h
-row_going (in_row.Matches q ms) x c k h = gives_going _ _ k h
-row_going (in_row.MatchNamed q ms w) x c k h = gives_going _ _ k h
-row_going (in_row.MatchTested q ms w) x c k h = gives_going _ _ k h
-row_going (in_row.MatchValued q ms w n) x c k h = gives_going _ _ k h
-row_going (in_row.MatchSlashed q ms w n) x c k h = gives_going _ _ k h
-row_going (in_row.Target q ms) x c k h = gives_going _ _ k h
-row_going (in_row.TargetGroup q ms) x c k h = gives_going _ _ k h
+row_going r x c k h = gives_going _ _ k h
 
 bucket_going : (o : Owner) (l : Place) (x : WrittenTables) (c : WrittenTable) (k : KnownValue) → Fits (stage.InBucket o l) x c k → IsGoing k
 bucket_going o (place.Sets ps) x c k h = gives_going _ _ k h.1
-bucket_going o (place.Named ps w) x c k h = gives_going _ _ k h.1
-bucket_going o (place.Assigned ps w) x c k h = gives_going _ _ k h.1
-bucket_going o (place.Out ps) x c k h = gives_going _ _ k h.1
-bucket_going o (place.Left ps e) x c k h = gives_going _ _ k h.1
+bucket_going o l x c k h = gives_going _ _ k h.1
 
 pub going : (s : Stage) (x : WrittenTables) (c : WrittenTable) (k : KnownValue) → Fits s x c k → IsGoing k
 going stage.Start x c k h = subst IsGoing (sym h) tt
 going stage.Version x c k h = subst IsGoing (sym h) tt
-going stage.Between x c k h = gives_going _ _ k h.1
 going (stage.Declared declaring.Field) x c k h = gives_going _ _ k h.1
-going (stage.Declared (declaring.FieldNamed w)) x c k h = gives_going _ _ k h.1
-going (stage.Declared declaring.Tag) x c k h = gives_going _ _ k h.1
-going (stage.Declared declaring.Switch) x c k h = gives_going _ _ k h.1
-going (stage.Declared (declaring.SwitchNumbered n)) x c k h = gives_going _ _ k h.1
-going (stage.Declared (declaring.FirstPort n)) x c k h = gives_going _ _ k h.1
-going (stage.Declared (declaring.NextPort n q qs)) x c k h = gives_going _ _ k h.1
-going (stage.Declared (declaring.PortRead n q qs)) x c k h = gives_going _ _ k h.1
-going (stage.Declared (declaring.Link q)) x c k h = gives_going _ _ k h.1
 going stage.Table x c k h = gives_going _ _ k h
-going stage.Groups x c k h = gives_going _ _ k h.1
 going (stage.Grouped grouping.Group) x c k h = gives_going _ _ k h.1
-going (stage.Grouped (grouping.GroupNumbered n)) x c k h = gives_going _ _ k h.1
-going (stage.Grouped (grouping.FirstBucket n)) x c k h = gives_going _ _ k h.1
-going (stage.Grouped (grouping.BucketRead g)) x c k h = gives_going _ _ k h.1
 going (stage.InBucket o l) x c k h = bucket_going o l x c k h
 going stage.Rows x c k h = gives_going _ _ k h
 going (stage.InRow r) x c k h = row_going r x c k h
+going s x c k h = gives_going _ _ k h.1
 
 pub goes_on : (k : KnownValue) (p : Progress) (t : Token) → IsGoing k → progress_on k p t ≡ step_on (after_token p.state t.kind) p t
 goes_on (Sound q) p t g = refl
