@@ -63,16 +63,6 @@ cofactors_push : (st : StoreState) (g v : ℕ) (p : ℕ × ℕ) (ps : List (ℕ 
 cofactors_push st g v p [] = refl
 cofactors_push st g v p (q ∷ ps) = ap (λ qs. (q.0, cofactor st g v q.1) ∷ qs) (cofactors_push st g v p ps)
 
--- no parts, up to the highest value
-pub cut_none : (st : StoreState) (g v e : ℕ) → v ≤ get_or st.maxes g 0 → e ≡ get_or st.maxes g 0 →
-    IsCut st g v [] (e, [])
-cut_none st g v e h is = record {
-  from = omega (arith, h, is);
-  within = omega (arith, is);
-  same = λ w l m. refl;
-  children = tt;
-}
-
 -- one part more
 pub cut_push : (st : StoreState) (g v end e : ℕ) (ps cut : List (ℕ × ℕ)) (p q : ℕ × ℕ) → IsCut st g v ps (end, cut) →
     IsPart st g p.1 v q → e ≡ min end q.0 → IsCut st g v (ps ++ p ∷ []) (e, cut ++ (p.0, q.1) ∷ [])
