@@ -31,14 +31,6 @@ use Rattle.nk_determ.proofs.Regrouped.{flat_has, has_flat}
 use Rattle.nk_determ.proofs.Runs.{target_has, has_target, label_has, has_label}
 use Rattle.nk_determ.proofs.PlainSteps.{same_act}
 
--- no outs have no acts
-pub no_acts : AreActsOf [] []
-no_acts = record {
-  among = λ g c. absurd (omega (arith, c.1));
-  each = λ o c. absurd (omega (arith, c.1));
-  alike = λ g h c. absurd (omega (arith, c.1));
-}
-
 module _ (before : List Out) (o : Out) (acts : List (List (ℕ × ℕ))) (are : AreActsOf before acts) where
   -- one out more that is a final, or whose act is there
   pub acts_kept : (0 < o.target → Contains acts o.act) → AreActsOf (before ++ o ∷ []) acts
@@ -200,10 +192,6 @@ target_later old new all g t grow k =
         every = λ l. subst (λ (xs : List ℕ). Contains xs l ↔ ((0 < l) × Contains all (record { act = g; target = l }))) (sym same) (s.every l);
       },
     )
-
--- no act has no out
-pub no_outs : (sets : List (List ℕ)) (all : List Out) → AreOutsByAct sets all [] []
-no_outs sets all = record { among = λ o c. absurd (omega (arith, c.1)); each = λ g c. absurd (omega (arith, c.1)) }
 
 -- one act more
 pub outs_more : (old new : List (List ℕ)) (all : List Out) (acts : List (List (ℕ × ℕ))) (outs : List Out) (g : List (ℕ × ℕ)) (t : ℕ) → SetsGrow old new →

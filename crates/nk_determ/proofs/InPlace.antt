@@ -2,17 +2,15 @@
 use Rattle.std.proofs.Common.{◌≡◌, ℕ, ◌<◌, Bool, true, false, cond, eqb, nat_eq, ◌||◌, List, [], ◌∷◌, ◌++◌, length, take, drop, get_or, refl, sym, ◌∙◌, ap, subst, arith, ◌⊎◌, inl, inr}
 use Rattle.std.specs.List.{flat_map, list_any}
 use Rattle.std.specs.List.Sorted.{IsStrictlyIncreasing}
-use Rattle.std.proofs.lemmas.List.{append_assoc, append-nil}
-use Rattle.nk_field.specs.contracts.act.ActPartialEq.TheImpl.{ghosts}
+use Rattle.std.proofs.lemmas.List.{append-nil}
 use Rattle.nk_store.specs.declared.node.Out.{Out}
 use Rattle.nk_store.specs.Leaves.{Strict}
 use Rattle.nk_apply.proofs.Members.{Has}
-use Rattle.nk_determ.specs.Branches.{Branch, with_target, begun, runs, branches, branches_in, first_act, targets_in, branch_of, labels}
+use Rattle.nk_determ.specs.Branches.{Branch, branches, branches_in, first_act, targets_in, branch_of, labels}
 use Rattle.nk_determ.specs.Sets.{SetsGrow}
 use Rattle.nk_determ.specs.States.{IsThere, HasAll, final_of, branch_outs}
-use Rattle.nk_determ.proofs.Ascents.{act_decides}
 use Rattle.nk_determ.proofs.Runs.{labels_ascend}
-use Rattle.nk_determ.proofs.HaveSets.{there_grow, leaf_has}
+use Rattle.nk_determ.proofs.HaveSets.{leaf_has}
 
 -- the first act is that of the out at place 0
 first_at : (outs : List Out) (d : Out) → 0 < length outs → (get_or outs 0 d).act ≡ first_act outs
@@ -45,37 +43,6 @@ final_put outs all new o g l copied put e =
 pub final_left : (outs all : List Out) → list_any (λ o. nat_eq o.target 0) outs ≡ false → all ≡ all ++ final_of (first_act outs) (targets_in outs)
 final_left outs all e = sym (append-nil all) ∙ ap (λ xs. all ++ xs) (sym (final_is outs false e))
 
--- the branch that assigns nothing, in front of all, makes nothing unless outs belong to it
-pub begun_makes_none : (sets : List (List ℕ)) (os : List Out) → flat_map (branch_outs sets) (branches_in os) ≡ flat_map (branch_outs sets) (branches os)
-begun_makes_none sets [] = refl
-begun_makes_none sets (o ∷ os) = by (ghosts.eq o.act []) refl
-  where
-    by : (b : Bool) → ghosts.eq o.act [] ≡ b → flat_map (branch_outs sets) (runs (with_target (begun o.act) o.target) os)
-        ≡ flat_map (branch_outs sets) (cond b (runs (with_target (begun []) o.target) os) (begun [] ∷ runs (with_target (begun o.act) o.target) os))
-    by true e = ap (λ a. flat_map (branch_outs sets) (runs (with_target (begun a) o.target) os)) ((act_decides o.act []).0 e)
-    by false e = refl
-
--- each branch is one after the one that assigns nothing
-pub branch_after : (os : List Out) (c : Branch) → Has (branches_in os) c → Has (branches os) c
-branch_after [] c h = absurd h
-branch_after (o ∷ os) c h = by (ghosts.eq o.act []) refl
-  where
-    by : (b : Bool) → ghosts.eq o.act [] ≡ b → Has (cond b (runs (with_target (begun []) o.target) os) (begun [] ∷ runs (with_target (begun o.act) o.target) os)) c
-    by true e = subst (λ a. Has (runs (with_target (begun a) o.target) os) c) ((act_decides o.act []).0 e) h
-    by false e = inr h
-
--- and the other way round, but for the one without labels
-pub after_branch : (sets : List (List ℕ)) (os : List Out) (c : Branch) → Has (branches os) c → Has (branches_in os) c ⊎ IsThere sets (labels c.targets)
-after_branch sets [] c (inl e) = inr (subst (λ (z : Branch). IsThere sets (labels z.targets)) e tt)
-after_branch sets [] c (inr k) = absurd k
-after_branch sets (o ∷ os) c h = by (ghosts.eq o.act []) refl h
-  where
-    by : (b : Bool) → ghosts.eq o.act [] ≡ b → Has (cond b (runs (with_target (begun []) o.target) os) (begun [] ∷ runs (with_target (begun o.act) o.target) os)) c →
-        Has (runs (with_target (begun o.act) o.target) os) c ⊎ IsThere sets (labels c.targets)
-    by true e k = inl (subst (λ a. Has (runs (with_target (begun a) o.target) os) c) (sym ((act_decides o.act []).0 e)) k)
-    by false e (inl is) = inr (subst (λ (z : Branch). IsThere sets (labels z.targets)) is tt)
-    by false e (inr k) = inl k
-
 -- what is done and what is left to do of a leaf, whose rest it is
 pub record IsLeft (old sets : List (List ℕ)) (outs all rest : List Out) : Type 0 where
   pub grows : SetsGrow old sets
@@ -83,36 +50,10 @@ pub record IsLeft (old sets : List (List ℕ)) (outs all rest : List Out) : Type
   pub within : (c : Branch) → Has (branches_in rest) c → Has (branches outs) c
   pub there : (c : Branch) → Has (branches outs) c → Has (branches_in rest) c ⊎ IsThere sets (labels c.targets)
 
--- at first all is left
-pub all_left : (sets : List (List ℕ)) (outs : List Out) → SetsGrow sets sets → IsLeft sets sets outs [] outs
-all_left sets outs g = record {
-  grows = g;
-  made = λ later h. begun_makes_none later outs;
-  within = λ c h. branch_after outs c h;
-  there = λ c h. after_branch sets outs c h;
-}
-
 module _ (old sets : List (List ℕ)) (outs all rest run following : List Out) (k : IsLeft old sets outs all rest) (is : branches_in rest ≡ branch_of run ∷ branches_in following) where
   -- the labels of the run ascend
   pub run_ascends : Strict outs → IsStrictlyIncreasing (labels (targets_in run))
   run_ascends s = labels_ascend outs s (branch_of run) (k.within (branch_of run) (subst (λ bs. Has bs (branch_of run)) (sym is) (inl refl)))
-
-  -- one run less is left
-  pub run_done : (more : List (List ℕ)) (new : List Out) → SetsGrow old more → SetsGrow sets more → ((later : List (List ℕ)) → SetsGrow more later → SetsGrow sets later) →
-      ((later : List (List ℕ)) → SetsGrow more later → new ≡ all ++ branch_outs later (branch_of run)) → IsThere more (labels (targets_in run)) → IsLeft old more outs new following
-  run_done more new g h on made now = record {
-    grows = g;
-    made = λ later l.
-        let F = branch_outs later in
-        let left = flat_map F (branches_in following) in
-        ap (λ x. x ++ left) (made later l) ∙ append_assoc all (F (branch_of run)) left ∙ ap (λ bs. all ++ flat_map F bs) (sym is) ∙ k.made later (on later l);
-    within = λ c i. k.within c (subst (λ bs. Has bs c) (sym is) (inr i));
-    there = λ c i. elim (k.there c i) [ inl j ↦ front c (subst (λ bs. Has bs c) is j) | inr t ↦ inr (there_grow sets more (labels c.targets) h t) ];
-  }
-    where
-      front : (c : Branch) → Has (branch_of run ∷ branches_in following) c → Has (branches_in following) c ⊎ IsThere more (labels c.targets)
-      front c (inl e) = inr (subst (λ (z : Branch). IsThere more (labels z.targets)) e now)
-      front c (inr j) = inl j
 
 -- where nothing is left, the leaf has its sets
 pub all_there : (old sets : List (List ℕ)) (outs all rest : List Out) → length rest ≡ 0 → Strict outs → IsLeft old sets outs all rest → HasAll sets outs
