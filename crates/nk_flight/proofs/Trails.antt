@@ -197,16 +197,3 @@ got_mapped f (x ∷ xs) (suc i) = got_mapped f xs i
 -- where there is one
 pub mapped_at : {X Y : Type 0} (f : X → Y) (xs : List X) (i : ℕ) (x : X) → slice_get xs i ≡ Some x → slice_get (map f xs) i ≡ Some (f x)
 mapped_at f xs i x e = got_mapped f xs i ∙ ap (image f) e
-
--- one crossing back
-pub trail_back : (fields : FieldTable) (hs : List Hop) → AreHops hs → (m n i : ℕ) → m ≡ suc n → i < length hs → (hop_at hs i).crossings ≡ m
-    → ((hop_at hs i).earlier < length hs) × ((hop_at hs (hop_at hs i).earlier).crossings ≡ n)
-    × (records_at fields hs m (hop_at hs i) ≡ records_at fields hs n (hop_at hs (hop_at hs i).earlier) ++ erased fields (hop_at hs i).before ∷ erased fields (hop_at hs i).packet ∷ [])
-trail_back fields hs are m n i e lt count =
-    ⊎_elim
-    (λ none. absurd (omega (arith, none, count, e)))
-    (λ r.
-    let within : (hop_at hs i).earlier < length hs = omega (arith, r.0, lt) in
-    let fewer : (hop_at hs (hop_at hs i).earlier).crossings ≡ n = omega (arith, r.1, count, e) in
-    (within, fewer, ap (λ k. records_at fields hs k (hop_at hs i)) e))
-    (are i lt)
