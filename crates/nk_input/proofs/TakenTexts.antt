@@ -1,5 +1,5 @@
 -- A text in memory whose tokens are taken as they come.
-use Rattle.std.proofs.Common.{◌≡◌, ℕ, List, [], ◌++◌, refl, sym, ap, subst, ◌∙◌, append_assoc, append-nil}
+use Rattle.std.proofs.Common.{◌≡◌, ℕ, List, ◌++◌, sym, ap, subst, ◌∙◌, append_assoc}
 use Rattle.std.specs.declared.result.Result.{Result}
 use Rattle.std.specs.Prelude.{Ok, Err, IfOk, OnOk, Option, Some, None, All, ◌≤◌}
 use Rattle.std.specs.declared.alloc.AllocError.{AllocError}
@@ -26,10 +26,6 @@ pub record IsTakenSoFar (text rest : List ℕ) (P : List Token → Type 0) (s : 
   pub fed : IsFed front s
   pub taken : P (completed front)
 
--- nothing so far
-pub nothing_so_far : (text : List ℕ) (P : List Token → Type 0) (s : FeedState) → IsFed [] s → P (completed []) → IsTakenSoFar text text P s
-nothing_so_far text P s fed taken = record { front = []; whole = refl; fed = fed; taken = taken }
-
 -- a piece more
 pub piece_more : (text rest piece more : List ℕ) (P Q : List Token → Type 0) (s t : FeedState) (so : IsTakenSoFar text rest P s) → rest ≡ piece ++ more
     → IsFed (so.front ++ piece) t → Q (completed (so.front ++ piece)) → IsTakenSoFar text more Q t
@@ -39,10 +35,6 @@ piece_more text rest piece more P Q s t so split fed taken = record {
   fed = fed;
   taken = taken;
 }
-
--- all of it
-pub all_taken : (text rest : List ℕ) (P : List Token → Type 0) (s : FeedState) (so : IsTakenSoFar text rest P s) → rest ≡ [] → so.front ≡ text
-all_taken text rest P s so none = sym (append-nil so.front) ∙ ap (λ l. so.front ++ l) (sym none) ∙ so.whole
 
 -- the numbers of a text's tokens are small
 pub small_of : ValuesAreSmall → (text : List ℕ) (ts : List Token) → tokens_of text ≡ Ok ts → All (λ t. t.value ≤ largest) ts
