@@ -1,4 +1,5 @@
 pub mod Cuts
 pub mod Declared
+pub mod OneText
 pub mod SoFar
 pub mod TakenTexts
