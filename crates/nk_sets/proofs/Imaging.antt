@@ -73,16 +73,6 @@ free_push old st new g s r d p a b h free k =
           (ap has_some_out (b.leaves r (set y f v) free.set.id) ∙ free.goes x (set y f v) rx in_range e beside);
     }
 
--- no field forgotten
-pub free_none : (st : StoreState) (s : ℕ) → IsSet st s → IsFree st [] s st s
-free_none st s is = record {
-  set = is;
-  comes = λ y range e. (y, range, e, λ f o. refl);
-  goes = λ x y rx ry e same.
-      let one : x ≡ y = same_number_lists x y (rx.0 ∙ sym ry.0) (λ k l. same k tt) in
-      ap (is_in st s) (sym one) ∙ e;
-}
-
 -- one value more
 assigned_more :
     (maxes : List ℕ) (g : List (ℕ × ℕ)) (p : ℕ × ℕ) (pk : List ℕ) (b : Bool)

@@ -70,14 +70,6 @@ pub record Reached (st : StoreState) (s f : ℕ) (ps : List (ℕ × ℕ)) (from 
   pub at : (v : ℕ) → from ≤ v → v ≤ get_or st.maxes f 0 → child_at 0 ps v ≡ child_at 0 rest v
   pub none : (v : ℕ) (pk : List ℕ) → v < from → IsWhole pk → is_in st (child_at 0 ps v) pk ≡ false
 
--- at first
-pub reached_none : (st : StoreState) (s f : ℕ) (ps : List (ℕ × ℕ)) → IsCase st s f ps → Reached st s f ps 0 ps
-reached_none st s f ps c = record {
-  rise = c.parts_ok.rise;
-  at = λ v lo hi. refl;
-  none = λ v pk less w. absurd (omega (arith, less));
-}
-
 -- without a start
 restart :
     (high from v : ℕ) (p : ℕ × ℕ) (rest : List (ℕ × ℕ)) → Rises high from rest → v ≤ high → from ≤ v
