@@ -45,10 +45,7 @@ same_tests false false f g = refl
 -- the parts of a conjunction of four
 four_hold : (x y z w : Bool) → (x && y && z && w) ≡ true → (x ≡ true) × (y ≡ true) × (z ≡ true) × (w ≡ true)
 four_hold true true true true e = (refl, refl, refl, refl)
-four_hold true true true false e = cc
-four_hold true true false w e = cc
-four_hold true false z w e = cc
-four_hold false y z w e = cc
+four_hold x y z w e = cc
 
 -- both are one test
 pub declared_is :

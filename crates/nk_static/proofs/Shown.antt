@@ -39,45 +39,19 @@ field_shown : (tag : ℕ) (links : List Link) (q : Policy) → shows_something t
 field_shown tag links (test f n) h = h
 field_shown tag links (range f lo hi) h = h
 field_shown tag links (assign f n) h = (neither (f == 0) (tag == f) h).1
-field_shown tag links (sum_of ps) h = refl
-field_shown tag links (seq_of ps) h = refl
-field_shown tag links (not_of p) h = refl
-field_shown tag links (star_of p) h = refl
-field_shown tag links (dup l) h = refl
-field_shown tag links (link a m b n l) h = refl
+field_shown tag links q h = refl
 
 dup_shown : (tag : ℕ) (links : List Link) (q : Policy) → shows_something tag links q ≡ false → is_dup q ≡ false
-dup_shown tag links (test f n) h = refl
-dup_shown tag links (range f lo hi) h = refl
-dup_shown tag links (assign f n) h = refl
-dup_shown tag links (sum_of ps) h = refl
-dup_shown tag links (seq_of ps) h = refl
-dup_shown tag links (not_of p) h = refl
-dup_shown tag links (star_of p) h = refl
 dup_shown tag links (dup l) h = h
-dup_shown tag links (link a m b n l) h = refl
+dup_shown tag links q h = refl
 
 switch_shown : (tag : ℕ) (links : List Link) (q : Policy) → shows_something tag links q ≡ false → is_switch_assignment q ≡ false
-switch_shown tag links (test f n) h = refl
-switch_shown tag links (range f lo hi) h = refl
 switch_shown tag links (assign f n) h = (neither (f == 0) (tag == f) h).0
-switch_shown tag links (sum_of ps) h = refl
-switch_shown tag links (seq_of ps) h = refl
-switch_shown tag links (not_of p) h = refl
-switch_shown tag links (star_of p) h = refl
-switch_shown tag links (dup l) h = refl
-switch_shown tag links (link a m b n l) h = refl
+switch_shown tag links q h = refl
 
 link_shown : (tag : ℕ) (links : List Link) (q : Policy) → shows_something tag links q ≡ false → is_link_outside links q ≡ false
-link_shown tag links (test f n) h = refl
-link_shown tag links (range f lo hi) h = refl
-link_shown tag links (assign f n) h = refl
-link_shown tag links (sum_of ps) h = refl
-link_shown tag links (seq_of ps) h = refl
-link_shown tag links (not_of p) h = refl
-link_shown tag links (star_of p) h = refl
-link_shown tag links (dup l) h = refl
 link_shown tag links (link a m b n l) h = h
+link_shown tag links q h = refl
 
 -- so nothing is seen
 pub nothing_shown : (tag : ℕ) (links : List Link) (p : Policy) → has_leaf (shows_something tag links) p ≡ false → static_fault_of tag links p ≡ None
