@@ -1,5 +1,5 @@
 -- Which packets of a diagram have which out, node by node.
-use Rattle.std.proofs.Common.{◌≡◌, ℕ, suc, zero, ◌<◌, ◌≤◌, ◌+◌, cond, eqb, inl, inr, refl, sym, ◌∙◌, ap, subst, arith, List, [], ◌∷◌, ◌++◌, length, get_or, map, Contains, Option, Some, None, IsSome}
+use Rattle.std.proofs.Common.{◌≡◌, ℕ, suc, zero, ◌<◌, ◌≤◌, ◌+◌, cond, eqb, inl, inr, refl, sym, ◌∙◌, ap, subst, arith, List, [], ◌∷◌, ◌++◌, length, get_or, map, Contains, Option, Some, None}
 use Rattle.std.specs.Map.{lookup}
 use Rattle.std.proofs.lemmas.Bool.Decides.{eqb_tells, leb_tells}
 use Rattle.std.proofs.lemmas.List.{get_or_default}
@@ -15,7 +15,7 @@ use Rattle.nk_apply.proofs.Built.{part_old}
 use Rattle.nk_sets.specs.PacketSets.{has_some_out, is_in}
 use Rattle.nk_outs.specs.declared.groups.Stretch.{Stretch}
 use Rattle.nk_outs.specs.declared.outs.Given.{Given}
-use Rattle.nk_outs.specs.Outs.{given, entry, IsGiven, AreLater, IsByOut, AreByOut, stretch, stretches, IsUpTo, AreOfDiagram}
+use Rattle.nk_outs.specs.Outs.{given, entry, IsGiven, AreLater, IsByOut, AreByOut, stretch, IsUpTo, AreOfDiagram}
 use Rattle.nk_outs.proofs.Kept.{packet_on, packet_back}
 use Rattle.nk_outs.proofs.Givens.{given_on, later_on, gives_on, gives_back}
 use Rattle.nk_outs.proofs.Stretches.{stretches_on, has_at_on, has_at_back, stretches_append, any_left, any_right, any_split, map_stretches, map_gives, gives_map}
@@ -114,15 +114,6 @@ up_to_push a st new d f from p es all id split ga part g by_one m =
         | inr before ↦ any_left new f all more x o (has_at_on st new f all 0 (length all) (get_or x f 0) x o g m.given (omega arith) (m.comes x o w before.1 c))
       ];
     }
-
--- what the table has for a diagram are its entries
-pub found_put : (st : StoreState) (d from end : ℕ) (kept : List (ℕ × List Given)) (old new : List Stretch) → AreByOut st kept → IsSome (lookup (eqb d) kept) →
-    new ≡ old ++ stretches from end (lookup (eqb d) kept) → (es : List Given) × IsByOut st d es × (new ≡ old ++ map (stretch from end) es)
-found_put st d from end kept old new are some is = by (lookup (eqb d) kept) refl some is
-  where
-    by : (r : Option (List Given)) → lookup (eqb d) kept ≡ r → IsSome r → new ≡ old ++ stretches from end r → (es : List Given) × IsByOut st d es × (new ≡ old ++ map (stretch from end) es)
-    by None e s is = absurd cc
-    by (Some es) e s is = (es, are d es e, is)
 
 -- those of all parts are those of the diagram
 pub up_to_all : (a new : StoreState) (d f bound : ℕ) (ss : List Stretch) → IsId a d → root_field a d ≡ f → Grows a new → get_or a.maxes f 0 < bound → IsUpTo a d f bound new ss → AreOfDiagram new f d ss
