@@ -8,7 +8,7 @@ use Rattle.std.proofs.lemmas.List.FromFn.{length-range_with_len}
 use Rattle.nk_field.specs.Act.{applied}
 use Rattle.nk_field.specs.Packet.{FieldTable, IsValue}
 use Rattle.nk_policy.specs.declared.policy.Pol.{Pol}
-use Rattle.nk_policy.specs.Policy.{Policy, Policies, test, range, assign, sum_of, seq_of, not_of, star_of, dup, link, no_part, part, dups_of, numbers_of}
+use Rattle.nk_policy.specs.Policy.{Policy, Policies, sum_of, seq_of, not_of, star_of, no_part, part, dups_of, numbers_of}
 use Rattle.nk_policy.specs.Tree.{tree_of}
 use Rattle.nk_policy.specs.Progress.{RecordsAt}
 use Rattle.nk_policy.specs.After.{has_dup, after}
@@ -143,15 +143,11 @@ part_state st d made s h is fit fits none = record {
 mutual
   -- the complements of a dup-free policy are of predicates
   dup_free_negates : (p : Policy) → IsDupFree p → NegatesPredicates p
-  dup_free_negates (test f n) h = tt
-  dup_free_negates (range f lo hi) h = tt
-  dup_free_negates (assign f n) h = tt
   dup_free_negates (sum_of ps) h = all_dup_free_negate ps h
   dup_free_negates (seq_of ps) h = all_dup_free_negate ps h
   dup_free_negates (not_of p) h = (h.0, dup_free_negates p h.1)
   dup_free_negates (star_of p) h = dup_free_negates p h
-  dup_free_negates (dup l) h = tt
-  dup_free_negates (link a m b n l) h = tt
+  dup_free_negates p h = tt
 
   -- so are those of the parts
   all_dup_free_negate : (ps : Policies) → AllDupFree ps → AllNegatePredicates ps

@@ -1,6 +1,6 @@
 -- What a predicate does: it keeps the packet, records nothing and assigns nothing.
 use Rattle.std.proofs.Common.{◌≡◌, ℕ, Bool, true, false, ◌&&◌, ⊎_elim, List, [], ◌++◌, refl, ap, ◌∙◌}
-use Rattle.nk_policy.specs.Policy.{Policy, Policies, test, range, assign, sum_of, seq_of, not_of, star_of, dup, link, no_part, part, is_predicate, are_predicates}
+use Rattle.nk_policy.specs.Policy.{Policy, Policies, test, range, sum_of, seq_of, not_of, no_part, part, is_predicate, are_predicates}
 use Rattle.nk_policy.specs.Meaning.{way_of, some_way_of, way_of_all}
 use Rattle.nk_policy.specs.Ranges.{AssignsOnly, AllAssignOnly}
 
@@ -16,13 +16,10 @@ module _ {A : Type 0} (mark : ℕ → List ℕ → A) where
         way_of p mark pk w y → (w ≡ []) × (y ≡ pk)
     predicate_keeps (test f n) h pk w y r = (r.1, r.2)
     predicate_keeps (range f lo hi) h pk w y r = (r.2, r.3)
-    predicate_keeps (assign f n) h pk w y r = cc
     predicate_keeps (sum_of ps) h pk w y r = some_predicate_keeps ps h pk w y r
     predicate_keeps (seq_of ps) h pk w y r = predicates_keep ps h pk w y r
     predicate_keeps (not_of p) h pk w y r = r.0
-    predicate_keeps (star_of p) h pk w y r = cc
-    predicate_keeps (dup l) h pk w y r = cc
-    predicate_keeps (link a m b n l) h pk w y r = cc
+    predicate_keeps p h pk w y r = cc
 
     -- so does a sum of predicates
     some_predicate_keeps : (ps : Policies) → are_predicates ps ≡ true →
@@ -49,13 +46,10 @@ mutual
       AssignsOnly Allowed p
   predicate_assigns Allowed (test f n) h = tt
   predicate_assigns Allowed (range f lo hi) h = tt
-  predicate_assigns Allowed (assign f n) h = cc
   predicate_assigns Allowed (sum_of ps) h = predicates_assign Allowed ps h
   predicate_assigns Allowed (seq_of ps) h = predicates_assign Allowed ps h
   predicate_assigns Allowed (not_of p) h = tt
-  predicate_assigns Allowed (star_of p) h = cc
-  predicate_assigns Allowed (dup l) h = cc
-  predicate_assigns Allowed (link a m b n l) h = cc
+  predicate_assigns Allowed p h = cc
 
   -- nor do several predicates
   predicates_assign : (Allowed : ℕ → ℕ → Type 0) (ps : Policies) → are_predicates ps ≡ true →

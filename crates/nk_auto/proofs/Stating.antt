@@ -3,7 +3,7 @@ use Rattle.std.proofs.Common.{◌≡◌, ◌≢◌, ℕ, zero, suc, ◌+◌, ◌
 use Rattle.std.specs.Prelude.{slice_index, slice_set, Contains, ◌==◌, if◌then◌else◌}
 use Rattle.std.specs.List.{range_with_len}
 use Rattle.std.proofs.lemmas.List.FromFn.{length-range_with_len, get_or-range_with_len}
-use Rattle.nk_policy.specs.Policy.{Policy, Policies, test, range, assign, sum_of, seq_of, not_of, star_of, dup, link, no_part, part, dups_of, numbers_of, marked_from}
+use Rattle.nk_policy.specs.Policy.{Policy, Policies, assign, sum_of, seq_of, star_of, dup, link, no_part, part, dups_of, numbers_of, marked_from}
 use Rattle.nk_policy.specs.Meaning.{Gives}
 use Rattle.nk_policy.specs.Progress.{RecordsAt}
 use Rattle.nk_policy.specs.After.{id_policy, drop_policy, has_dup, after, after_some, after_all, after_dup}
@@ -38,12 +38,8 @@ dup_negates k l = choice_negates (l == k) id_policy drop_policy tt tt
 mutual
   -- the complements of what is left are of predicates too
   after_negates : (p : Policy) (l : ℕ) → NegatesPredicates p → NegatesPredicates (after p l)
-  after_negates (test f n) l h = tt
-  after_negates (range f lo hi) l h = tt
-  after_negates (assign f n) l h = tt
   after_negates (sum_of ps) l h = after_some_negates ps l h
   after_negates (seq_of ps) l h = after_all_negates ps l h
-  after_negates (not_of p) l h = tt
   after_negates (star_of p) l h = (after_negates p l h, (h, tt))
   after_negates (dup k) l h = dup_negates k l
   after_negates (link a m b n k) l h =
@@ -53,6 +49,7 @@ mutual
       (if l == (k + 1) then seq_of (part (after_dup (k + 1) l) no_part) else drop_policy)
       (dup_negates k l, (tt, (tt, (tt, tt))))
       (choice_negates (l == (k + 1)) (seq_of (part (after_dup (k + 1) l) no_part)) drop_policy (dup_negates (k + 1) l, tt) tt)
+  after_negates p l h = tt
 
   -- of a sum
   after_some_negates : (ps : Policies) (l : ℕ) → AllNegatePredicates ps → NegatesPredicates (after_some ps l)

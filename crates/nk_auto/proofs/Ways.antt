@@ -2,7 +2,7 @@
 use Rattle.std.proofs.Common.{◌≡◌, ℕ, suc, ◌≤◌, ◌⊎◌, inl, inr, ⊎_elim, true, false, List, [], ◌∷◌, refl, sym, ap, subst, ◌∙◌, arith}
 use Rattle.std.specs.Prelude.{slice_index, ◌||◌}
 use Rattle.std.proofs.lemmas.List.Elements.{All-contains, Contains-push}
-use Rattle.nk_policy.specs.Policy.{Policy, Policies, test, range, assign, sum_of, seq_of, not_of, star_of, dup, link, no_part, part, is_predicate, are_predicates, dups_of, dups_of_all}
+use Rattle.nk_policy.specs.Policy.{Policy, Policies, sum_of, seq_of, not_of, star_of, dup, link, no_part, part, is_predicate, are_predicates, dups_of, dups_of_all}
 use Rattle.nk_policy.specs.Meaning.{Gives, way_of, rounds}
 use Rattle.nk_policy.specs.Progress.{Marked, numbered, RecordsAt, SomeRecordsAt, AllRecordAt}
 use Rattle.nk_policy.specs.After.{has_dup, some_has_dup}
@@ -104,15 +104,10 @@ star_records p pk z y t g r =
 mutual
   -- a predicate has no dup
   pub predicate_holds_none : (p : Policy) (l : ℕ) → is_predicate p ≡ true → has_dup p l ≡ true → ⊥
-  predicate_holds_none (test f n) l h k = cc
-  predicate_holds_none (range f lo hi) l h k = cc
-  predicate_holds_none (assign f n) l h k = cc
   predicate_holds_none (sum_of ps) l h k = predicates_hold_none ps l h k
   predicate_holds_none (seq_of ps) l h k = predicates_hold_none ps l h k
   predicate_holds_none (not_of p) l h k = predicate_holds_none p l h k
-  predicate_holds_none (star_of p) l h k = cc
-  predicate_holds_none (dup m) l h k = cc
-  predicate_holds_none (link a m b n j) l h k = cc
+  predicate_holds_none p l h k = cc
 
   -- nor do several
   predicates_hold_none : (ps : Policies) (l : ℕ) → are_predicates ps ≡ true → some_has_dup ps l ≡ true → ⊥
@@ -128,15 +123,12 @@ mutual
   -- a predicate records nothing
   pub predicate_records_none : (p : Policy) → is_predicate p ≡ true → (pk : List ℕ) (u : Marked) (x : List ℕ)
       (l : ℕ) → RecordsAt p pk u x l → ⊥
-  predicate_records_none (test f n) h pk u x l r = absurd r
-  predicate_records_none (range f lo hi) h pk u x l r = absurd r
-  predicate_records_none (assign f n) h pk u x l r = absurd r
   predicate_records_none (sum_of ps) h pk u x l r = predicates_record_none ps h pk u x l r
   predicate_records_none (seq_of ps) h pk u x l r = predicates_never_record ps h pk u x l r
-  predicate_records_none (not_of p) h pk u x l r = absurd r
   predicate_records_none (star_of p) h pk u x l r = cc
   predicate_records_none (dup k) h pk u x l r = cc
   predicate_records_none (link a m b n k) h pk u x l r = cc
+  predicate_records_none p h pk u x l r = absurd r
 
   -- nor does one of several
   predicates_record_none : (ps : Policies) → are_predicates ps ≡ true → (pk : List ℕ) (u : Marked) (x : List ℕ)
@@ -157,15 +149,13 @@ mutual
 -- a policy of which no dup is counted holds none
 mutual
   pub no_dup : (p : Policy) (l : ℕ) → dups_of p ≡ 0 → has_dup p l ≡ false
-  no_dup (test f n) l none = refl
-  no_dup (range f lo hi) l none = refl
-  no_dup (assign f n) l none = refl
   no_dup (sum_of ps) l none = no_dup_among ps l none
   no_dup (seq_of ps) l none = no_dup_among ps l none
   no_dup (not_of p) l none = no_dup p l none
   no_dup (star_of p) l none = no_dup p l none
   no_dup (dup k) l none = absurd (omega (arith, none))
   no_dup (link a m b n k) l none = absurd (omega (arith, none))
+  no_dup p l none = refl
 
   no_dup_among : (ps : Policies) (l : ℕ) → dups_of_all ps ≡ 0 → some_has_dup ps l ≡ false
   no_dup_among no_part l none = refl
