@@ -7,7 +7,7 @@ use Rattle.std.proofs.lemmas.Bool.Decides.{leb_tells}
 use Rattle.std.proofs.lemmas.List.{take_more}
 use Rattle.std.proofs.lemmas.List.Elements.{Contains-push, Contains-append_left, Contains-push_cases}
 use Rattle.std.proofs.lemmas.List.Sorted.{Contains-permutation, IsPermutation-sym}
-use Rattle.nk_policy.specs.Policy.{Policy, Policies, sum_of, seq_of, part, no_part}
+use Rattle.nk_policy.specs.Policy.{Policy, Policies, sum_of, seq_of, part}
 use Rattle.nk_policy.specs.Meaning.{Gives}
 use Rattle.nk_policy.proofs.Tests.{or_left, false_true}
 use Rattle.nk_store.specs.declared.node.Out.{Out}
@@ -54,19 +54,7 @@ arm_behind st f d ends p ps keeps a child = record {
     or_false true = refl
     or_false false = refl
 
--- an arm stays so in a store that grew
-pub arm_grow : (old new : StoreState) (f : ℕ) (x : Arm) (p : Policy) → Grows old new → IsArm old f x p → IsArm new f x p
-arm_grow old new f x p g h = record {
-  child = child_grows old new f x.1 g h.child;
-  ends = λ pk w. every_same (λ o. o.target ≡ 0) _ _ (g.leaves x.1 pk h.child.id) (h.ends pk w);
-  sends = λ fit pk y t r.
-      let both = h.sends (fit_before old new p g fit) pk y t (packet_before old new pk g r) in (
-        λ s. both.0 (s.0, sends_back old new x.1 pk y t g h.child.id s.1),
-        λ s. let k = both.1 s in (k.0, sends_on old new x.1 pk y t g h.child.id k.1),
-      );
-}
-
--- so do several
+-- arms stay so in a store that grew
 pub arms_grow : (old new : StoreState) (f : ℕ) (xs : List Arm) (p : Policy) → Grows old new → AreArms old f xs p → AreArms new f xs p
 arms_grow old new f xs p g h = record {
   behind = λ x c. child_grows old new f x.1 g (h.behind x c);
@@ -76,14 +64,6 @@ arms_grow old new f xs p g h = record {
         λ s. both.0 (s.0, s.1, s.2, sends_back old new s.0.1 pk y t g (h.behind s.0 s.1).id s.3),
         λ s. let k = both.1 s in (k.0, k.1, k.2, sends_on old new k.0.1 pk y t g (h.behind k.0 k.1).id k.3),
       );
-}
-
--- a sum of no part has no arm
-pub arms_none : (st : StoreState) (f : ℕ) → AreArms st f [] (sum_of no_part)
-arms_none st f = record {
-  behind = λ x c. absurd (contains_has [] x c);
-  ends = λ x c. absurd (contains_has [] x c);
-  sends = λ fit pk y t r. (λ s. absurd (contains_has [] s.0 s.1), λ s. absurd s.1);
 }
 
 -- one part more
