@@ -1,9 +1,8 @@
 -- The diagrams of each set put together.
-use Rattle.std.proofs.Common.{◌≡◌, ℕ, zero, suc, ◌<◌, ◌≤◌, ◌+◌, ◌-◌, ◌⊎◌, true, false, inl, inr, refl, sym, ◌∙◌, ap, subst, arith, cond, eqb, List, [], ◌∷◌, ◌++◌, length, length-append, get_or, Some, None, Contains}
+use Rattle.std.proofs.Common.{◌≡◌, ℕ, zero, suc, ◌<◌, ◌≤◌, ◌+◌, ◌-◌, ◌⊎◌, true, false, inl, inr, refl, sym, ◌∙◌, ap, subst, arith, cond, eqb, List, length, get_or, Some, Contains}
 use Rattle.std.specs.List.Sorted.{IsPermutation}
 use Rattle.std.specs.Map.{lookup}
 use Rattle.std.proofs.lemmas.Bool.Decides.{eqb_tells, leb_tells}
-use Rattle.std.proofs.lemmas.List.{get_or_append_left}
 use Rattle.std.proofs.lemmas.List.Sorted.{Contains-permutation, IsPermutation-sym}
 use Rattle.nk_store.specs.declared.node.Out.{Out}
 use Rattle.nk_store.specs.StoreState.{StoreState, IsId, HasLeaves, look, Grows}
@@ -57,15 +56,6 @@ found_some st new into t d e r is h = record {
     one : (a b : ℕ) → Some a ≡ Some b → a ≡ b
     one a b is = cc
 
--- a diagram where none is found
-pub found_none : (st : StoreState) (into : List (ℕ × ℕ)) (t d : ℕ) → lookup (eqb t) into ≡ None → IsId st d → IsWithFound st into t d st d
-found_none st into t d is id = record {
-  id = id;
-  from = λ y o w c. inr c;
-  found = λ y o w s. let no : Some s.0 ≡ None = sym s.1 ∙ is in absurd cc;
-  comes = λ y o w c. c;
-}
-
 -- what a table has, as the store grows
 pub shown_on : (a b : StoreState) (into : List (ℕ × ℕ)) (t : ℕ) (y : List ℕ) (o : Out) → Grows a b → FindDiagrams a into → Shows a into t y o → Shows b into t y o
 shown_on a b into t y o g ids s = (s.0, s.1, subst (λ (os : List Out). Contains os o) (sym (g.leaves s.0 y (ids t s.0 s.1))) s.2)
@@ -109,55 +99,9 @@ joined_put st new into all t d r g ids one_more put = record {
     there : (s : ℕ) → eqb t s ≡ false → lookup (eqb s) all ≡ lookup (eqb s) into
     there s e = put s ∙ ap (λ b. cond b (Some r) (lookup (eqb s) into)) e
 
--- the run's first diagram
-pub run_start : (ds : List (ℕ × ℕ)) (from : ℕ) (all : List ℕ) → from < length ds → all ≡ (diagram_at ds from).1 ∷ [] → IsRunOfSet ds from (from + 1) all
-run_start ds from all l is = subst (IsRunOfSet ds from (from + 1)) (sym is) (record {
-  later = omega arith;
-  within = omega (arith, l);
-  count = omega arith;
-  one = λ k a b. let e : k ≡ from = omega (arith, a, b) in ap (λ (j : ℕ). (diagram_at ds j).0) e;
-  items = at;
-})
-  where
-    at : (i : ℕ) → i < 1 → get_or ((diagram_at ds from).1 ∷ []) i 0 ≡ (diagram_at ds (from + i)).1
-    at zero m = let e : from ≡ from + 0 = omega arith in ap (λ (j : ℕ). (diagram_at ds j).1) e
-    at (suc i) m = absurd (omega (arith, m))
-
--- one diagram more of the same set
-pub run_push : (ds : List (ℕ × ℕ)) (from to : ℕ) (all more : List ℕ) → IsRunOfSet ds from to all → to < length ds → (diagram_at ds to).0 ≡ (diagram_at ds from).0 → more ≡ all ++ (diagram_at ds to).1 ∷ [] → IsRunOfSet ds from (to + 1) more
-run_push ds from to all more was l set is = subst (IsRunOfSet ds from (to + 1)) (sym is) (record {
-  later = omega (arith, was.later);
-  within = omega (arith, l);
-  count = omega (arith, was.count, length-append all ((diagram_at ds to).1 ∷ []));
-  one = λ k a b. elim (eqb_tells k to) [
-    | inl same ↦ ap (λ (j : ℕ). (diagram_at ds j).0) same.1 ∙ set
-    | inr other ↦ was.one k a (omega (arith, b, other.1))
-  ];
-  items = λ i m. elim (eqb_tells i (length all)) [
-    | inl same ↦
-        let e : to ≡ from + i = omega (arith, was.count, same.1) in
-        ap (λ (j : ℕ). get_or (all ++ (diagram_at ds to).1 ∷ []) j 0) same.1 ∙ last all (diagram_at ds to).1 ∙ ap (λ (j : ℕ). (diagram_at ds j).1) e
-    | inr other ↦
-        let b : i < length all = omega (arith, m, length-append all ((diagram_at ds to).1 ∷ []), other.1) in
-        get_or_append_left all ((diagram_at ds to).1 ∷ []) 0 i b ∙ was.items i b
-  ];
-})
-  where
-    last : (xs : List ℕ) (x : ℕ) → get_or (xs ++ x ∷ []) (length xs) 0 ≡ x
-    last [] x = refl
-    last (z ∷ zs) x = last zs x
-
 -- the diagrams of a run are numbers of the store
 pub run_ids : (st : StoreState) (ds : List (ℕ × ℕ)) (from to : ℕ) (all : List ℕ) → HaveDiagrams st ds → IsRunOfSet ds from to all → AreIds st all
 run_ids st ds from to all ids run i l = subst (IsId st) (sym (run.items i l)) (ids (from + i) (omega (arith, l, run.count, run.within)))
-
--- no diagram yet
-pub joined_start : (st : StoreState) (ds : List (ℕ × ℕ)) → AreSetsJoined st ds 0 st []
-joined_start st ds = record {
-  ids = λ t d is. absurd cc;
-  goes = λ t y o w s. let no = s.1 in absurd cc;
-  comes = λ t y o w s. absurd (let l = s.1 in omega (arith, l));
-}
 
 -- one run more
 pub joined_push : (a st mid new : StoreState) (ds : List (ℕ × ℕ)) (from to t d : ℕ) (run : List ℕ) (into all : List (ℕ × ℕ)) → Grows a st → Grows st mid → HaveDiagrams a ds → t ≡ (diagram_at ds from).0 → IsRunOfSet ds from to run → HasLeaves mid d (λ pk. unions st run 0 (length run) pk) →

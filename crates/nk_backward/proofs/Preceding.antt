@@ -1,5 +1,5 @@
 -- The transitions into each set, by their numbers.
-use Rattle.std.proofs.Common.{◌≡◌, ℕ, ◌+◌, true, refl, sym, ◌∙◌, ap, subst, arith, eqb, List, [], length, Option, Some, None, IfSome, Contains}
+use Rattle.std.proofs.Common.{◌≡◌, ℕ, ◌+◌, true, refl, sym, ◌∙◌, ap, subst, arith, eqb, List, length, Option, Some, IfSome, Contains}
 use Rattle.std.specs.List.Sorted.{IsPermutation}
 use Rattle.std.specs.Map.{lookup}
 use Rattle.std.proofs.lemmas.Option.{IfSome_then}
@@ -104,11 +104,3 @@ shown_some st s1 new into t x d e es found g1 g2 h by = record {
   where
     one : (a b : ℕ) → Some a ≡ Some b → a ≡ b
     one a b is = cc
-
--- where the set has no diagram
-pub shown_none : (st : StoreState) (into : List (ℕ × ℕ)) (t x : ℕ) → lookup (eqb t) into ≡ None → AreShownAt st into t x st []
-shown_none st into t x none = record {
-  given = λ k l. absurd (omega (arith, l));
-  goes = λ y o w m. absurd (let l = m.2 in omega (arith, l));
-  comes = λ y o w has s. let no : Some s.0 ≡ None = sym s.1 ∙ none in absurd cc;
-}

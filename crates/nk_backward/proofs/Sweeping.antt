@@ -28,11 +28,7 @@ use Rattle.nk_backward.proofs.Tracing.{given_in_range, led_in_range, led_on}
 use Rattle.nk_backward.proofs.Gaining.{sets_on, gained_before, found_then}
 use Rattle.nk_backward.proofs.Taking.{leads_on, leads_grow}
 
--- an out that is an end leads to no entry
-pub led_end : (st : StoreState) (s : ℕ) (q : Given) (all : List (ℕ × ℕ)) (i : ℕ) (z : List ℕ) → q.out.target ≡ 0 → IsLedOut st s q all i z → ⊥
-led_end st s q all i z e m = let k = m.2.1 in omega (arith, k, e)
-
--- nor does an out to a set that has none
+-- an out to a set that has no entry leads to no entry
 pub led_missing : (st : StoreState) (s : ℕ) (q : Given) (all : List (ℕ × ℕ)) (t i : ℕ) (z : List ℕ) → t + 1 ≡ q.out.target → lookup (eqb t) all ≡ None → IsLedOut st s q all i z → ⊥
 led_missing st s q all t i z e miss m =
     let same : m.2.0 ≡ t = let k = m.2.1 in omega (arith, k, e) in

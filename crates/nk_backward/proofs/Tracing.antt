@@ -77,16 +77,7 @@ steps_from_of st s1 s2 nss states set x d es g1 g2 at by = record {
       (v.0, v.1, by.comes z o (packet_on st s2 z (grows_on st s1 s2 g1 g2) w) c, v.3, v.4, v.5);
 }
 
--- of no entries
-pub transitions_start : (st : StoreState) (ss : List (List ℕ)) (states : List ℕ) → AreTransitions st ss states [] st ss []
-transitions_start st ss states = record {
-  given = λ k l. absurd (omega (arith, l));
-  known = λ i n. absurd n;
-  goes = λ i t z y w m. let l = m.2 in absurd (omega (arith, l));
-  comes = λ i z n w u s. absurd u;
-}
-
--- of the entries and one more
+-- the transitions of the entries and one more
 pub transitions_push : (a st new : StoreState) (ass ss nss : List (List ℕ)) (states : List ℕ) (done : List (ℕ × ℕ)) (ts : List Transitions) (p : ℕ × ℕ) (t : Transitions) → AreStates a states → AreTransitions a ass states done st ss ts → Grows a st → SetsGrow ass ss → Grows st new → SetsGrow ss nss →
     IsPair a ass (length states) p → t.source ≡ p.0 → AreStepsFrom st states (get_or ss p.0 []) p.1 new nss t.outs → AreTransitions a ass states (done ++ p ∷ []) new nss (ts ++ t ∷ [])
 transitions_push a st new ass ss nss states done ts p t states_ok so g1 s1 g2 s2 pair from one = record {
