@@ -1,7 +1,7 @@
 -- The switch where a literal ends is the one that its mark names in the policy.
 use Rattle.std.proofs.Common.{◌≡◌, ℕ, ◌+◌, true, false, ⊎_elim, Option, Some, None, refl, sym, ap, subst, ◌∙◌, arith}
 use Rattle.std.specs.Prelude.{◌==◌, if◌then◌else◌}
-use Rattle.nk_policy.specs.Policy.{Policy, Policies, test, range, assign, sum_of, seq_of, not_of, star_of, dup, link, no_part, part}
+use Rattle.nk_policy.specs.Policy.{Policy, Policies, sum_of, seq_of, not_of, star_of, link, no_part, part}
 use Rattle.nk_policy.specs.After.{has_dup, some_has_dup}
 use Rattle.nk_policy.specs.Distinct.{HasDistinct, AllDistinct}
 use Rattle.nk_policy.specs.Literals.{Literal, HoldsLiteral, SomeHoldsLiteral}
@@ -28,17 +28,14 @@ some_then o n e q = ap (λ r. first_number r q) e
 mutual
   -- a number that is no dup's is no mark's
   no_end : (p : Policy) (l : ℕ) → has_dup p l ≡ false → link_end p l ≡ None
-  no_end (test f n) l h = refl
-  no_end (range f lo hi) l h = refl
-  no_end (assign f n) l h = refl
   no_end (sum_of ps) l h = no_ends ps l h
   no_end (seq_of ps) l h = no_ends ps l h
   no_end (not_of p) l h = no_end p l h
   no_end (star_of p) l h = no_end p l h
-  no_end (dup k) l h = refl
   no_end (link a m b n k) l h =
       let e = both_false (l == k) (l == (k + 1)) h in
       ap (λ c. if c then Some b else None) (other_way l k e.0)
+  no_end p l h = refl
 
   -- the same among parts
   no_ends : (ps : Policies) (l : ℕ) → some_has_dup ps l ≡ false → link_end_among ps l ≡ None
@@ -51,19 +48,15 @@ mutual
   -- of a policy
   pub end_of_literal :
       (p : Policy) → HasDistinct p → (k : Literal) → HoldsLiteral p k → link_end p k.mark ≡ Some k.to_switch
-  end_of_literal (test f n) d k h = absurd h
-  end_of_literal (range f lo hi) d k h = absurd h
-  end_of_literal (assign f n) d k h = absurd h
   end_of_literal (sum_of ps) d k h = end_among ps d k h
   end_of_literal (seq_of ps) d k h = end_among ps d k h
-  end_of_literal (not_of p) d k h = absurd h
   end_of_literal (star_of p) d k h = end_of_literal p d k h
-  end_of_literal (dup l) d k h = absurd h
   end_of_literal (link a m b n l) d k h =
       subst
       (λ (i : Literal). (if l == i.mark then Some b else None) ≡ Some i.to_switch)
       (sym h)
       (ap (λ c. if c then Some b else None) (same_number l))
+  end_of_literal p d k h = absurd h
 
   -- of its parts
   end_among :

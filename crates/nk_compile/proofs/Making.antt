@@ -52,11 +52,8 @@ by_reason P t l s n false false false false r h = absurd (none_some r h)
 
 -- where there is none, no test passes
 all_fail : (a b c d : Bool) → first_reason a b c d ≡ None → (a ≡ false) × (b ≡ false) × (c ≡ false) × (d ≡ false)
-all_fail true b c d h = cc
-all_fail false true c d h = cc
-all_fail false false true d h = cc
-all_fail false false false true h = cc
 all_fail false false false false h = (refl, refl, refl, refl)
+all_fail a b c d h = cc
 
 -- whether a reason is seen of the tree
 abbrev IsStaticRefusal : Refusal → Type 0
@@ -114,37 +111,24 @@ module _ (fields : FieldTable) (topo : Topology) (tag : ℕ) (p : Policy) (is : 
       IsOffFault topo tag old states e → IsEarlyError fields topo p e
   off_error old states NoMemory to h = tt
   off_error old states (Refused (OffEdge start history)) to h = (none_seen, to (found_from start history) h)
-  off_error old states (Refused NoPolicy) to h = absurd h
-  off_error old states (Refused NoTag) to h = absurd h
-  off_error old states (Refused TagUsed) to h = absurd h
-  off_error old states (Refused LooseDup) to h = absurd h
-  off_error old states (Refused SwitchSet) to h = absurd h
-  off_error old states (Refused NoSuchLink) to h = absurd h
-  off_error old states (Refused (TooManyTags found)) to h = absurd h
+  off_error old states e to h = absurd h
 
 -- what is seen is a reason before tags are numbered
 pub static_refusal_early : (fields : FieldTable) (topo : Topology) (tag : ℕ) (p : Policy) (r : Refusal) → fields.tag ≡ Some tag → static_refusal_with tag topo p ≡ Some r →
     IsEarlyError fields topo p (Refused r)
-static_refusal_early fields topo tag p TagUsed is h = ap (λ o. static_refusal_for o topo p) is ∙ h
-static_refusal_early fields topo tag p LooseDup is h = ap (λ o. static_refusal_for o topo p) is ∙ h
-static_refusal_early fields topo tag p SwitchSet is h = ap (λ o. static_refusal_for o topo p) is ∙ h
-static_refusal_early fields topo tag p NoSuchLink is h = ap (λ o. static_refusal_for o topo p) is ∙ h
 static_refusal_early fields topo tag p NoPolicy is h = absurd (static_refusal_is tag topo p NoPolicy h)
 static_refusal_early fields topo tag p NoTag is h = absurd (static_refusal_is tag topo p NoTag h)
 static_refusal_early fields topo tag p (OffEdge start history) is h = absurd (static_refusal_is tag topo p (OffEdge start history) h)
 static_refusal_early fields topo tag p (TooManyTags found) is h = absurd (static_refusal_is tag topo p (TooManyTags found) h)
+static_refusal_early fields topo tag p r is h = ap (λ o. static_refusal_for o topo p) is ∙ h
 
 -- a reason before tags are numbered is one
 pub early_error : (fields : FieldTable) (topo : Topology) (p : Policy) (e : CompileError) → IsEarlyError fields topo p e → IsError fields topo p e
 early_error fields topo p NoMemory h = tt
 early_error fields topo p (Refused NoPolicy) h = absurd h
 early_error fields topo p (Refused NoTag) h = absurd h
-early_error fields topo p (Refused TagUsed) h = h
-early_error fields topo p (Refused LooseDup) h = h
-early_error fields topo p (Refused SwitchSet) h = h
-early_error fields topo p (Refused NoSuchLink) h = h
-early_error fields topo p (Refused (OffEdge start history)) h = h
 early_error fields topo p (Refused (TooManyTags found)) h = absurd h
+early_error fields topo p e h = h
 
 -- so are too many sets
 pub many_error : (fields : FieldTable) (topo : Topology) (tag : ℕ) (p : Policy) → fields.tag ≡ Some tag → IsUnopposed fields topo p →
@@ -157,10 +141,4 @@ many_error fields topo tag p is alone levels max (Refused (TooManyTags found)) m
   h.0 ∙ ap (λ n. n + 1) (most ∙ sym (ap (most_tags fields) is)),
   subst (λ n. AtLeast n (IsTagSet p (IsStartPacket fields topo))) (let e = h.1.2 in omega (arith, e)) (to h.1.0 h.1.1),
 )
-many_error fields topo tag p is alone levels max (Refused NoPolicy) most to h = absurd h
-many_error fields topo tag p is alone levels max (Refused NoTag) most to h = absurd h
-many_error fields topo tag p is alone levels max (Refused TagUsed) most to h = absurd h
-many_error fields topo tag p is alone levels max (Refused LooseDup) most to h = absurd h
-many_error fields topo tag p is alone levels max (Refused SwitchSet) most to h = absurd h
-many_error fields topo tag p is alone levels max (Refused NoSuchLink) most to h = absurd h
-many_error fields topo tag p is alone levels max (Refused (OffEdge start history)) most to h = absurd h
+many_error fields topo tag p is alone levels max e most to h = absurd h

@@ -15,7 +15,7 @@ use Rattle.nk_compile.specs.Answers.{IsMade, IsError}
 use Rattle.nk_compile.specs.Counted.{HasTagSets, IsCountedPolicyAnswer}
 use Rattle.nk_compile.specs.declared.counted.Counted.{Counted}
 use Rattle.nk_compile.specs.declared.refusal.Refusal.{Refusal}
-use Rattle.nk_compile.specs.declared.refusal.Refusal.TheVariants.{NoPolicy, NoTag, TagUsed, LooseDup, SwitchSet, NoSuchLink, OffEdge, TooManyTags}
+use Rattle.nk_compile.specs.declared.refusal.Refusal.TheVariants.{NoPolicy}
 use Rattle.nk_compile.specs.declared.refusal.CompileError.{CompileError}
 use Rattle.nk_compile.proofs.Making.{static_refusal_named}
 use Rattle.nk_compile.proofs.Printed.{printed_carries}
@@ -24,13 +24,7 @@ use Rattle.nk_compile.proofs.Printed.{printed_carries}
 pub reason_named : (program : Program) (name : List ℕ) (p : Policy) → policy_named program name ≡ Some p →
     (r : Refusal) → IsReason program.fields program.topo p r → IsRefused program name r
 reason_named program name p named NoPolicy e = absurd (static_refusal_named program.fields.tag program.topo p e)
-reason_named program name p named NoTag e = (p, named, e)
-reason_named program name p named TagUsed e = (p, named, e)
-reason_named program name p named LooseDup e = (p, named, e)
-reason_named program name p named SwitchSet e = (p, named, e)
-reason_named program name p named NoSuchLink e = (p, named, e)
-reason_named program name p named (OffEdge start history) e = (p, named, e)
-reason_named program name p named (TooManyTags found) e = (p, named, e)
+reason_named program name p named r e = (p, named, e)
 
 -- what is made of a policy and counted of it is its answer
 pub counted_answer : (program : Program) (p : Policy) (r : Result Counted CompileError) →

@@ -7,7 +7,7 @@ use Rattle.nk_names.specs.Named.{policy_named}
 use Rattle.nk_names.specs.ProgramOf.{program_by}
 use Rattle.nk_names.proofs.Alike.{fields_alike, topo_alike, named_alike, one_policy}
 use Rattle.nk_compile.specs.declared.refusal.Refusal.{Refusal}
-use Rattle.nk_compile.specs.declared.refusal.Refusal.TheVariants.{NoPolicy, NoTag, TagUsed, LooseDup, SwitchSet, NoSuchLink, OffEdge, TooManyTags}
+use Rattle.nk_compile.specs.declared.refusal.Refusal.TheVariants.{NoPolicy}
 use Rattle.nk_compile.specs.PairAnswers.{FitTogether, IsPairReason, IsPairRefused}
 use Rattle.nk_compile.proofs.Reasons.{none_some}
 use Rattle.nk_compile.proofs.ReasonByName.{alike}
@@ -21,13 +21,7 @@ HavePairReason program old new r =
 why_pair : (program : Program) (old new : List ℕ) (r : Refusal) → IsPairRefused program old new r
     → ((r ≡ NoPolicy) × ((policy_named program old ≡ None) ⊎ (policy_named program new ≡ None))) ⊎ HavePairReason program old new r
 why_pair program old new NoPolicy h = inl (refl, h)
-why_pair program old new NoTag h = inr h
-why_pair program old new TagUsed h = inr h
-why_pair program old new LooseDup h = inr h
-why_pair program old new SwitchSet h = inr h
-why_pair program old new NoSuchLink h = inr h
-why_pair program old new (OffEdge start history) h = inr h
-why_pair program old new (TooManyTags found) h = inr h
+why_pair program old new r h = inr h
 
 module _ (program other : Program) (same : program_by program ≡ program_by other) (old new : List ℕ) where
   -- two policies are not none

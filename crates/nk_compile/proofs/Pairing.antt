@@ -17,7 +17,7 @@ use Rattle.nk_compile.specs.declared.prepared.Prepared.{Prepared}
 use Rattle.nk_compile.specs.declared.refusal.CompileError.{CompileError}
 use Rattle.nk_compile.specs.declared.refusal.CompileError.TheVariants.{NoMemory, Refused}
 use Rattle.nk_compile.specs.declared.refusal.Refusal.{Refusal}
-use Rattle.nk_compile.specs.declared.refusal.Refusal.TheVariants.{NoPolicy, NoTag, TagUsed, LooseDup, SwitchSet, NoSuchLink, OffEdge, TooManyTags}
+use Rattle.nk_compile.specs.declared.refusal.Refusal.TheVariants.{NoPolicy, NoTag, TooManyTags}
 use Rattle.nk_compile.specs.Counted.{HasTagSets}
 use Rattle.nk_compile.specs.Levelled.{IsTagFault}
 use Rattle.nk_compile.specs.MadePair.{IsMadePair, IsPairError}
@@ -36,24 +36,16 @@ module _ (fields : FieldTable) (topo : Topology) (p q : Policy) where
   early_old NoMemory h = tt
   early_old (Refused NoPolicy) h = absurd h
   early_old (Refused NoTag) h = absurd h
-  early_old (Refused TagUsed) h = inl h
-  early_old (Refused LooseDup) h = inl h
-  early_old (Refused SwitchSet) h = inl h
-  early_old (Refused NoSuchLink) h = inl h
-  early_old (Refused (OffEdge start history)) h = inl h
   early_old (Refused (TooManyTags found)) h = absurd h
+  early_old e h = inl h
 
   -- what stands against the new one, where nothing does against the old one
   pub early_new : IsUnopposed fields topo p → (e : CompileError) → IsEarlyError fields topo q e → IsPairError fields topo p q e
   early_new alone NoMemory h = tt
   early_new alone (Refused NoPolicy) h = absurd h
   early_new alone (Refused NoTag) h = absurd h
-  early_new alone (Refused TagUsed) h = inr (alone, h)
-  early_new alone (Refused LooseDup) h = inr (alone, h)
-  early_new alone (Refused SwitchSet) h = inr (alone, h)
-  early_new alone (Refused NoSuchLink) h = inr (alone, h)
-  early_new alone (Refused (OffEdge start history)) h = inr (alone, h)
   early_new alone (Refused (TooManyTags found)) h = absurd h
+  early_new alone e h = inr (alone, h)
 
 -- at least none
 at_least_none : {X : Type 0} (P : X → Type 0) → AtLeast 0 P
@@ -79,13 +71,7 @@ module _ (fields : FieldTable) (topo : Topology) (old_tag new_tag : ℕ) (p q : 
       let e = h.1.2 in omega (arith, e),
     ),
   )
-  many_old (Refused NoPolicy) h = absurd h
-  many_old (Refused NoTag) h = absurd h
-  many_old (Refused TagUsed) h = absurd h
-  many_old (Refused LooseDup) h = absurd h
-  many_old (Refused SwitchSet) h = absurd h
-  many_old (Refused NoSuchLink) h = absurd h
-  many_old (Refused (OffEdge start history)) h = absurd h
+  many_old e h = absurd h
 
   module _ (r : List ℕ) (numbers : AreNumbers a.sets a.levels.levels r) (first : ℕ) (is : first ≡ length r) where
     -- with the new one's they are
@@ -103,13 +89,7 @@ module _ (fields : FieldTable) (topo : Topology) (old_tag new_tag : ℕ) (p q : 
         h.1.2,
       ),
     )
-    many_new (Refused NoPolicy) h = absurd h
-    many_new (Refused NoTag) h = absurd h
-    many_new (Refused TagUsed) h = absurd h
-    many_new (Refused LooseDup) h = absurd h
-    many_new (Refused SwitchSet) h = absurd h
-    many_new (Refused NoSuchLink) h = absurd h
-    many_new (Refused (OffEdge start history)) h = absurd h
+    many_new e h = absurd h
 
     -- where they fit, the tables are those of both
     pub pair_made : (s : List ℕ) → AreNumbers b.sets b.levels.levels s → max ≡ slice_index fields.maxima new_tag → first + length s ≤ max → (t : TablePair) → t.old_tags ≡ first →
@@ -135,13 +115,7 @@ module _ (fields : FieldTable) (topo : Topology) (old_tag new_tag : ℕ) (p q : 
 reason_named : (program : Program) (old new : List ℕ) (p q : Policy) → policy_named program old ≡ Some p → policy_named program new ≡ Some q →
     (r : Refusal) → IsPairReason program.fields program.topo p q r → IsPairRefused program old new r
 reason_named program old new p q m n NoPolicy h = absurd h
-reason_named program old new p q m n NoTag h = (p, q, m, n, h)
-reason_named program old new p q m n TagUsed h = (p, q, m, n, h)
-reason_named program old new p q m n LooseDup h = (p, q, m, n, h)
-reason_named program old new p q m n SwitchSet h = (p, q, m, n, h)
-reason_named program old new p q m n NoSuchLink h = (p, q, m, n, h)
-reason_named program old new p q m n (OffEdge start history) h = (p, q, m, n, h)
-reason_named program old new p q m n (TooManyTags found) h = (p, q, m, n, h)
+reason_named program old new p q m n r h = (p, q, m, n, h)
 
 -- the answer for two policies is that for their names
 pub pair_named : (program : Program) (old new : List ℕ) (p q : Policy) (r : Result TablePair CompileError) →

@@ -1,5 +1,5 @@
 -- An accepted policy has no reason to be refused, and no policy has two.
-use Rattle.std.proofs.Common.{◌≡◌, ℕ, ◌⊎◌, inl, inr, ⊎_elim, Bool, true, false, List, refl, sym, ap, ◌∙◌}
+use Rattle.std.proofs.Common.{◌≡◌, ℕ, ◌⊎◌, inl, inr, ⊎_elim, Bool, false, List, refl, sym, ap, ◌∙◌}
 use Rattle.std.specs.Prelude.{Option, option_map, Some, None, if◌then◌else◌}
 use Rattle.nk_field.specs.declared.packet.Packet.{Packet}
 use Rattle.nk_field.specs.declared.history.History.{History}
@@ -13,7 +13,7 @@ use Rattle.nk_names.specs.declared.Program.{Program}
 use Rattle.nk_names.specs.Named.{policy_named}
 use Rattle.nk_names.specs.Accepted.{IsStartPacket, IsCompilable, is_link_outside, most_tags}
 use Rattle.nk_compile.specs.declared.refusal.Refusal.{Refusal}
-use Rattle.nk_compile.specs.declared.refusal.Refusal.TheVariants.{NoPolicy, NoTag, TagUsed, LooseDup, SwitchSet, NoSuchLink, OffEdge, TooManyTags}
+use Rattle.nk_compile.specs.declared.refusal.Refusal.TheVariants.{NoPolicy, OffEdge, TooManyTags}
 use Rattle.nk_compile.specs.OffEdge.{EndsOffEdge, EndsOnEdges}
 use Rattle.nk_static.specs.declared.faults.StaticFault.TheVariants as static_kind
 use Rattle.nk_compile.specs.Refusals.{refusal_of, static_refusal_for, static_refusal, found_from, IsReason, IsRefused}
@@ -30,11 +30,8 @@ none_some a e = cc
 -- where no test passes nothing is seen
 none_of : (a b c d : Bool) → a ≡ false → b ≡ false → c ≡ false → d ≡ false
     → ◌≡◌ {A = Option Refusal} (option_map refusal_of (if a then Some static_kind.TagUsed else if b then Some static_kind.LooseDup else if c then Some static_kind.SwitchSet else if d then Some static_kind.NoSuchLink else None)) None
-none_of true b c d e f g h = absurd cc
-none_of false true c d e f g h = absurd cc
-none_of false false true d e f g h = absurd cc
-none_of false false false true e f g h = absurd cc
 none_of false false false false e f g h = refl
+none_of a b c d e f g h = absurd cc
 
 -- nothing is seen of a compilable policy
 pub unseen : (fields : FieldTable) (topo : Topology) (p : Policy) → IsCompilable fields topo p → static_refusal fields topo p ≡ None
@@ -53,14 +50,9 @@ module _ (fields : FieldTable) (topo : Topology) (p : Policy) where
       (found : ℕ) × (r ≡ TooManyTags found) × IsReason fields topo p (TooManyTags found)
 
   kind_of : (r : Refusal) → IsReason fields topo p r → (static_refusal fields topo p ≡ Some r) ⊎ (IsOff r ⊎ IsTooMany r)
-  kind_of NoPolicy h = inl h
-  kind_of NoTag h = inl h
-  kind_of TagUsed h = inl h
-  kind_of LooseDup h = inl h
-  kind_of SwitchSet h = inl h
-  kind_of NoSuchLink h = inl h
   kind_of (OffEdge start history) h = inr (inl (start, history, refl, h.0, h.1))
   kind_of (TooManyTags found) h = inr (inr (found, refl, h))
+  kind_of r h = inl h
 
   -- an accepted policy has none
   pub no_reason : (r : Refusal) → IsCompilable fields topo p → AtMost (most_tags fields fields.tag) (IsTagSet p (IsStartPacket fields topo)) → IsReason fields topo p r → ⊥
@@ -107,10 +99,4 @@ HasReason program name r = (p : Policy) × (policy_named program name ≡ Some p
 
 pub why : (program : Program) (name : List ℕ) (r : Refusal) → IsRefused program name r → ((r ≡ NoPolicy) × (policy_named program name ≡ None)) ⊎ HasReason program name r
 why program name NoPolicy h = inl (refl, h)
-why program name NoTag h = inr h
-why program name TagUsed h = inr h
-why program name LooseDup h = inr h
-why program name SwitchSet h = inr h
-why program name NoSuchLink h = inr h
-why program name (OffEdge start history) h = inr h
-why program name (TooManyTags found) h = inr h
+why program name r h = inr h

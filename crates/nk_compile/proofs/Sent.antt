@@ -143,9 +143,7 @@ module _ (fields : FieldTable) (tag : ℕ) (past : 2 ≤ tag) (within : tag < le
       where
         passes : (a b c : Bool) → a ≡ true → b ≡ false → c ≡ false → (a && not b) && not c ≡ true
         passes true false false e f g = refl
-        passes true false true e f g = cc
-        passes true true c e f g = cc
-        passes false b c e f g = cc
+        passes a b c e f g = cc
 
     -- each assignment is of the goal's value
     each_set :
