@@ -113,15 +113,6 @@ module _ (fields : FieldTable) (topo : Topology) (tag : ℕ) (p : Policy) (is : 
   off_error old states (Refused (OffEdge start history)) to h = (none_seen, to (found_from start history) h)
   off_error old states e to h = absurd h
 
--- what is seen is a reason before tags are numbered
-pub static_refusal_early : (fields : FieldTable) (topo : Topology) (tag : ℕ) (p : Policy) (r : Refusal) → fields.tag ≡ Some tag → static_refusal_with tag topo p ≡ Some r →
-    IsEarlyError fields topo p (Refused r)
-static_refusal_early fields topo tag p NoPolicy is h = absurd (static_refusal_is tag topo p NoPolicy h)
-static_refusal_early fields topo tag p NoTag is h = absurd (static_refusal_is tag topo p NoTag h)
-static_refusal_early fields topo tag p (OffEdge start history) is h = absurd (static_refusal_is tag topo p (OffEdge start history) h)
-static_refusal_early fields topo tag p (TooManyTags found) is h = absurd (static_refusal_is tag topo p (TooManyTags found) h)
-static_refusal_early fields topo tag p r is h = ap (λ o. static_refusal_for o topo p) is ∙ h
-
 -- a reason before tags are numbered is one
 pub early_error : (fields : FieldTable) (topo : Topology) (p : Policy) (e : CompileError) → IsEarlyError fields topo p e → IsError fields topo p e
 early_error fields topo p NoMemory h = tt

@@ -26,7 +26,6 @@ use Rattle.nk_policy.proofs.Parity.{no_records, odd_at}
 use Rattle.nk_names.specs.Accepted.{IsStartPacket, IsCompilable}
 use Rattle.nk_names.proofs.Declared.{link_of, literal_declared, link_at_source}
 use Rattle.nk_table.specs.declared.Tables.{Tables}
-use Rattle.nk_table.specs.Rules.{sent_for}
 use Rattle.nk_table.specs.Hops.{moved_to}
 use Rattle.nk_compile.specs.PrintedTable.{IsOfTag, StateRecords, IsResult}
 use Rattle.nk_compile.specs.MetUnder.{IsMetUnder}
@@ -74,11 +73,6 @@ pub record Reached (t : Tables) (p : Policy) (tag : ℕ) (tags : List (List ℕ)
   pub at : AtState t p tag tags tg x
   pub same : (y : Packet) (l : ℕ) → HasRecorded p pk (u ++ y ∷ []) l ↔ StateRecords p tags tg x y l
   pub ends : (s : Policy) (z : Packet) → IsOfTag p tags tg s → Gives s x [] z → Gives p pk u z
-
--- each packet sent for a copy is a result of its tag, with the result's tag, and each result is sent once
-abbrev pub Emits : Tables → Policy → ℕ → List (List ℕ) → Type 0
-Emits t p tag tags =
-    (tg : ℕ) (x : Packet) → AtState t p tag tags tg x → (q : Packet) → In (sent_for t (slice_set x tag tg)) q ↔ ((z : Packet) × (t' : ℕ) × IsResult p tags tg x z t' × (q ≡ slice_set z tag t'))
 
 -- a list that isn't empty has a member
 some_member : (xs : List ℕ) → xs ≢ [] → (l : ℕ) × Contains xs l

@@ -121,14 +121,6 @@ module _ (fields : FieldTable) (tag : ℕ) (past : 2 ≤ tag) (within : tag < le
   width = length fields.maxima
 
   module _ (x z : Packet) (tg t' : ℕ) (px : IsPacket fields x) (pz : IsPacket fields z) (stays : slice_index z 0 ≡ slice_index x 0) where
-    -- the copy that the bucket acts on
-    copy : Packet
-    copy = slice_set x tag tg
-
-    -- the packet that it is to send
-    goal : Packet
-    goal = slice_set z tag t'
-
     -- a field that differs is assigned
     in_changes :
         (i : ℕ) → 1 < i → i < width → i ≢ tag → slice_index x i ≢ slice_index z i

@@ -1,5 +1,5 @@
 -- Each tag set has the first dups of literals that all lead along one link, and is not empty.
-use Rattle.std.proofs.Common.{◌≡◌, ◌≢◌, ℕ, false, List, [], ◌∷◌, ◌++◌, Some, sym, ap, ◌∙◌}
+use Rattle.std.proofs.Common.{◌≡◌, ℕ, false, List, [], ◌∷◌, ◌++◌, Some, sym, ap, ◌∙◌}
 use Rattle.std.specs.Prelude.{Contains, slice_index}
 use Rattle.nk_field.specs.declared.packet.Packet.{Packet}
 use Rattle.nk_topo.specs.Topology.{Topology, AreLinks, link_from}
@@ -44,7 +44,3 @@ module _ (topo : Topology) (links : AreLinks topo) (p : Policy) (distinct : HasD
       let same : (a.0.to_switch, a.0.to_port) ≡ (b.0.to_switch, b.0.to_port) =
       same_some (a.0.to_switch, a.0.to_port) (b.0.to_switch, b.0.to_port) (sym to_a ∙ ap (λ (z : Packet). link_from topo (slice_index z 0) (slice_index z 1)) x ∙ to_b) in
       ends_at l c ∙ ap (λ (q : ℕ × ℕ). Some q.0) same ∙ sym (ends_at m d)
-
-  -- there is one
-  pub not_empty : s ≢ []
-  not_empty = set_is.0
