@@ -50,15 +50,6 @@ module _ (st new : StoreState) (table : List (Option ℕ)) (d r : ℕ) (h : HasL
       let all = gathered_has (out_by_table table) (look st d pk) (record { act = a; target = u }) (record { act = a; target = t }) (contains_has (look st d pk) (record { act = a; target = u }) s.1) made in
       (a, has_contains (look new r pk) (record { act = a; target = t }) (subst (λ os. Has os (record { act = a; target = t })) (sym (h.leaf pk p.0)) all), s.2)
 
--- the states as they are stand there once
-pub none_again : (old new : StoreState) (states rows : List ℕ) → rows ≡ states → IsDisjointCopyUpTo old new states rows 1
-none_again old new states rows e = record {
-  count = ap (λ xs. length xs + 1) e;
-  once = λ l lt. ap (λ xs. get_or xs l 0) e;
-  ids = λ l some lt. absurd (omega (arith, some, lt));
-  disjoint = λ l pk y t some lt r. absurd (omega (arith, some, lt));
-}
-
 module _ (old mid new : StoreState) (states rows : List ℕ) (n row : ℕ) (table : List (Option ℕ)) (begun : Grows old mid) (grows : Grows mid new) (ok : AreStates old states) (some : 0 < n) (lt : n < length states)
     (k : IsDisjointCopyUpTo old mid states rows n)
     (is : (t : ℕ) → t < length states → slice_index_or table t None ≡ Some (again (label_count states) t))

@@ -1,7 +1,6 @@
 -- Sets whose states are one diagram are alike, and what was seen of diagrams.
-use Rattle.std.proofs.Common.{◌≡◌, ℕ, ◌+◌, ◌<◌, eqb, Some, List, [], ◌∷◌, length, get_or, refl, sym, ap, subst, ◌∙◌, arith}
+use Rattle.std.proofs.Common.{◌≡◌, ℕ, ◌+◌, ◌<◌, List, [], ◌∷◌, length, get_or, refl, sym, ap, subst, ◌∙◌, arith}
 use Rattle.std.specs.Prelude.{◌↔◌, map, slice_index}
-use Rattle.std.specs.Map.{lookup}
 use Rattle.std.proofs.lemmas.List.{get_or-map, length-map}
 use Rattle.nk_store.specs.declared.node.Out.{Out}
 use Rattle.nk_store.specs.StoreState.{StoreState, IsId, IsStorePacket, look, Grows, HasLeaves}
@@ -117,13 +116,6 @@ does_back a b states set d g ok p id k = record {
         λ s. sends_back a b d pk y t g id (e.1 (leads_on a b states set pk y t g ok p s)),
       );
 }
-
--- nothing is seen in the beginning
-pub none_seen : (st : StoreState) (states : List ℕ) (ss : List (List ℕ)) (tags firsts : List ℕ) → AreSeenDiagrams st states ss tags firsts []
-none_seen st states ss tags firsts d c e = absurd (nothing e)
-  where
-    nothing : lookup (eqb d) [] ≡ Some c → ⊥
-    nothing e = cc
 
 module _ (a b : StoreState) (ss more : List (List ℕ)) (states tags firsts : List ℕ) (g : Grows a b) (sets : SetsGrow ss more) (ok : AreStates a states)
     (known : (c : ℕ) → c < length firsts → slice_index tags (slice_index firsts c) < length ss)
