@@ -87,30 +87,15 @@ next_declaring r rs t h = by (is_certificate t)
 
 after_no_row : (p : CertifiedPhase) (rs : List Row) → IsAfter p → HasNoRow p rs
 after_no_row (declaring r) rs b = absurd b
-after_no_row row_wanted rs b = tt
-after_no_row (start_wanted line) rs b = tt
-after_no_row (start_read line) rs b = tt
-after_no_row (number_wanted line) rs b = tt
-after_no_row (numbers_read line ns) rs b = tt
-after_no_row (in_row line ns s) rs b = tt
+after_no_row p rs b = tt
 
 bare_no_row : (p : CertifiedPhase) (rs : List Row) → HasNoRow p rs → HasNoRow (bare p) rs
 bare_no_row (declaring r) rs h = h
-bare_no_row row_wanted rs h = tt
-bare_no_row (start_wanted line) rs h = tt
-bare_no_row (start_read line) rs h = tt
-bare_no_row (number_wanted line) rs h = tt
-bare_no_row (numbers_read line ns) rs h = tt
-bare_no_row (in_row line ns s) rs h = tt
+bare_no_row p rs h = tt
 
 done_after : (p : CertifiedPhase) (ds : List Declaration) → IsAfter p → done_declarations p ds ≡ ds
 done_after (declaring r) ds b = absurd b
-done_after row_wanted ds b = refl
-done_after (start_wanted line) ds b = refl
-done_after (start_read line) ds b = refl
-done_after (number_wanted line) ds b = refl
-done_after (numbers_read line ns) ds b = refl
-done_after (in_row line ns s) ds b = refl
+done_after p ds b = refl
 
 -- the state that a token leads to
 judged_ordered : (o : Option Certifying) (s : SoFar) (line : ℕ) → HaveNoRow o → IsOrdered (so_far_judged (judged_certified line o) s line)
