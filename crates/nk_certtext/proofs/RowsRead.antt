@@ -15,16 +15,14 @@ use Rattle.nk_grammar.specs.declared.decl.CertRow.{CertRow}
 use Rattle.nk_grammar.specs.Tree.{Tree, tree_of as written_of}
 use Rattle.nk_grammar.specs.Certified.{Row, row, row_value as written_row}
 use Rattle.nk_names.specs.declared.fault.NamesError.{NamesError}
-use Rattle.nk_names.specs.declared.fault.NamesError.TheVariants as names
 use Rattle.nk_names.specs.ProgramOf.{row_policy}
-use Rattle.nk_names.specs.ProgramOf as program
 use Rattle.nk_cert.specs.Certificates.{RowValue}
 use Rattle.nk_cert.specs.declared.certificate.Certificate.{Certificate}
 use Rattle.nk_cert.specs.Values.{held_row_value, row_values, certificate_value}
 use Rattle.nk_cert.specs.Verdicts.{HasPredicates}
 use Rattle.nk_certtext.specs.declared.error.CertError.TheVariants.{CertFault}
 use Rattle.nk_certtext.specs.declared.error.CertError.{CertError}
-use Rattle.nk_certtext.specs.Rows.{have_positions, is_misplaced, fault_of_predicate, with_predicate, placed_row, with_written_row, with_later_rows, with_rows, from_start, certificate_of, starts, with_later_row, with_next_row, made_of, certificate_at_end, RowsValue, IsCertFault, CertReturns}
+use Rattle.nk_certtext.specs.Rows.{have_positions, is_misplaced, with_predicate, placed_row, with_written_row, with_later_rows, with_rows, from_start, certificate_of, starts, with_later_row, with_next_row, made_of, certificate_at_end, RowsValue, CertReturns}
 use Rattle.nk_certtext.proofs.Predicates.{of_certificate}
 
 -- the positions are found where a row has them
@@ -55,21 +53,11 @@ pub row_put : (es fs : List (List ℕ × Pol)) (ns : List ℕ) (p : Pol) → hav
 row_put es fs ns p h e = ap Ok (sym (ap row_values (e ∙ new_last es ns p h) ∙ map-append held_row_value es ((ns, p) ∷ [])))
 
 module _ (before : List RowValue) (ns : List ℕ) (line : ℕ) (wanted : Result Policy NamesError) where
-  -- misplaced positions are the fault of a row
-  pub row_misplaced : is_misplaced before ns ≡ true → placed_row before ns line wanted ≡ Err (CertFault line)
-  row_misplaced h = ap (λ b. cond b (Err (CertFault line)) (with_predicate before ns wanted)) h
-
-  -- else a row is what its predicate makes it
+  -- a row whose positions are not misplaced is what its predicate makes it
   placed : is_misplaced before ns ≡ false → placed_row before ns line wanted ≡ with_predicate before ns wanted
   placed h = ap (λ b. cond b (Err (CertFault line)) (with_predicate before ns wanted)) h
 
-  -- a predicate's fault is the row's
-  pub row_refused : (e : NamesError) → is_misplaced before ns ≡ false → program.IsNamesFault e wanted
-      → IsCertFault (fault_of_predicate e) (placed_row before ns line wanted)
-  row_refused names.NoMemory h f = tt
-  row_refused (names.Fault kind at) h f = placed h ∙ ap (with_predicate before ns) f
-
-  -- and a predicate is the row's
+  -- a predicate is the row's
   pub row_read : (p : Policy) (after : List RowValue) → is_misplaced before ns ≡ false → wanted ≡ Ok p
       → with_predicate before ns (Ok p) ≡ Ok after → placed_row before ns line wanted ≡ Ok after
   row_read p after h f e = placed h ∙ ap (with_predicate before ns) f ∙ e
