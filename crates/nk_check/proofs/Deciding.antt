@@ -5,7 +5,7 @@ use Rattle.std.proofs.lemmas.Bool.Decides.{leb_tells}
 use Rattle.nk_field.specs.declared.packet.Packet.{Packet}
 use Rattle.nk_field.specs.Packet.{FieldTable, IsPacket as IsPacketOf}
 use Rattle.nk_field.proofs.Lists.{In, in_from_contains, contains_from_in, in_decided, numbers_decided, Decided}
-use Rattle.nk_policy.specs.Policy.{Policy, Policies, test, range, assign, sum_of, seq_of, not_of, star_of, dup, link, no_part, part, dups_of, is_predicate, are_predicates}
+use Rattle.nk_policy.specs.Policy.{Policy, Policies, test, range, sum_of, seq_of, not_of, no_part, part, dups_of, is_predicate, are_predicates}
 use Rattle.nk_policy.specs.Meaning.{way_of, some_way_of, way_of_all}
 use Rattle.nk_policy.proofs.ListParts.{none_left, none_right}
 use Rattle.nk_policy.proofs.Predicates.{predicate_keeps}
@@ -123,7 +123,6 @@ module _ {A : Type 0} (mark : ℕ → Packet → A) where
         (λ e. (e.0, e.1, refl, refl))
         (λ k. (k.0, k.1))
         (both_decided (order_decided lo (slice_index pk f)) (order_decided (slice_index pk f) hi))
-    keeps_decided (assign f n) h pk = absurd cc
     keeps_decided (sum_of ps) h pk = some_keeps_decided ps h pk
     keeps_decided (seq_of ps) h pk = all_keep_decided ps h pk
     keeps_decided (not_of p) h pk =
@@ -132,9 +131,7 @@ module _ {A : Type 0} (mark : ℕ → Packet → A) where
         opposite : Decided (way_of p mark pk [] pk) → Decided (way_of p mark pk [] pk → ⊥)
         opposite (inl k) = inr (λ other. other k)
         opposite (inr other) = inl other
-    keeps_decided (star_of p) h pk = absurd cc
-    keeps_decided (dup l) h pk = absurd cc
-    keeps_decided (link a m b n l) h pk = absurd cc
+    keeps_decided p h pk = absurd cc
 
     some_keeps_decided : (ps : Policies) → are_predicates ps ≡ true → (pk : Packet) → Decided (some_way_of ps mark pk [] pk)
     some_keeps_decided no_part h pk = inr (λ k. k)

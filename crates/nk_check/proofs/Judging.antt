@@ -155,19 +155,15 @@ module _ (st : StoreState) (ss : List (List ℕ)) (states : List ℕ) (bad : Lis
   -- a row with labels is judged as its set is
   pub row_by_set : (positions : List ℕ) (e : ℕ × ℕ) (o : Option CertPart) → AreLabels (length states) positions → IsSetJudged st ss states bad told e o
       → IsRowJudged st ss states bad told positions e o
-  row_by_set positions e None are j = (are, j)
   row_by_set positions e (Some Position) are j = absurd j
   row_by_set positions e (Some Start) are j = j
-  row_by_set positions e (Some Finals) are j = (are, j)
-  row_by_set positions e (Some Hop) are j = (are, j)
+  row_by_set positions e o are j = (are, j)
 
   -- the start row with all packets is judged as its set is
   pub start_by_set : (e : ℕ × ℕ) (o : Option CertPart) → HasEach st e.1 → IsSetJudged st ss states bad told e o → IsStartJudged st ss states bad told e o
-  start_by_set e None each j = (each, j)
   start_by_set e (Some Position) each j = j
   start_by_set e (Some Start) each j = absurd j
-  start_by_set e (Some Finals) each j = (each, j)
-  start_by_set e (Some Hop) each j = (each, j)
+  start_by_set e o each j = (each, j)
 
   -- no row meets all parts before the first one
   pub none_met : (later : List RowValue) (entries : List (ℕ × ℕ)) → AreMet st ss states bad told later entries 0

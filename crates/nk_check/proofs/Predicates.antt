@@ -3,7 +3,7 @@ use Rattle.std.proofs.Common.{◌≡◌, ℕ, Bool, true, false, inl, List, [], 
 use Rattle.std.specs.Prelude.{not, Contains}
 use Rattle.nk_field.proofs.Lists.{in_from_contains, contains_from_in}
 use Rattle.nk_field.specs.Act.{applied}
-use Rattle.nk_policy.specs.Policy.{Policy, Policies, test, range, assign, sum_of, seq_of, not_of, star_of, dup, link, no_part, part, is_predicate, are_predicates}
+use Rattle.nk_policy.specs.Policy.{Policy, Policies, sum_of, seq_of, not_of, star_of, no_part, part, is_predicate, are_predicates}
 use Rattle.nk_policy.specs.Meaning.{Gives}
 use Rattle.nk_policy.proofs.Predicates.{predicate_keeps}
 use Rattle.nk_policy.proofs.Tests.{both_true}
@@ -26,15 +26,11 @@ use Rattle.nk_check.specs.Judged.{IsPacketsOf}
 mutual
   -- a predicate's complements are of predicates
   pub predicate_negates : (p : Policy) → is_predicate p ≡ true → NegatesPredicates p
-  predicate_negates (test f n) h = tt
-  predicate_negates (range f lo hi) h = tt
-  predicate_negates (assign f n) h = tt
   predicate_negates (sum_of ps) h = predicates_negate ps h
   predicate_negates (seq_of ps) h = predicates_negate ps h
   predicate_negates (not_of p) h = (h, predicate_negates p h)
   predicate_negates (star_of p) h = absurd cc
-  predicate_negates (dup l) h = tt
-  predicate_negates (link a m b n l) h = tt
+  predicate_negates p h = tt
 
   -- so are those of several predicates
   predicates_negate : (ps : Policies) → are_predicates ps ≡ true → AllNegatePredicates ps
