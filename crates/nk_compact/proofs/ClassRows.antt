@@ -67,11 +67,9 @@ untagged_in_range fields pk tag k = record {
     by f (inr same) = subst (λ n. n ≤ slice_index fields.maxima f) (sym same) (k.within f)
 
     index_after : (xs : List ℕ) (i f : ℕ) → (slice_index (slice_set xs i 0) f ≡ 0) ⊎ (slice_index (slice_set xs i 0) f ≡ slice_index xs f)
-    index_after [] i f = inr refl
     index_after (x ∷ xs) zero zero = inl refl
-    index_after (x ∷ xs) zero (suc f) = inr refl
-    index_after (x ∷ xs) (suc i) zero = inr refl
     index_after (x ∷ xs) (suc i) (suc f) = index_after xs i f
+    index_after xs i f = inr refl
 
 module _ (fields : FieldTable) (topo : Topology) (tag : ℕ) (p : Policy) (st : StoreState) (ss : List (List ℕ)) (states tags classes firsts met : List ℕ) (m : IsMergeable fields topo tag p st ss states tags classes firsts met)
     (ends : List (Option ℕ)) (each_end : (l : ℕ) → l < length states → get_or ends l None ≡ link_end p l) where

@@ -8,7 +8,7 @@ use Rattle.nk_names.specs.declared.Program.{Program}
 use Rattle.nk_names.specs.Named.{policy_named}
 use Rattle.nk_names.specs.ProgramValue.{IsProgram}
 use Rattle.nk_compile.specs.declared.refusal.Refusal.{Refusal}
-use Rattle.nk_compile.specs.declared.refusal.Refusal.TheVariants.{NoPolicy, NoTag, TagUsed, LooseDup, SwitchSet, NoSuchLink, OffEdge, TooManyTags}
+use Rattle.nk_compile.specs.declared.refusal.Refusal.TheVariants.{NoPolicy, NoTag, TooManyTags}
 use Rattle.nk_compile.specs.declared.refusal.CompileError.{CompileError}
 use Rattle.nk_compile.specs.declared.refusal.CompileError.TheVariants.{NoMemory, Refused}
 use Rattle.nk_compile.specs.Preparing.{IsEarlyError}
@@ -22,24 +22,14 @@ pub early_compact_error : (fields : FieldTable) (topo : Topology) (p : Policy) (
 early_compact_error fields topo p NoMemory h = tt
 early_compact_error fields topo p (Refused NoPolicy) h = absurd h
 early_compact_error fields topo p (Refused NoTag) h = absurd h
-early_compact_error fields topo p (Refused TagUsed) h = h
-early_compact_error fields topo p (Refused LooseDup) h = h
-early_compact_error fields topo p (Refused SwitchSet) h = h
-early_compact_error fields topo p (Refused NoSuchLink) h = h
-early_compact_error fields topo p (Refused (OffEdge start history)) h = h
 early_compact_error fields topo p (Refused (TooManyTags found)) h = absurd h
+early_compact_error fields topo p e h = h
 
 -- the reason for the policy is that for its name
 compact_reason_named : (program : Program) (name : List ℕ) (p : Policy) → policy_named program name ≡ Some p →
     (r : Refusal) → IsCompactReason program.fields program.topo p r → IsCompactRefused program name r
 compact_reason_named program name p named NoPolicy e = absurd (static_refusal_named program.fields.tag program.topo p e)
-compact_reason_named program name p named NoTag e = (p, named, e)
-compact_reason_named program name p named TagUsed e = (p, named, e)
-compact_reason_named program name p named LooseDup e = (p, named, e)
-compact_reason_named program name p named SwitchSet e = (p, named, e)
-compact_reason_named program name p named NoSuchLink e = (p, named, e)
-compact_reason_named program name p named (OffEdge start history) e = (p, named, e)
-compact_reason_named program name p named (TooManyTags found) e = (p, named, e)
+compact_reason_named program name p named r e = (p, named, e)
 
 -- the answer for the policy is that for its name
 pub compact_answer_named : (program : Program) (name : List ℕ) (p : Policy) (r : Result Compact CompileError) →

@@ -12,7 +12,7 @@ use Rattle.nk_names.specs.Named.{policy_named}
 use Rattle.nk_names.proofs.Alike.{fields_alike, topo_alike, named_alike, one_policy}
 use Rattle.nk_merge.proofs.Numbering.{numbers_fixed}
 use Rattle.nk_compile.specs.declared.refusal.Refusal.{Refusal}
-use Rattle.nk_compile.specs.declared.refusal.Refusal.TheVariants.{NoPolicy, NoTag, TagUsed, LooseDup, SwitchSet, NoSuchLink, OffEdge, TooManyTags}
+use Rattle.nk_compile.specs.declared.refusal.Refusal.TheVariants.{NoPolicy, TooManyTags}
 use Rattle.nk_compile.specs.PairAnswers.{IsUnopposed}
 use Rattle.nk_compile.specs.Refusals.{IsReason}
 use Rattle.nk_compile.proofs.OneTagList.{one_tag_list}
@@ -51,14 +51,8 @@ module _ (fields : FieldTable) (topo : Topology) (p : Policy) where
   Late r = (found : ℕ) × (r ≡ TooManyTags found) × IsCompactReason fields topo p (TooManyTags found)
 
   kind : (r : Refusal) → IsCompactReason fields topo p r → Early r ⊎ Late r
-  kind NoPolicy h = inl (h, λ found e. cc)
-  kind NoTag h = inl (h, λ found e. cc)
-  kind TagUsed h = inl (h, λ found e. cc)
-  kind LooseDup h = inl (h, λ found e. cc)
-  kind SwitchSet h = inl (h, λ found e. cc)
-  kind NoSuchLink h = inl (h, λ found e. cc)
-  kind (OffEdge start history) h = inl (h, λ found e. cc)
   kind (TooManyTags found) h = inr (found, refl, h)
+  kind r h = inl (h, λ found e. cc)
 
   pub no_compact_reason : (r : Refusal) → IsCompilable fields topo p → HasFewClasses fields topo p → IsCompactReason fields topo p r → ⊥
   no_compact_reason r c few h =
@@ -83,13 +77,7 @@ HasCompactReason program name r = (p : Policy) × (policy_named program name ≡
 
 why_compact : (program : Program) (name : List ℕ) (r : Refusal) → IsCompactRefused program name r → ((r ≡ NoPolicy) × (policy_named program name ≡ None)) ⊎ HasCompactReason program name r
 why_compact program name NoPolicy h = inl (refl, h)
-why_compact program name NoTag h = inr h
-why_compact program name TagUsed h = inr h
-why_compact program name LooseDup h = inr h
-why_compact program name SwitchSet h = inr h
-why_compact program name NoSuchLink h = inr h
-why_compact program name (OffEdge start history) h = inr h
-why_compact program name (TooManyTags found) h = inr h
+why_compact program name r h = inr h
 
 module _ (program other : Program) (same : program_by program ≡ program_by other) (name : List ℕ) where
   -- the same reason of the other program's policy
