@@ -1,5 +1,5 @@
 -- The packets of levels put in by set, one entry after the other.
-use Rattle.std.proofs.Common.{◌≡◌, ℕ, zero, suc, ◌+◌, ◌<◌, ◌↔◌, ◌⊎◌, inl, inr, ⊎_elim, true, false, List, [], ◌∷◌, ◌++◌, length, get_or, set, take, refl, sym, ap, subst, ◌∙◌, arith, append_assoc, append-nil, length-append, length-set, get_or-set_other, get_or-set_same}
+use Rattle.std.proofs.Common.{◌≡◌, ℕ, zero, suc, ◌+◌, ◌<◌, ◌↔◌, ◌⊎◌, inl, inr, ⊎_elim, true, List, [], ◌∷◌, ◌++◌, length, get_or, set, take, refl, sym, ap, subst, ◌∙◌, arith, append_assoc, append-nil, length-append, length-set, get_or-set_other, get_or-set_same}
 use Rattle.std.specs.Prelude.{All, map}
 use Rattle.std.proofs.lemmas.List.{take_more, get_or_append_left, get_or_default}
 use Rattle.std.specs.List.Sorted.{IsStrictlyIncreasing}
@@ -83,26 +83,6 @@ entry_put base st new before all longer s p d first then id lt made is k =
           λ h. more.1 (inl (old.0 (sym here ∙ h))),
           λ h. here ∙ ⊎_elim (λ a. old.1 a) (λ b. absurd (ne (sym b.0))) (more.0 h),
         )
-
--- the diagrams after it are of the store
-pub entry_ids : (st new : StoreState) (all longer : List ℕ) (s d : ℕ) → Grows st new → s < length all → IsId new d → longer ≡ set all s d → ((k : ℕ) → k < length all → IsId st (get_or all k 0)) →
-    (k : ℕ) → k < length longer → IsId new (get_or longer k 0)
-entry_ids st new all longer s d g lt id is ids k less =
-    subst (λ l. IsId new (get_or l k 0)) (sym is) (by (subst (λ n. k < n) (ap (λ (l : List ℕ). length l) is ∙ length-set all s d) less) (numbers_decided k s))
-  where
-    by : k < length all → (k ≡ s) ⊎ (k ≡ s → ⊥) → IsId new (get_or (set all s d) k 0)
-    by inside (inl e) = subst (IsId new) (sym (ap (λ n. get_or (set all s d) n 0) e ∙ get_or-set_same all s d 0 lt)) id
-    by inside (inr ne) = subst (IsId new) (sym (get_or-set_other all s k d 0 ne)) (g.ids (get_or all k 0) (ids k inside))
-
--- no entry, and no packet
-pub none_under : (base st : StoreState) (all : List ℕ) (none : ℕ) → HasLeaves st none (λ pk. []) → ((s : ℕ) → s < length all → get_or all s 0 ≡ none) → AreUnder base st [] all
-none_under base st all none made each = record {
-  ids = λ s lt. subst (IsId st) (sym (each s lt)) made.id;
-  under = λ s x lt w. (λ h. absurd (never (sym (ap (λ n. is_in st n x) (each s lt) ∙ ap has_some_out (made.leaf x w)) ∙ h)), λ h. absurd h);
-}
-  where
-    never : false ≡ true → ⊥
-    never e = cc
 
 -- what holds of each entry holds of the one at a place
 pub each_at : (P : ℕ × ℕ → Type 0) (xs : List (ℕ × ℕ)) (i : ℕ) (d : ℕ × ℕ) → EachPair P xs → i < length xs → P (get_or xs i d)
