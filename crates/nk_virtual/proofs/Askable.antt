@@ -5,7 +5,7 @@ use Rattle.std.specs.Prelude.{slice_index}
 use Rattle.std.proofs.lemmas.List.{get_or-take}
 use Rattle.nk_field.specs.declared.packet.Packet.{Packet}
 use Rattle.nk_field.specs.Packet.{FieldTable, IsPacket, IsValue}
-use Rattle.nk_policy.specs.Policy.{Policy, Policies, test, range, assign, sum_of, seq_of, not_of, star_of, dup, link, no_part, part, is_predicate, are_predicates, dups_of, dups_of_all, marked_from}
+use Rattle.nk_policy.specs.Policy.{Policy, Policies, sum_of, seq_of, not_of, star_of, dup, link, no_part, part, is_predicate, are_predicates, dups_of, dups_of_all, marked_from}
 use Rattle.nk_policy.specs.Ranges.{UsesOnly, AllUseOnly, IsOverFields}
 use Rattle.nk_policy.specs.Complements.{NegatesPredicates, AllNegatePredicates}
 use Rattle.nk_policy.specs.After.{drop_policy}
@@ -24,15 +24,12 @@ module _ (Allowed : ℕ → ℕ → Type 0) where
   mutual
     -- without its dups a policy has the tests and assignments that it had
     pub bare_uses : (p : Policy) → UsesOnly Allowed p → UsesOnly Allowed (without_records p)
-    bare_uses (test f n) u = u
-    bare_uses (range f low high) u = u
-    bare_uses (assign f n) u = u
     bare_uses (sum_of ps) u = all_bare_use ps u
     bare_uses (seq_of ps) u = all_bare_use ps u
-    bare_uses (not_of p) u = u
     bare_uses (star_of p) u = bare_uses p u
     bare_uses (dup l) u = tt
     bare_uses (link a m b n l) u = (u.0, (u.1, (u.2, (u.3, tt))))
+    bare_uses p u = u
 
     -- its parts
     all_bare_use : (ps : Policies) → AllUseOnly Allowed ps → AllUseOnly Allowed (all_without_records ps)
@@ -42,15 +39,12 @@ module _ (Allowed : ℕ → ℕ → Type 0) where
 mutual
   -- its complements stay over predicates
   pub bare_negates : (p : Policy) → NegatesPredicates p → NegatesPredicates (without_records p)
-  bare_negates (test f n) h = tt
-  bare_negates (range f low high) h = tt
-  bare_negates (assign f n) h = tt
   bare_negates (sum_of ps) h = all_bare_negate ps h
   bare_negates (seq_of ps) h = all_bare_negate ps h
   bare_negates (not_of p) h = h
   bare_negates (star_of p) h = bare_negates p h
-  bare_negates (dup l) h = tt
   bare_negates (link a m b n l) h = (tt, (tt, (tt, (tt, tt))))
+  bare_negates p h = tt
 
   -- those of its parts
   all_bare_negate : (ps : Policies) → AllNegatePredicates ps → AllNegatePredicates (all_without_records ps)
@@ -60,15 +54,11 @@ mutual
 mutual
   -- and it has no dup
   pub bare_dups : (p : Policy) → NegatesPredicates p → dups_of (without_records p) ≡ 0
-  bare_dups (test f n) h = refl
-  bare_dups (range f low high) h = refl
-  bare_dups (assign f n) h = refl
   bare_dups (sum_of ps) h = all_bare_dups ps h
   bare_dups (seq_of ps) h = all_bare_dups ps h
   bare_dups (not_of p) h = no_dups p h.0
   bare_dups (star_of p) h = bare_dups p h
-  bare_dups (dup l) h = refl
-  bare_dups (link a m b n l) h = refl
+  bare_dups p h = refl
 
   -- nor have its parts
   all_bare_dups : (ps : Policies) → AllNegatePredicates ps → dups_of_all (all_without_records ps) ≡ 0

@@ -22,7 +22,7 @@ use Rattle.nk_virtual.specs.Physical.{physical}
 use Rattle.nk_virtual.specs.Reasons.{IsUsable}
 use Rattle.nk_virtual.specs.declared.refusal.VirtualError.{VirtualError}
 use Rattle.nk_virtual.specs.declared.refusal.VirtualError.TheVariants.{NoMemory, Refused}
-use Rattle.nk_virtual.specs.declared.refusal.VirtualRefusal.TheVariants.{NoPolicy, NoTag, Static, OffTarget, NotCarried, TooLarge}
+use Rattle.nk_virtual.specs.declared.refusal.VirtualRefusal.TheVariants.{TooLarge}
 use Rattle.nk_virtual.proofs.StaticCauses.{HasNone, unseen, nothing_seen}
 use Rattle.nk_virtual.proofs.StaticFaults.{physical_tag_free, physical_dups, physical_switch, physical_links}
 use Rattle.nk_virtual.proofs.Staying.{physical_uses, physical_negates}
@@ -112,9 +112,5 @@ module _ (fields : FieldTable) (topo : Topology) (links : List VirtualLink) (tag
   pub built_answer : (r : Result Pol VirtualError) → IsBuilding (physical links p) r → IsAnswerOver fields topo links tag p r
   built_answer (Ok q) b = built_is_physical (tree_of q) b
   built_answer (Err NoMemory) b = tt
-  built_answer (Err (Refused NoPolicy)) b = absurd b
-  built_answer (Err (Refused NoTag)) b = absurd b
-  built_answer (Err (Refused (Static static_kind))) b = absurd b
-  built_answer (Err (Refused (OffTarget switch port start history))) b = absurd b
-  built_answer (Err (Refused (NotCarried switch port start))) b = absurd b
   built_answer (Err (Refused TooLarge)) b = (plain, b)
+  built_answer r b = absurd b

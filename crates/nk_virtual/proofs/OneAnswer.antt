@@ -13,7 +13,7 @@ use Rattle.nk_virtual.specs.Answers.{IsPhysical}
 use Rattle.nk_virtual.specs.Physical.{physical}
 use Rattle.nk_virtual.specs.Reasons.{IsReasonAgainst, IsVirtualReason}
 use Rattle.nk_virtual.specs.declared.refusal.VirtualRefusal.{VirtualRefusal}
-use Rattle.nk_virtual.specs.declared.refusal.VirtualRefusal.TheVariants.{NoPolicy, NoTag, Static, OffTarget, NotCarried, TooLarge}
+use Rattle.nk_virtual.specs.declared.refusal.VirtualRefusal.TheVariants.{NoPolicy}
 use Rattle.nk_virtual.proofs.OneReason.{none_some, one_against, none_against}
 
 -- why a name is refused: it has no policy, or there is a reason against its policy
@@ -24,11 +24,7 @@ HasReason program name r =
 why : (program : Program) (name : List ℕ) (r : VirtualRefusal) → IsVirtualReason program name r
     → ((r ≡ NoPolicy) × (policy_named program name ≡ None)) ⊎ HasReason program name r
 why program name NoPolicy h = inl (refl, h)
-why program name NoTag h = inr h
-why program name (Static static_kind) h = inr h
-why program name (OffTarget switch port start history) h = inr h
-why program name (NotCarried switch port start) h = inr h
-why program name TooLarge h = inr h
+why program name r h = inr h
 
 -- a reason against the same policy over the same virtual links
 against_alike : (f g : FieldTable) (t u : Topology) (k l : List VirtualLink) (p q : Policy) (r : VirtualRefusal) → f ≡ g → t ≡ u → k ≡ l → p ≡ q

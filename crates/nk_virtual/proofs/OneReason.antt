@@ -52,14 +52,12 @@ module _ (fields : FieldTable) (topo : Topology) (tag : ℕ) (k : VirtualLink) w
       × IsFirstNotCarried fields k start
 
   kind_of : (r : VirtualRefusal) → IsFlawOf fields topo tag k r → Shows r ⊎ (IsOff r ⊎ IsLeft r)
-  kind_of NoPolicy h = absurd h
-  kind_of NoTag h = absurd h
   kind_of (Static static_kind) h = inl (static_kind, refl, h)
   kind_of (OffTarget switch port start history) h =
       inr (inl (start, history, cc (h.1.0, h.1.1), h.0, h.2))
   kind_of (NotCarried switch port start) h =
       inr (inr (start, cc (h.1.0, h.1.1), h.0, h.2, h.3))
-  kind_of TooLarge h = absurd h
+  kind_of r h = absurd h
 
   same_off : (r s : VirtualRefusal) → IsOff r → IsOff s → r ≡ s
   same_off r s h j =
@@ -164,12 +162,9 @@ module _ (links : List VirtualLink) (tag : ℕ) (p : Policy) where
   IsLarge r = (r ≡ TooLarge) × (seen_over ≡ None) × (1048576 < size_of (physical links p))
 
   kind_over : (r : VirtualRefusal) → IsFlawOver links tag p r → ShowsOver r ⊎ IsLarge r
-  kind_over NoPolicy h = absurd h
-  kind_over NoTag h = absurd h
   kind_over (Static static_kind) h = inl (static_kind, refl, h)
-  kind_over (OffTarget switch port start history) h = absurd h
-  kind_over (NotCarried switch port start) h = absurd h
   kind_over TooLarge h = inr (refl, h.0, h.1)
+  kind_over r h = absurd h
 
   pub one_over : (r s : VirtualRefusal) → IsFlawOver links tag p r → IsFlawOver links tag p s → r ≡ s
   one_over r s h j = by (kind_over r h) (kind_over s j)
@@ -199,10 +194,7 @@ module _ (fields : FieldTable) (topo : Topology) (links : List VirtualLink) (p :
   kind_against : (r : VirtualRefusal) → IsReasonAgainst fields topo links p r → IsUntaggable r ⊎ IsLater r
   kind_against NoPolicy h = absurd h
   kind_against NoTag h = inl (refl, h)
-  kind_against (Static static_kind) h = inr h
-  kind_against (OffTarget switch port start history) h = inr h
-  kind_against (NotCarried switch port start) h = inr h
-  kind_against TooLarge h = inr h
+  kind_against r h = inr h
 
   module _ (apart : AllPairs (λ k l. ¬ (HaveOneSource k l)) links) where
     one_later : (tag : ℕ) (r s : VirtualRefusal) → IsLaterFlaw fields topo links tag p r → IsLaterFlaw fields topo links tag p s → r ≡ s

@@ -1,5 +1,5 @@
 -- What is seen of a policy, told by its leaves.
-use Rattle.std.proofs.Common.{◌≡◌, ℕ, Bool, true, false, Option, Some, None, List, refl}
+use Rattle.std.proofs.Common.{◌≡◌, ℕ, Bool, false, Option, Some, None, List, refl}
 use Rattle.std.specs.Prelude.{if◌then◌else◌}
 use Rattle.nk_topo.specs.Topology.{Link}
 use Rattle.nk_policy.specs.Policy.{Policy}
@@ -16,19 +16,13 @@ first_of_four a b c d =
 
 -- where none passes, each fails
 each_fails : (a b c d : Bool) → first_of_four a b c d ≡ None → (a ≡ false) × (b ≡ false) × (c ≡ false) × (d ≡ false)
-each_fails true b c d e = absurd cc
-each_fails false true c d e = absurd cc
-each_fails false false true d e = absurd cc
-each_fails false false false true e = absurd cc
 each_fails false false false false e = (refl, refl, refl, refl)
+each_fails a b c d e = absurd cc
 
 -- and back
 none_passes : (a b c d : Bool) → a ≡ false → b ≡ false → c ≡ false → d ≡ false → first_of_four a b c d ≡ None
-none_passes true b c d e f g h = absurd cc
-none_passes false true c d e f g h = absurd cc
-none_passes false false true d e f g h = absurd cc
-none_passes false false false true e f g h = absurd cc
 none_passes false false false false e f g h = refl
+none_passes a b c d e f g h = absurd cc
 
 module _ (tag : ℕ) (links : List Link) (p : Policy) where
   -- no leaf is what is looked for

@@ -26,15 +26,13 @@ module _ (is : Policy → Bool) (same_dup : (l k : ℕ) → is (dup l) ≡ is (d
   mutual
     -- to number a policy anew changes nothing of it
     pub marked_leaf : (p : Policy) (n : ℕ) → has_leaf is (marked_from p n) ≡ has_leaf is p
-    marked_leaf (test f k) n = refl
-    marked_leaf (range f low high) n = refl
-    marked_leaf (assign f k) n = refl
     marked_leaf (sum_of ps) n = some_marked_leaf ps n
     marked_leaf (seq_of ps) n = some_marked_leaf ps n
     marked_leaf (not_of p) n = marked_leaf p n
     marked_leaf (star_of p) n = marked_leaf p n
     marked_leaf (dup l) n = same_dup n l
     marked_leaf (link a m b k l) n = same_link a m b k n l
+    marked_leaf p n = refl
 
     -- of its parts
     some_marked_leaf : (ps : Policies) (n : ℕ) → some_has_leaf is (all_marked_from ps n) ≡ some_has_leaf is ps
@@ -74,15 +72,11 @@ module _ (is : Policy → Bool) (no_switch : (n : ℕ) → is (test 0 n) ≡ fal
     -- no leaf where the virtual policy has none
     pub free_leaf : (p : Policy) → has_leaf outside p ≡ false → has_leaf is p ≡ false
         → has_leaf is (physical links p) ≡ false
-    free_leaf (test f n) o h = h
-    free_leaf (range f low high) o h = h
-    free_leaf (assign f n) o h = h
     free_leaf (sum_of ps) o h = free_leaves ps o h
     free_leaf (seq_of ps) o h = free_leaves ps o h
-    free_leaf (not_of p) o h = h
     free_leaf (star_of p) o h = free_leaf p o h
-    free_leaf (dup l) o h = h
     free_leaf (link a m b n l) o h = literal_leaf a m b n l o
+    free_leaf p o h = h
 
     -- of its parts
     free_leaves : (ps : Policies) → some_has_leaf outside ps ≡ false → some_has_leaf is ps ≡ false
@@ -101,13 +95,10 @@ module _ (is : Policy → Bool) (no_switch : (n : ℕ) → is (test 0 n) ≡ fal
       predicate_leaf : (p : Policy) → is_predicate p ≡ true → has_leaf is p ≡ false
       predicate_leaf (test f n) h = no_test f n
       predicate_leaf (range f low high) h = no_range f low high
-      predicate_leaf (assign f n) h = absurd (false_true h)
       predicate_leaf (sum_of ps) h = predicate_leaves ps h
       predicate_leaf (seq_of ps) h = predicate_leaves ps h
       predicate_leaf (not_of p) h = predicate_leaf p h
-      predicate_leaf (star_of p) h = absurd (false_true h)
-      predicate_leaf (dup l) h = absurd (false_true h)
-      predicate_leaf (link a m b n l) h = absurd (false_true h)
+      predicate_leaf p h = absurd (false_true h)
 
       -- its parts have
       predicate_leaves : (ps : Policies) → are_predicates ps ≡ true → some_has_leaf is ps ≡ false

@@ -4,7 +4,7 @@ use Rattle.std.proofs.Common.{ℕ, Bool, true, false, ⊎_elim, List, [], ◌∷
 use Rattle.std.specs.Prelude.{if◌then◌else◌, All}
 use Rattle.std.proofs.lemmas.Bool.{cases_Bool}
 use Rattle.std.proofs.lemmas.List.Elements.{All-head, All-tail}
-use Rattle.nk_policy.specs.Policy.{Policy, Policies, test, range, assign, sum_of, seq_of, not_of, star_of, dup, link, no_part, part}
+use Rattle.nk_policy.specs.Policy.{Policy, Policies, sum_of, seq_of, not_of, star_of, dup, link, no_part, part}
 use Rattle.nk_policy.specs.Ranges.{UsesOnly, AllUseOnly}
 use Rattle.nk_policy.specs.Complements.{NegatesPredicates, AllNegatePredicates}
 use Rattle.nk_names.specs.ProgramValue.{VirtualLink}
@@ -41,15 +41,12 @@ module _ (Allowed : ℕ → ℕ → Type 0) where
     mutual
       -- a policy
       pub physical_uses : (p : Policy) → UsesOnly Allowed p → UsesOnly Allowed (physical links p)
-      physical_uses (test f n) u = u
-      physical_uses (range f low high) u = u
-      physical_uses (assign f n) u = u
       physical_uses (sum_of ps) u = all_physical_use ps u
       physical_uses (seq_of ps) u = all_physical_use ps u
-      physical_uses (not_of p) u = u
       physical_uses (star_of p) u = physical_uses p u
       physical_uses (dup l) u = tt
       physical_uses (link a m b n l) u = through_uses links a m b n l fabrics u
+      physical_uses p u = u
 
       -- its parts
       all_physical_use : (ps : Policies) → AllUseOnly Allowed ps → AllUseOnly Allowed (all_physical links ps)
@@ -77,15 +74,12 @@ module _ (links : List VirtualLink) (fabrics : All FabricNegates links) where
   mutual
     -- a policy
     pub physical_negates : (p : Policy) → NegatesPredicates p → NegatesPredicates (physical links p)
-    physical_negates (test f n) h = tt
-    physical_negates (range f low high) h = tt
-    physical_negates (assign f n) h = tt
     physical_negates (sum_of ps) h = all_physical_negate ps h
     physical_negates (seq_of ps) h = all_physical_negate ps h
     physical_negates (not_of p) h = h
     physical_negates (star_of p) h = physical_negates p h
-    physical_negates (dup l) h = tt
     physical_negates (link a m b n l) h = through_negates links a m b n l fabrics
+    physical_negates p h = tt
 
     -- its parts
     all_physical_negate : (ps : Policies) → AllNegatePredicates ps → AllNegatePredicates (all_physical links ps)

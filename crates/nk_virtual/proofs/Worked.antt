@@ -51,13 +51,10 @@ zeros (suc n) (suc f) = zeros n f
 
 -- the packet is in range
 within : (f : ℕ) → slice_index (untagged 1 1) f ≤ slice_index dst_and_vlan.maxima f
-within zero = omega arith
-within (suc zero) = omega arith
-within (suc (suc zero)) = omega arith
-within (suc (suc (suc zero))) = omega arith
 within (suc (suc (suc (suc f)))) =
     let none : slice_index (untagged 1 1) (suc (suc (suc (suc f)))) ≡ 0 = zeros 14 f in
     omega (arith, none)
+within f = omega arith
 
 -- where a packet is on its way: at 1:2, 2:1, 2:2 and 3:1
 abbrev first : Packet → Packet
