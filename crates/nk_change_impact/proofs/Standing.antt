@@ -8,13 +8,14 @@ use Rattle.nk_names.proofs.Alike.{named_alike}
 use Rattle.nk_cert.specs.Equality.{AreSame}
 use Rattle.nk_difference.proofs.BothSides.{not_same}
 use Rattle.nk_input.specs.ProgramText.{Declares}
+use Rattle.nk_input.proofs.OneText.{declares_once, no_fault}
 use Rattle.nk_reply.specs.declared.status.Status.{Status}
 use Rattle.nk_reply.specs.declared.status.Status.TheVariants.{Done, Differs, Text, Refused}
 use Rattle.nk_reply.specs.Answer.{answer_of}
 use Rattle.nk_reply.specs.Outcome.{Outcome, done, differs, text_refused, policy_refused}
 use Rattle.nk_change_impact.specs.Impact.{IsImpactAnswer}
 use Rattle.nk_change_impact.specs.Succeeding.{HaveBothPolicies, LackPolicy, StandsFor}
-use Rattle.nk_change_impact.proofs.Texts.{declares_once, no_fault, policies_alike}
+use Rattle.nk_change_impact.proofs.Texts.{policies_alike}
 
 some_none : {X : Type 0} (x : X) → ◌≡◌ {A = Option X} None (Some x) → ⊥
 some_none x e = cc

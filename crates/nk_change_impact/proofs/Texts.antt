@@ -1,28 +1,12 @@
--- What the bytes of a text declare is one, and a text that declares something has no fault; so the policies of two names are.
-use Rattle.std.proofs.Common.{◌≡◌, ℕ, List, sym, ap, subst, ◌∙◌}
-use Rattle.std.specs.Prelude.{Ok}
-use Rattle.std.specs.declared.result.Result.{Result}
+-- The policies of two names that the bytes of a text declare are one.
+use Rattle.std.proofs.Common.{◌≡◌, ℕ, List, sym, subst, ◌∙◌}
 use Rattle.nk_field.specs.Packet.{FieldTable}
-use Rattle.nk_grammar.specs.FileMachine.{file_of}
 use Rattle.nk_policy.specs.Policy.{Policy}
-use Rattle.nk_names.specs.ProgramOf.{DeclaredProgram, program_by, program_of}
+use Rattle.nk_names.specs.ProgramOf.{DeclaredProgram, program_by}
 use Rattle.nk_names.proofs.Alike.{fields_alike, one_policy}
-use Rattle.nk_input.specs.ProgramText.{Declares, HasFault, IsFaultOfBytes, IsFaultOfNames, IsFaultOfTokens}
+use Rattle.nk_input.specs.ProgramText.{Declares}
+use Rattle.nk_input.proofs.OneText.{declares_once}
 use Rattle.nk_change_impact.specs.Impact.{AreBothNamed}
-
-ok_is : {X E : Type 0} (x y : X) → ◌≡◌ {A = Result X E} (Ok x) (Ok y) → x ≡ y
-ok_is x y e = cc
-
-pub declares_once : (bytes : List ℕ) (s t : DeclaredProgram) → Declares bytes s → Declares bytes t → s ≡ t
-declares_once bytes s t d k =
-    let tokens = ok_is d.tokens k.tokens (sym d.cut ∙ k.cut) in
-    let declarations = ok_is d.declarations k.declarations (sym d.read ∙ ap file_of tokens ∙ k.read) in
-    ok_is s t (sym d.means ∙ ap program_of declarations ∙ k.means)
-
-pub no_fault : (bytes : List ℕ) (s : DeclaredProgram) (line : List ℕ) → Declares bytes s → HasFault bytes line → ⊥
-no_fault bytes s line d h =
-    subst (λ r. IsFaultOfNames r line) d.means
-    (subst (λ r. IsFaultOfTokens r line) d.read (subst (λ r. IsFaultOfBytes r line) d.cut h))
 
 -- programs of both names that the bytes declare say the same
 pub same_program : (bytes left right : List ℕ) (s t : DeclaredProgram) → Declares bytes s → Declares bytes t
