@@ -1,88 +1,26 @@
 -- What is answered to the tokens of a text with a certificate, and to its bytes, by what reading it token by token comes to.
 use Rattle.std.proofs.Common.{◌≡◌, ℕ, List, refl, sym, ap, subst, ◌∙◌}
 use Rattle.std.specs.declared.result.Result.{Result}
-use Rattle.std.specs.Prelude.{Ok, Err, IfOk, ⊤, codes}
+use Rattle.std.specs.Prelude.{Ok, Err, IfOk}
 use Rattle.nk_lex.specs.declared.token.Token.{Token}
 use Rattle.nk_lex.specs.declared.token.LexError.{LexError}
 use Rattle.nk_lex.specs.Lex.{tokens_of}
 use Rattle.nk_grammar.specs.declared.decl.GrammarError.{GrammarError}
-use Rattle.nk_grammar.specs.declared.decl.GrammarError.TheVariants as grammar
-use Rattle.nk_grammar.specs.Certified.{Certified, Row}
+use Rattle.nk_grammar.specs.Certified.{Certified}
 use Rattle.nk_grammar.specs.CertifiedMachine.{certified_of}
 use Rattle.nk_names.specs.declared.fault.NamesError.{NamesError}
-use Rattle.nk_names.specs.declared.fault.NamesError.TheVariants as names
 use Rattle.nk_names.specs.ProgramOf.{DeclaredProgram, program_of}
-use Rattle.nk_names.specs.Messages.{fault_message_of, fault_line}
 use Rattle.nk_cert.specs.Certificates.{CertificateValue}
 use Rattle.nk_certtext.specs.declared.error.CertError.{CertError}
-use Rattle.nk_certtext.specs.declared.error.CertError.TheVariants as rows
 use Rattle.nk_certtext.specs.declared.error.TextError.{TextError}
-use Rattle.nk_certtext.specs.declared.error.TextError.TheVariants as whole
 use Rattle.nk_certtext.specs.Rows.{certificate_of}
-use Rattle.nk_certtext.specs.Whole.{IsTextFault, grammar_fault, names_fault, rows_fault, text_of_tokens, text_of_program, text_of_written, with_certificate}
-use Rattle.nk_verify_commands.specs.CertifiedText.{HoldTokens, IsFaultOfCertifiedBytes, IsFaultOfCertifiedTokens, IsFaultOfRows, IsFaultOfProgram, TellsNoFault, TellingCertified, TellsText, ToCertified, ToCertifiedTokens}
+use Rattle.nk_certtext.specs.Whole.{grammar_fault, names_fault, rows_fault, text_of_tokens, text_of_program, text_of_written, with_certificate}
+use Rattle.nk_verify_commands.specs.CertifiedText.{HoldTokens, IsFaultOfCertifiedBytes, TellsNoFault, TellingCertified, ToCertified, ToCertifiedTokens}
 use Rattle.nk_input.specs.ProgramText.{TellsLexical}
 use Rattle.nk_reply.specs.Outcome.{Outcome, done, differs, text_refused, policy_refused}
 
--- a property of the line that tells a fault
-abbrev OfLine : (List ℕ → Type 0) → TextError → Type 0
-OfLine P whole.NoMemory = ⊤
-OfLine P (whole.Unexpected line) = P (fault_line line (codes "unexpected"))
-OfLine P (whole.TooDeep line) = P (fault_line line (codes "too deep"))
-OfLine P (whole.Fault kind line) = P (fault_line line (fault_message_of kind))
-OfLine P (whole.CertFault line) = P (fault_line line (codes "certificate fault"))
-
-fault_is : {X : Type 0} (a b : TextError) → ◌≡◌ {A = Result X TextError} (Err a) (Err b) → a ≡ b
-fault_is a b e = cc
-
 no_fault : {X : Type 0} (x : X) (e : TextError) → ◌≡◌ {A = Result X TextError} (Ok x) (Err e) → ⊥
 no_fault x e h = cc
-
--- each part's fault is told
-grammar_told : (g : GrammarError) → OfLine (λ t. IsFaultOfCertifiedTokens (Err g) t) (grammar_fault g)
-grammar_told grammar.NoMemory = tt
-grammar_told (grammar.Unexpected line) = refl
-grammar_told (grammar.TooDeep line) = refl
-
-names_told : (n : NamesError) (rs : List Row) → OfLine (λ t. IsFaultOfProgram (Err n) rs t) (names_fault n)
-names_told names.NoMemory rs = tt
-names_told (names.Fault kind line) rs = refl
-
-rows_told : (f : CertError) → OfLine (λ t. IsFaultOfRows (Err f) t) (rows_fault f)
-rows_told rows.NoMemory = tt
-rows_told (rows.CertFault line) = refl
-rows_told (rows.Fault kind line) = refl
-
-by_rows : (s : DeclaredProgram) (x : Result CertificateValue CertError) (e : TextError) → with_certificate s x ≡ Err e → OfLine (λ t. IsFaultOfRows x t) e
-by_rows s (Ok c) e h = absurd (no_fault (s, c) e h)
-by_rows s (Err f) e h = subst (OfLine (λ t. IsFaultOfRows (Err f) t)) (fault_is (rows_fault f) e h) (rows_told f)
-
-by_said : (x : Result DeclaredProgram NamesError) (rs : List Row) (e : TextError) → text_of_program x rs ≡ Err e → OfLine (λ t. IsFaultOfProgram x rs t) e
-by_said (Ok s) rs e h = by_rows s (certificate_of s.fields rs) e h
-by_said (Err n) rs e h = subst (OfLine (λ t. IsFaultOfProgram (Err n) rs t)) (fault_is (names_fault n) e h) (names_told n rs)
-
-by_written : (x : Result Certified GrammarError) (e : TextError) → text_of_written x ≡ Err e → OfLine (λ t. IsFaultOfCertifiedTokens x t) e
-by_written (Ok w) e h = by_said (program_of w.declarations) w.rows e h
-by_written (Err g) e h = subst (OfLine (λ t. IsFaultOfCertifiedTokens (Err g) t)) (fault_is (grammar_fault g) e h) (grammar_told g)
-
--- so the first fault of the tokens is answered
-fault_told : (tells : TellingCertified) (tokens : List Token) (e : TextError) (o : Outcome) → IsTextFault e (text_of_tokens tokens) → TellsText e o
-    → ToCertifiedTokens tells tokens o
-fault_told tells tokens whole.NoMemory o h told = absurd told
-fault_told tells tokens (whole.Unexpected line) o h told =
-    subst (ToCertifiedTokens tells tokens) (sym told) (by_written (certified_of tokens) (whole.Unexpected line) h)
-fault_told tells tokens (whole.TooDeep line) o h told =
-    subst (ToCertifiedTokens tells tokens) (sym told) (by_written (certified_of tokens) (whole.TooDeep line) h)
-fault_told tells tokens (whole.Fault kind line) o h told =
-    subst (ToCertifiedTokens tells tokens) (sym told) (by_written (certified_of tokens) (whole.Fault kind line) h)
-fault_told tells tokens (whole.CertFault line) o h told =
-    subst (ToCertifiedTokens tells tokens) (sym told) (by_written (certified_of tokens) (whole.CertFault line) h)
-
--- the same of what a call answers
-pub all_fault_told : {S E : Type 0} (outcome : S → Outcome) (tells : TellingCertified) (tokens : List Token) (e : TextError) (r : Result S E)
-    → IsTextFault e (text_of_tokens tokens) → IfOk r (λ s. TellsText e (outcome s)) → IfOk r (λ s. ToCertifiedTokens tells tokens (outcome s))
-all_fault_told outcome tells tokens e (Ok s) h told = fault_told tells tokens e (outcome s) h told
-all_fault_told outcome tells tokens e (Err f) h told = tt
 
 -- ---- a program and a certificate
 
@@ -133,19 +71,6 @@ module _ (tokens : List Token) (said : DeclaredProgram) (c : CertificateValue) w
   all_told outcome tells (Err e) h told = tt
 
 -- ---- bytes
-
--- the answer to the tokens is that to the bytes
-of_bytes : (tells : TellingCertified) (bytes : List ℕ) (tokens : List Token) (o : Outcome) → tokens_of bytes ≡ Ok tokens
-    → ToCertifiedTokens tells tokens o → ToCertified tells bytes o
-of_bytes tells bytes tokens (done text) cut h = (h.0, h.1, record { tokens = tokens; cut = cut; written = h.2.written; read = h.2.read; means = h.2.means; makes = h.2.makes }, h.3)
-of_bytes tells bytes tokens (differs text) cut h = (h.0, h.1, record { tokens = tokens; cut = cut; written = h.2.written; read = h.2.read; means = h.2.means; makes = h.2.makes }, h.3)
-of_bytes tells bytes tokens (policy_refused text) cut h = (h.0, h.1, record { tokens = tokens; cut = cut; written = h.2.written; read = h.2.read; means = h.2.means; makes = h.2.makes }, h.3)
-of_bytes tells bytes tokens (text_refused text) cut h = subst (λ r. IsFaultOfCertifiedBytes r text) (sym cut) h
-
-pub all_of_bytes : {S E : Type 0} (outcome : S → Outcome) (tells : TellingCertified) (bytes : List ℕ) (tokens : List Token) (r : Result S E)
-    → tokens_of bytes ≡ Ok tokens → IfOk r (λ s. ToCertifiedTokens tells tokens (outcome s)) → IfOk r (λ s. ToCertified tells bytes (outcome s))
-all_of_bytes outcome tells bytes tokens (Ok s) cut h = of_bytes tells bytes tokens (outcome s) cut h
-all_of_bytes outcome tells bytes tokens (Err e) cut h = tt
 
 -- a lexical fault is answered
 pub lexical_told : {S E : Type 0} (outcome : S → Outcome) (tells : TellingCertified) (bytes : List ℕ) (e : LexError) (text : List ℕ) (r : Result S E)
