@@ -322,11 +322,8 @@ module _ (tells : TableOutcome) (word bytes : List ℕ) where
   -- what is told is told of a packet at a port
   by_tables : (o : Outcome) (r : Result Tables ReadError) → tables_of bytes ≡ r → IsTelling o → ToTables tells r word o → IsLocated tells word bytes o
   by_tables o (Ok t) declared telling h = by_packet t o _ refl declared telling h
-  by_tables o (Err (text.BadByte line)) declared telling h = absurd (text_is o _ telling h)
-  by_tables o (Err (text.NumberTooLarge line)) declared telling h = absurd (text_is o _ telling h)
-  by_tables o (Err (text.Unexpected line)) declared telling h = absurd (text_is o _ telling h)
-  by_tables o (Err (text.TableFault line)) declared telling h = absurd (text_is o _ telling h)
   by_tables o (Err text.NoMemory) declared telling h = absurd h
+  by_tables o r declared telling h = absurd (text_is o _ telling h)
 
   -- of a packet at a port the answer is what is told of it
   told_there : (o : Outcome) (d : HasLocated word bytes) → ToTables tells (tables_of bytes) word o → tells d.tables d.packet o

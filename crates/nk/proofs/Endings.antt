@@ -63,9 +63,7 @@ outcome_caused words source out err c bytes (policy_refused text) e input quiet 
 -- what was read for an outcome is all that was left
 read_to_end : (source : Use) (outcome : Outcome) → IsReadWhere true source (answer_of outcome).status → IsAtEnd source.new
 read_to_end source (done text) h = h
-read_to_end source (differs text) h = h
-read_to_end source (text_refused text) h = h
-read_to_end source (policy_refused text) h = h
+read_to_end source outcome h = h
 
 -- what was sent to a command is too long, or its outcome; where it doesn't read, it is that of no bytes
 command_caused : (words : List (List ℕ)) (source out err : Use) (c : Command) (a : Answer) (bytes : List ℕ)

@@ -69,10 +69,8 @@ module _ (bytes : List ℕ) (program : Program) (d : Declares bytes (program_by 
   compile_is name (policy_refused text) h = (program_by program, d, h)
 
   equal_is : (left right : List ℕ) (o : Outcome) → ToCompared (program_by program) left right o → IsEqualAnswer left right bytes o
-  equal_is left right (done text) h = (program_by program, d, h)
-  equal_is left right (differs text) h = (program_by program, d, h)
   equal_is left right (text_refused text) h = absurd h
-  equal_is left right (policy_refused text) h = (program_by program, d, h)
+  equal_is left right o h = (program_by program, d, h)
 
   -- the job ends with the first step
   pub ends_first : (o : Outcome) → IsNotDone o × ToProgram (program_by program) (codes "go") o → IsJobOver bytes o

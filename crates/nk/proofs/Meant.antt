@@ -50,9 +50,7 @@ unasked_meant source c (reply.CommandAnswer s) is same quiet h = outcome_meant (
     outcome_meant (policy_refused text) o = fixed (policy_refused text) o
 unasked_meant source c reply.NoMemory is same quiet h =
     record { answer = refl; quiet = quiet; given = rw same (by_input.none_given source.old) }
-unasked_meant source c reply.Usage is same quiet h = absurd h
-unasked_meant source c reply.ReadFault is same quiet h = absurd h
-unasked_meant source c reply.TooLong is same quiet h = absurd h
+unasked_meant source c r is same quiet h = absurd h
 
 module _ (source : Use) (c : Command) (is : reads c ≡ true) where
   cause_to : (s : Status) (a : Answer) → IsCauseBy s (IsOutcome c) source a → IsCauseTo s (Some c) source a

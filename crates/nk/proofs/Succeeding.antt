@@ -12,7 +12,7 @@ use Rattle.nk_reply.specs.declared.status.Status.TheVariants.{Done, Differs, NoM
 use Rattle.nk_reply.specs.Answer.{Answer, answer_of, limit, too_long}
 use Rattle.nk.specs.Answer.{IsAnswerTo, IsOutcome, IsOutcomeOf, reads}
 use Rattle.nk.specs.Ends.{Ends, IsFixedBy}
-use Rattle.nk_reply.specs.Outcome.{Outcome, done, differs, text_refused, policy_refused}
+use Rattle.nk_reply.specs.Outcome.{Outcome, done, differs}
 use Rattle.nk.specs.Succeeding.{IsDone, IsOtherwise, IsStatusOf, IsOffered, Succeeds}
 use Rattle.nk_reply.specs.Use.{Use}
 use Rattle.nk.proofs.Endings.{complete}
@@ -70,13 +70,7 @@ exact c bytes (differs t) k = record {
   differs = λ x. inl refl;
   differs_only = λ e. k.0;
 }
-exact c bytes (text_refused t) k = record {
-  done = λ d. absurd (k.0 d);
-  done_only = λ e. absurd (subst IsNeither e tt);
-  differs = λ x. absurd (k.1 x);
-  differs_only = λ e. absurd (subst IsNeither e tt);
-}
-exact c bytes (policy_refused t) k = record {
+exact c bytes o k = record {
   done = λ d. absurd (k.0 d);
   done_only = λ e. absurd (subst IsNeither e tt);
   differs = λ x. absurd (k.1 x);
