@@ -273,18 +273,6 @@ module _ (asked : Asked) (bytes : List ℕ) where
 
 -- ---- trace and fly
 
-done_text : (x y : List ℕ) → done x ≡ text_refused y → ⊥
-done_text x y e = cc
-
-done_policy : (x y : List ℕ) → done x ≡ policy_refused y → ⊥
-done_policy x y e = cc
-
-differs_text : (x y : List ℕ) → differs x ≡ text_refused y → ⊥
-differs_text x y e = cc
-
-differs_policy : (x y : List ℕ) → differs x ≡ policy_refused y → ⊥
-differs_policy x y e = cc
-
 -- an outcome that is no refusal
 abbrev IsTelling : Outcome → Type 0
 IsTelling (done t) = Unit {0}

@@ -72,12 +72,8 @@ module _ (bytes : List ℕ) (program : Program) (d : Declares bytes (program_by 
   equal_is left right (text_refused text) h = absurd h
   equal_is left right o h = (program_by program, d, h)
 
-  -- the job ends with the first step
-  pub ends_first : (o : Outcome) → IsNotDone o × ToProgram (program_by program) (codes "go") o → IsJobOver bytes o
-  ends_first o h = inl (h.0, compile_is (codes "go") o h.1)
-
   module _ (go_line : List ℕ) (go : Step (ToProgram (program_by program) (codes "go")) (CountsTables program (codes "go")) go_line) where
-    -- with the second
+    -- the job ends with the second step
     pub ends_second : (o : Outcome) → IsNotDone o × ToProgram (program_by program) (codes "cast") o → IsJobOver bytes o
     ends_second o h = inr (go.0, compile_is (codes "go") (done go.0) go.1, inl (h.0, compile_is (codes "cast") o h.1))
 

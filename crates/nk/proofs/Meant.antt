@@ -1,19 +1,19 @@
 -- Why a run means to give its answer.
-use Rattle.std.proofs.Common.{◌≡◌, ◌≤◌, ℕ, List, [], true, false, length, refl}
+use Rattle.std.proofs.Common.{◌≡◌, ℕ, List, [], true, false, refl}
 use Rattle.std.specs.declared.option.Option.{Option}
 use Rattle.std.specs.Prelude.{Some, None}
-use Rattle.std.specs.Io.KnownBytes.{Consumes, IsAtEnd, Keeps}
+use Rattle.std.specs.Io.KnownBytes.{Keeps}
 use Rattle.nk_io.specs.Reading.{IsAllOf}
 use Rattle.nk_words.specs.declared.words.Command.{Command}
 use Rattle.nk_reply.specs.declared.status.Status.{Status}
 use Rattle.nk_reply.specs.declared.status.Status.TheVariants.{ReadFault, NoMemory, WriteFault}
-use Rattle.nk_reply.specs.Answer.{Answer, answer_of, limit, usage}
+use Rattle.nk_reply.specs.Answer.{Answer, answer_of, usage}
 use Rattle.nk_reply.specs.Meant.{IsCauseBy, IsMeantBy, IsUnread}
 use Rattle.nk_reply.specs.Outcome.{Outcome, done, differs, text_refused, policy_refused}
 use Rattle.nk_reply.specs.declared.reply.Reply.{Reply}
 use Rattle.nk_reply.specs.declared.reply.Reply.TheVariants as reply
 use Rattle.nk_reply.specs.Reply.{answer_in, outcome_of}
-use Rattle.nk_reply.specs.Use.{HadLeft, IsQuiet, Use}
+use Rattle.nk_reply.specs.Use.{IsQuiet, Use}
 use Rattle.nk_reply.proofs.Delivery.{Keeps-same}
 use Rattle.nk_reply.proofs.Meant as by_input
 use Rattle.nk.specs.Answer.{IsOutcome, IsReplyTo, reads}
@@ -66,10 +66,3 @@ module _ (source : Use) (c : Command) (is : reads c ≡ true) where
   -- also that the input was not read to its end
   pub unread_meant : (a : Answer) → IsUnread source a → IsMeantTo (Some c) source a
   unread_meant a h = read_meant a (by_input.unread_meant (IsOutcome c) source a h)
-
-  -- and what is answered to all of it
-  pub whole_meant : (bytes : List ℕ) (r : Reply) → HadLeft source bytes → length bytes ≤ limit
-      → Consumes source.old source.new bytes → IsAtEnd source.new → IsQuiet source
-      → IsReplyTo c bytes r → IsMeantTo (Some c) source (answer_in r)
-  whole_meant bytes r left fits read end quiet h =
-      read_meant (answer_in r) (by_input.whole_meant (IsOutcome c) source bytes r left fits read end quiet h)
