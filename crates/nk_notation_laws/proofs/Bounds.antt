@@ -33,11 +33,8 @@ within_below most w = within_by most w (nat_le (value_of w) most && bytes_eq w (
 -- the number of four bytes
 four_below : (a b c d : Option ℕ) → Below 256 a → Below 256 b → Below 256 c → Below 256 d
     → Below 4294967296 (option_and_then (λ x. option_and_then (λ y. option_and_then (λ z. option_and_then (λ u. Some (x * 16777216 + y * 65536 + z * 256 + u)) d) c) b) a)
-four_below None b c d ha hb hc hd = tt
-four_below (Some x) None c d ha hb hc hd = tt
-four_below (Some x) (Some y) None d ha hb hc hd = tt
-four_below (Some x) (Some y) (Some z) None ha hb hc hd = tt
 four_below (Some x) (Some y) (Some z) (Some u) ha hb hc hd = omega (arith, ha, hb, hc, hd)
+four_below a b c d ha hb hc hd = tt
 
 pub address_below : (w : List ℕ) → Below 4294967296 (address_of w)
 unfolding address_of
@@ -61,17 +58,13 @@ pair_by a b false e = tt
 
 pair_below : (w : List ℕ) → Below 256 (hexadecimal_pair w)
 unfolding hexadecimal_pair
-pair_below [] = tt
-pair_below (a ∷ []) = tt
 pair_below (a ∷ b ∷ []) = pair_by a b (is_hex a && is_hex b) refl
-pair_below (a ∷ b ∷ c ∷ w) = tt
+pair_below w = tt
 
 three_by : (a b c : Option ℕ) → Below 256 a → Below 256 b → Below 256 c
     → Below 16777216 (option_and_then (λ x. option_and_then (λ y. option_and_then (λ z. Some (x * 65536 + y * 256 + z)) c) b) a)
-three_by None b c ha hb hc = tt
-three_by (Some x) None c ha hb hc = tt
-three_by (Some x) (Some y) None ha hb hc = tt
 three_by (Some x) (Some y) (Some z) ha hb hc = omega (arith, ha, hb, hc)
+three_by a b c ha hb hc = tt
 
 three_below : (a b c : List ℕ) → Below 16777216 (three_pairs a b c)
 unfolding three_pairs

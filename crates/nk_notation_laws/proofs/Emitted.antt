@@ -179,11 +179,8 @@ record IsBlock (tables : Bool) (f : Form) (x y k : ℕ) : Type 0 where
 
 block_is : (tables : Bool) (f : Form) (x y k : ℕ) → length_of tables f x y ≡ Some k → IsBlock tables f x y k
 unfolding length_of
-block_is true f x y k h = absurd cc
 block_is false form.Address x y k h = record { plain = refl; address = refl; prefix = is_prefix x y k h }
-block_is false form.HardwareAddress x y k h = absurd cc
-block_is false form.Hexadecimal x y k h = absurd cc
-block_is false form.Decimal x y k h = absurd cc
+block_is tables f x y k h = absurd cc
 
 abbrev block_run : (x k : ℕ) → List ℕ
 block_run x k = address_text x ++ 47 ∷ decimal k

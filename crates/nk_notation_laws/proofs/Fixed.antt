@@ -17,10 +17,8 @@ use Rattle.nk_notation_laws.proofs.ReadsWords.{IsCut, after_bytes, inward_bytes}
 use Rattle.nk_notation_laws.proofs.WordsAgain.{WordComes, one, range, range_is, word_comes}
 
 first_word : List TextLexeme → List ℕ
-first_word [] = []
 first_word (Word w ∷ ls) = w
-first_word (Byte b ∷ ls) = []
-first_word (Note b ∷ ls) = []
+first_word r = []
 
 -- one text begins with one word alone
 same_front : (v w x y : List ℕ) → IsWordFront v → IsWordFront w → StopsAt is_run_byte x → StopsAt is_run_byte y → v ++ x ≡ w ++ y → v ≡ w

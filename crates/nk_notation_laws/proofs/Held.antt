@@ -17,20 +17,15 @@ use Rattle.nk_notation_laws.proofs.WordsAgain.{in_word}
 
 -- the place after the bytes that are held
 abbrev pub past : Spot → Place → Place
-past spot.Nothing p = p
-past (spot.Name f) p = p
-past (spot.Assigned f) p = p
-past (spot.Blank f) p = p
 past (spot.In f) p = place_after p (codes "in")
 past (spot.Range f) p = place_after p (codes "in")
+past s p = p
 
 pub bare_past : (s : Spot) (p : Place) → IsBare s → past s p ≡ p
-bare_past spot.Nothing p h = refl
-bare_past (spot.Name f) p h = refl
-bare_past (spot.Assigned f) p h = refl
 bare_past (spot.Blank f) p h = absurd h
 bare_past (spot.In f) p h = absurd h
 bare_past (spot.Range f) p h = absurd h
+bare_past s p h = refl
 
 -- What is known where `out` stands at this spot: `in` is before the bytes that are held, and p is the place after them.
 pub record IsOut (k : TextKind) (s : Spot) (p : Place) (r : Inward) : Type 0 where
@@ -40,28 +35,18 @@ pub record IsOut (k : TextKind) (s : Spot) (p : Place) (r : Inward) : Type 0 whe
 
 -- what is held ends before these bytes
 abbrev pub HeldStops : Spot → List ℕ → Type 0
-HeldStops spot.Nothing w = Unit {0}
-HeldStops (spot.Name f) w = Unit {0}
-HeldStops (spot.Assigned f) w = Unit {0}
-HeldStops (spot.Blank f) w = Unit {0}
 HeldStops (spot.In f) w = StopsAt is_run_byte w
-HeldStops (spot.Range f) w = Unit {0}
+HeldStops s w = Unit {0}
 
 pub held_stops : (s : Spot) (v w : List ℕ) → (StopsAt is_run_byte v → StopsAt is_run_byte w) → HeldStops s v → HeldStops s w
-held_stops spot.Nothing v w f h = tt
-held_stops (spot.Name g) v w f h = tt
-held_stops (spot.Assigned g) v w f h = tt
-held_stops (spot.Blank g) v w f h = tt
 held_stops (spot.In g) v w f h = f h
-held_stops (spot.Range g) v w f h = tt
+held_stops s v w f h = tt
 
 pub bare_stops : (s : Spot) (w : List ℕ) → IsBare s → HeldStops s w
-bare_stops spot.Nothing w h = tt
-bare_stops (spot.Name f) w h = tt
-bare_stops (spot.Assigned f) w h = tt
 bare_stops (spot.Blank f) w h = absurd h
 bare_stops (spot.In f) w h = absurd h
 bare_stops (spot.Range f) w h = absurd h
+bare_stops s w h = tt
 
 -- the bytes that are held are read
 pub reads_held : (k : TextKind) (s : Spot) (p : Place) (written read : List ℕ) → HeldStops s written → IsSpotKnown s k

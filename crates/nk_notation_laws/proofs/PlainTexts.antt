@@ -6,7 +6,7 @@ use Rattle.std.specs.Prelude.{None, Ok, bytes_eq, codes, count_by, nat_lt}
 use Rattle.std.specs.List.{list_all}
 use Rattle.nk_lex.specs.Classes.{is_digit, is_name_byte, is_name_start, is_white}
 use Rattle.nk_lex.specs.Lex.{largest}
-use Rattle.nk_lex.specs.Spelling.{IsWord, Lexeme, Sign, numeral, sign, sign_bytes, space, line_feed, text_of, word, plus, semicolon, star, tilde, open_parenthesis, close_parenthesis, equal, becomes, fat_arrow, arrow, colon, comma, slash, dots, open_bracket, close_bracket}
+use Rattle.nk_lex.specs.Spelling.{IsWord, Lexeme, Sign, numeral, sign, sign_bytes, space, line_feed, text_of, word, plus, semicolon, star, tilde, open_parenthesis, close_parenthesis, becomes, arrow, colon, comma, slash, dots, open_bracket, close_bracket}
 use Rattle.nk_lex.proofs.Digits.{StopsAt, both_pass, digits_of}
 use Rattle.nk_number_forms.specs.declared.forms.Atom.TheVariants as atom
 use Rattle.nk_number_forms.specs.declared.fault.Cause.TheVariants as cause
@@ -236,22 +236,11 @@ colon_field w = differ (λ v. last_byte v == 58) (w ++ 58 ∷ []) (codes "field"
 
 -- what ends a run
 sign_stops : (s : Sign) (rest : List ℕ) → joins s ≡ false → StopsAt is_run_byte (sign_bytes s ++ rest)
-sign_stops plus rest h = refl
-sign_stops semicolon rest h = refl
-sign_stops star rest h = refl
-sign_stops tilde rest h = refl
-sign_stops open_parenthesis rest h = refl
-sign_stops close_parenthesis rest h = refl
-sign_stops equal rest h = refl
 sign_stops becomes rest h = absurd (false≢true (sym h))
-sign_stops fat_arrow rest h = refl
-sign_stops arrow rest h = refl
 sign_stops colon rest h = absurd (false≢true (sym h))
-sign_stops comma rest h = refl
 sign_stops slash rest h = absurd (false≢true (sym h))
 sign_stops dots rest h = absurd (false≢true (sym h))
-sign_stops open_bracket rest h = refl
-sign_stops close_bracket rest h = refl
+sign_stops s rest h = refl
 
 run_stops : (xs : List Lexeme) → EndsRun xs → StopsAt is_run_byte (text_of xs)
 run_stops [] h = tt
@@ -268,16 +257,11 @@ left_mark star rest h next = left_byte 42 rest refl refl next
 left_mark tilde rest h next = left_byte 126 rest refl refl next
 left_mark open_parenthesis rest h next = left_byte 40 rest refl refl next
 left_mark close_parenthesis rest h next = left_byte 41 rest refl refl next
-left_mark equal rest h next = absurd (false≢true h)
-left_mark becomes rest h next = absurd (false≢true h)
-left_mark fat_arrow rest h next = absurd (false≢true h)
 left_mark arrow rest h next = left_byte 45 (62 ∷ rest) refl refl (left_byte 62 rest refl refl next)
-left_mark colon rest h next = absurd (false≢true h)
 left_mark comma rest h next = left_byte 44 rest refl refl next
-left_mark slash rest h next = absurd (false≢true h)
-left_mark dots rest h next = absurd (false≢true h)
 left_mark open_bracket rest h next = left_byte 91 rest refl refl next
 left_mark close_bracket rest h next = left_byte 93 rest refl refl next
+left_mark s rest h next = absurd (false≢true h)
 
 pub left_pair : (a b c : ℕ) (rest : List ℕ) → a ≤ largest → b ≤ largest → is_run_byte c ≡ true → IsStill (decimal a ++ c ∷ decimal b) → StopsAt is_run_byte rest → Left rest
     → Left (decimal a ++ c ∷ (decimal b ++ rest))
@@ -349,9 +333,7 @@ spaced : (C : Inward → Type 0) → ((r : Inward) → C r → C (after_byte r 3
 spaced C on under [] h rest next = next
 spaced C on under (space ∷ xs) h rest next = reads_byte C C 32 (text_of xs ++ rest) (text_of xs ++ rest) refl refl on (spaced C on under xs h rest next)
 spaced C on under (line_feed ∷ xs) h rest next = reads_byte C C 10 (text_of xs ++ rest) (text_of xs ++ rest) refl refl under (spaced C on under xs h rest next)
-spaced C on under (word w ∷ xs) h rest next = absurd (false≢true h)
-spaced C on under (numeral n ∷ xs) h rest next = absurd (false≢true h)
-spaced C on under (sign s ∷ xs) h rest next = absurd (false≢true h)
+spaced C on under xs h rest next = absurd (false≢true h)
 
 all_blank : (xs : List Lexeme) → AreBlanks xs → list_all is_blank xs ≡ true
 all_blank [] h = absurd h
@@ -364,9 +346,7 @@ blanks_stop : (xs : List Lexeme) → AreBlanks xs → (rest : List ℕ) → Stop
 blanks_stop [] h rest = absurd h
 blanks_stop (space ∷ xs) h rest = refl
 blanks_stop (line_feed ∷ xs) h rest = refl
-blanks_stop (word w ∷ xs) h rest = absurd (false≢true h.0)
-blanks_stop (numeral n ∷ xs) h rest = absurd (false≢true h.0)
-blanks_stop (sign s ∷ xs) h rest = absurd (false≢true h.0)
+blanks_stop xs h rest = absurd (false≢true h.0)
 
 -- a declared field whose largest value is a number
 pub left_declared : (first : List Lexeme) (w : List ℕ) (second : List Lexeme) (n : ℕ) (rest : List ℕ) → AreBlanks first → IsWord w → bytes_eq w (codes "field") ≡ false → AreBlanks second

@@ -56,19 +56,11 @@ after_known text.Other w = tt
 -- it is where a field's name stands before
 abbrev pub IsSpotKnown : Spot → TextKind → Type 0
 IsSpotKnown spot.Nothing k = Unit {0}
-IsSpotKnown (spot.Name f) k = IsKnown k
-IsSpotKnown (spot.Assigned f) k = IsKnown k
-IsSpotKnown (spot.Blank f) k = IsKnown k
-IsSpotKnown (spot.In f) k = IsKnown k
-IsSpotKnown (spot.Range f) k = IsKnown k
+IsSpotKnown s k = IsKnown k
 
 pub spot_known : (s : Spot) (k : TextKind) → IsKnown k → IsSpotKnown s k
 spot_known spot.Nothing k h = tt
-spot_known (spot.Name f) k h = h
-spot_known (spot.Assigned f) k h = h
-spot_known (spot.Blank f) k h = h
-spot_known (spot.In f) k h = h
-spot_known (spot.Range f) k h = h
+spot_known s k h = h
 
 -- the fields have names
 abbrev pub AreNames : NamedForms → Type 0
@@ -106,11 +98,8 @@ unnamed (f ∷ fs) w names h =
 -- the byte before is no `:`, where a name stands before
 abbrev pub IsLastFit : Spot → ℕ → Type 0
 IsLastFit spot.Nothing b = Unit {0}
-IsLastFit (spot.Name f) b = (b == 58) ≡ false
 IsLastFit (spot.Assigned f) b = Unit {0}
-IsLastFit (spot.Blank f) b = (b == 58) ≡ false
-IsLastFit (spot.In f) b = (b == 58) ≡ false
-IsLastFit (spot.Range f) b = (b == 58) ≡ false
+IsLastFit s b = (b == 58) ≡ false
 
 last_by : (w : List ℕ) (o p : Option Form) (t : Bool) → (last_byte w == 58) ≡ t → IsLastFit (cond t (assigned_spot o) (name_spot p)) (last_byte w)
 unfolding assigned_spot name_spot
@@ -136,12 +125,10 @@ nameless_fits fields w b names odd = odd_by b (form_of fields (take (length w - 
 
 -- nothing is held after a word that may be a name
 abbrev pub IsBare : Spot → Type 0
-IsBare spot.Nothing = Unit {0}
-IsBare (spot.Name f) = Unit {0}
-IsBare (spot.Assigned f) = Unit {0}
 IsBare (spot.Blank f) = ⊥
 IsBare (spot.In f) = ⊥
 IsBare (spot.Range f) = ⊥
+IsBare s = Unit {0}
 
 bare_by : (o p : Option Form) (t : Bool) → IsBare (cond t (assigned_spot o) (name_spot p))
 unfolding assigned_spot name_spot
@@ -156,31 +143,23 @@ named_bare fields w = bare_by (form_of fields (take (length w - 1) w)) (form_of 
 
 pub bare_held : (s : Spot) → IsBare s → held s ≡ []
 unfolding held
-bare_held spot.Nothing h = refl
-bare_held (spot.Name f) h = refl
-bare_held (spot.Assigned f) h = refl
 bare_held (spot.Blank f) h = absurd h
 bare_held (spot.In f) h = absurd h
 bare_held (spot.Range f) h = absurd h
+bare_held s h = refl
 
 -- what `out` writes of a byte that is no space
 pub byte_held : (s : Spot) (b : ℕ) → (b == 32) ≡ false → byte_out s b ≡ held s ++ b ∷ []
 unfolding byte_out held
-byte_held spot.Nothing b e = refl
 byte_held (spot.Name f) b e = ap (λ t. cond t [] (b ∷ [])) e
-byte_held (spot.Assigned f) b e = refl
-byte_held (spot.Blank f) b e = refl
 byte_held (spot.In f) b e = ap (λ t. cond t [] (codes " in" ++ b ∷ [])) e
-byte_held (spot.Range f) b e = refl
+byte_held s b e = refl
 
 pub byte_beyond : (s : Spot) (b : ℕ) → (b == 32) ≡ false → spot_beyond s b ≡ spot.Nothing
 unfolding spot_beyond
-byte_beyond spot.Nothing b e = refl
 byte_beyond (spot.Name f) b e = ap (λ t. cond t (spot.Blank f) spot.Nothing) e
-byte_beyond (spot.Assigned f) b e = refl
-byte_beyond (spot.Blank f) b e = refl
 byte_beyond (spot.In f) b e = ap (λ t. cond t (spot.Range f) spot.Nothing) e
-byte_beyond (spot.Range f) b e = refl
+byte_beyond s b e = refl
 
 -- the kind of a text after bytes outside words
 abbrev pub kind_past : TextKind → List ℕ → TextKind
@@ -230,32 +209,26 @@ range_stops tables f w rest =
 
 at_range : (fields : NamedForms) (k : TextKind) (f : Form) (ls : List TextLexeme) → StopsAt is_run_byte (outward fields k (spot.Range f) ls).bytes
 unfolding held word_out byte_out
-at_range fields k f [] = refl
 at_range fields k f (Word w ∷ ls) = range_stops (is_tables k) f w (outward fields (kind_after k w) (spot_after fields (spot.Range f) w) ls).bytes
-at_range fields k f (Byte b ∷ ls) = refl
-at_range fields k f (Note b ∷ ls) = refl
+at_range fields k f ls = refl
 
 at_in : (fields : NamedForms) (k : TextKind) (f : Form) (ls : List TextLexeme) → StopsAt is_run_byte (outward fields k (spot.In f) ls).bytes
 unfolding held word_out byte_out spot_beyond
-at_in fields k f [] = refl
-at_in fields k f (Word w ∷ ls) = refl
 at_in fields k f (Byte b ∷ ls) =
     elim (b == 32) as (λ t. StopsAt is_run_byte (cond t [] (codes " in" ++ b ∷ []) ++ (outward fields (kind_beyond k b) (cond t (spot.Range f) spot.Nothing) ls).bytes)) [
       | true ↦ at_range fields (kind_beyond k b) f ls
       | false ↦ refl
     ]
-at_in fields k f (Note b ∷ ls) = refl
+at_in fields k f ls = refl
 
 at_blank : (fields : NamedForms) (k : TextKind) (f : Form) (ls : List TextLexeme) → StopsAt is_run_byte (outward fields k (spot.Blank f) ls).bytes
 unfolding held word_out byte_out spot_after
-at_blank fields k f [] = refl
 at_blank fields k f (Word w ∷ ls) =
     elim (bytes_eq w (codes "in")) as (λ t. StopsAt is_run_byte (cond t [] (codes " " ++ w) ++ (outward fields (kind_after k w) (cond t (spot.In f) (named_spot fields w)) ls).bytes)) [
       | true ↦ at_in fields (kind_after k w) f ls
       | false ↦ refl
     ]
-at_blank fields k f (Byte b ∷ ls) = refl
-at_blank fields k f (Note b ∷ ls) = refl
+at_blank fields k f ls = refl
 
 at_name : (fields : NamedForms) (k : TextKind) (f : Form) (b : ℕ) (ls : List TextLexeme) → is_run_byte b ≡ false → StopsAt is_run_byte (outward fields k (spot.Name f) (Byte b ∷ ls)).bytes
 unfolding byte_out spot_beyond
@@ -281,18 +254,14 @@ word_stop fields k (spot.Name f) w ls bare front st false =
     equals_stops (first_byte w == 61) (value_out (is_tables k) f (drop 1 w)) w (outward fields (kind_after k w) (spot_after fields (spot.Name f) w) ls).bytes front st
 word_stop fields k (spot.Assigned f) w ls bare front st false =
     equals_stops (first_byte w == 61) (number_out f (drop 1 w)) w (outward fields (kind_after k w) (spot_after fields (spot.Assigned f) w) ls).bytes front st
-word_stop fields k (spot.Blank f) w ls bare front st false = absurd bare
-word_stop fields k (spot.In f) w ls bare front st false = absurd bare
-word_stop fields k (spot.Range f) w ls bare front st false = absurd bare
+word_stop fields k s w ls bare front st false = absurd bare
 
 byte_stop : (fields : NamedForms) (k : TextKind) (s : Spot) (b : ℕ) (ls : List TextLexeme) → IsBare s → is_run_byte b ≡ false → StopsAt is_run_byte (outward fields k s (Byte b ∷ ls)).bytes
 unfolding byte_out held
 byte_stop fields k spot.Nothing b ls bare st = st
 byte_stop fields k (spot.Name f) b ls bare st = at_name fields k f b ls st
 byte_stop fields k (spot.Assigned f) b ls bare st = st
-byte_stop fields k (spot.Blank f) b ls bare st = absurd bare
-byte_stop fields k (spot.In f) b ls bare st = absurd bare
-byte_stop fields k (spot.Range f) b ls bare st = absurd bare
+byte_stop fields k s b ls bare st = absurd bare
 
 -- what `out` writes ends a word where the text ends it
 pub out_stops : (fields : NamedForms) (k : TextKind) (s : Spot) (ls : List TextLexeme) → IsBare s → IsCut false ls → StopsAt is_run_byte (lexeme_bytes ls)
