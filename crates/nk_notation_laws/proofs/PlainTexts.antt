@@ -1,5 +1,5 @@
 -- Texts that nk's lexemes make are left by `in`.
-use Rattle.std.proofs.Common.{◌≡◌, ◌≤◌, ◌+◌, ◌==◌, ◌&&◌, ◌||◌, ◌⊎◌, inl, inr, ℕ, Bool, true, false, not, cond, List, [], ◌∷◌, ◌++◌, length, drop, decimal, refl, sym, ap, subst, ◌∙◌, arith, append_assoc, append-nil, get_or, length-append}
+use Rattle.std.proofs.Common.{◌≡◌, ◌≤◌, ◌+◌, ◌==◌, ◌&&◌, ◌||◌, ◌⊎◌, inl, inr, ℕ, Bool, true, false, not, cond, List, [], ◌∷◌, ◌++◌, length, drop, decimal, refl, sym, ap, subst, ◌∙◌, arith, append_assoc, append-nil, get_or}
 use Rattle.std.proofs.lemmas.Bool.{false≢true, ltb-false, ltb-true}
 use Rattle.std.proofs.lemmas.Bool.Decides.{nat_tests}
 use Rattle.std.specs.Prelude.{None, Ok, bytes_eq, codes, count_by, nat_lt}
@@ -151,9 +151,6 @@ prefix_still a b la lb = number_slashed a la (decimal a) (decimal b) (no_dots (p
 -- two numbers with a byte between them
 pair_runs : (a b c : ℕ) → a ≤ largest → b ≤ largest → is_run_byte c ≡ true → list_all is_run_byte (decimal a ++ c ∷ decimal b) ≡ true
 pair_runs a b c la lb run = all_two is_run_byte (decimal a) (c ∷ decimal b) (decimal_run a la) (all_cons is_run_byte c (decimal b) run (decimal_run b lb))
-
-pair_short : (a b c : ℕ) → a ≤ largest → b ≤ largest → length (decimal a ++ c ∷ decimal b) ≤ 31
-pair_short a b c la lb = omega (arith, length-append (decimal a) (c ∷ decimal b), decimal_short a la, decimal_short b lb)
 
 -- a word that is read where no size is due
 bare_size : (r : Inward) (w : List ℕ) → Bare r → size_at r.place w ≡ None

@@ -57,9 +57,6 @@ run_kept w runs still r = plain_run r w (run_apart w runs) ∙ still (is_tables 
 pub equals_kept : (w : List ℕ) → IsStill w → (r : Inward) → plain_in r (61 ∷ w) ≡ Ok (61 ∷ w)
 equals_kept w still r = plain_equals r w ∙ still (is_tables r.kind) (not (r.last == 58)) (codes "=")
 
-plain_stays : (w : List ℕ) → IsStill w → (first_byte w == 61) ≡ false → (r : Inward) → plain_in r w ≡ Ok w
-plain_stays w still e r = plain_run r w e ∙ still (is_tables r.kind) false []
-
 pub field_still : IsStill (codes "field")
 unfolding run_in range_in slash_in both_atoms spelled atom_of is_dotted is_coloned is_hexadecimal is_digit_or_dot is_hex_or_colon is_hex first_byte last_byte first_place place_of_dots
 field_still = λ tables tests lead. ap Ok (append-nil (lead ++ codes "field" ++ []) ∙ append-nil (lead ++ codes "field"))
