@@ -6,7 +6,7 @@ use Rattle.nk_uniqueness.specs.Texts.{TextsHavePackets}
 use Rattle.nk_uniqueness.proofs.OneCompact.{one_compacted}
 use Rattle.nk_compact_command.specs.Compacting.{IsCompactPrinted, IsCompactRefusal, IsCompactAnswer, compact_bytes}
 use Rattle.nk_compile_commands.specs.Messages.{refusal_line}
-use Rattle.nk_reply.specs.Outcome.{Outcome, done, differs, text_refused, policy_refused}
+use Rattle.nk_reply.specs.Outcome.{Outcome, done}
 use Rattle.nk_input.specs.ProgramText.{HasFault}
 use Rattle.nk.proofs.OneText.{no_fault, one_fault}
 use Rattle.nk_one_answer.proofs.Named.{Declared, alike, packets_of}
@@ -65,9 +65,7 @@ module _ (packets : TextsHavePackets) (name bytes : List ℕ) where
 
   compacted_kind : (o : Outcome) → IsCompactAnswer name bytes o → IsKind (HasFault bytes) Made Nothing Kept o
   compacted_kind (done t) h = h
-  compacted_kind (differs t) h = h
-  compacted_kind (text_refused t) h = h
-  compacted_kind (policy_refused t) h = h
+  compacted_kind o h = h
 
   pub one_compacting : (o p : Outcome) → IsCompactAnswer name bytes o → IsCompactAnswer name bytes p → o ≡ p
   one_compacting o p h k = one_kind (HasFault bytes) Made Nothing Kept compacted_apart o p (compacted_kind o h) (compacted_kind p k)

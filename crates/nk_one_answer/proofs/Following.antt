@@ -14,7 +14,7 @@ use Rattle.nk_sim.specs.Traces.{IsTrace}
 use Rattle.nk_sim.specs.declared.tracing.Traced.{Traced}
 use Rattle.nk_trace_commands.specs.Following.{TableOutcome, ToPacket, ToTables}
 use Rattle.nk_trace_commands.specs.Flying.{ToFlown}
-use Rattle.nk_reply.specs.Outcome.{Outcome, done, differs, text_refused, policy_refused}
+use Rattle.nk_reply.specs.Outcome.{Outcome, done}
 use Rattle.nk_trace_commands.specs.Tracing.{ToLocated, traced_text}
 
 module _ (tells : TableOutcome) (one : (t : Tables) (pk : Packet) (o p : Outcome) → tells t pk o → tells t pk p → o ≡ p) where
@@ -29,11 +29,8 @@ module _ (tells : TableOutcome) (one : (t : Tables) (pk : Packet) (o p : Outcome
 
   pub by_tables : (r : Result Tables ReadError) (word : List ℕ) (o p : Outcome) → ToTables tells r word o → ToTables tells r word p → o ≡ p
   by_tables (Ok t) word o p h k = by_packet t (packet_of t.fields word) o p h k
-  by_tables (Err (text.BadByte line)) word o p h k = h ∙ sym k
-  by_tables (Err (text.NumberTooLarge line)) word o p h k = h ∙ sym k
-  by_tables (Err (text.Unexpected line)) word o p h k = h ∙ sym k
-  by_tables (Err (text.TableFault line)) word o p h k = h ∙ sym k
   by_tables (Err text.NoMemory) word o p h k = absurd h
+  by_tables r word o p h k = h ∙ sym k
 
 -- that a packet has one trace
 abbrev pub OneTrace : Type 0
@@ -42,12 +39,8 @@ OneTrace = (t : Tables) (hops : ℕ) (pk : List ℕ) (a b : Traced) → IsTrace 
 pub one_located : OneTrace → (hops : ℕ) (t : Tables) (pk : Packet) (o p : Outcome) → ToLocated hops t pk o → ToLocated hops t pk p → o ≡ p
 one_located law hops t pk (done x) (done y) h k =
     ap done (h.told ∙ ap (traced_text t.fields) (law t hops pk h.traced k.traced h.is k.is) ∙ sym k.told)
-one_located law hops t pk (done x) (differs y) h k = absurd k
-one_located law hops t pk (done x) (text_refused y) h k = absurd k
-one_located law hops t pk (done x) (policy_refused y) h k = absurd k
-one_located law hops t pk (differs x) p h k = absurd h
-one_located law hops t pk (text_refused x) p h k = absurd h
-one_located law hops t pk (policy_refused x) p h k = absurd h
+one_located law hops t pk (done x) p h k = absurd k
+one_located law hops t pk o p h k = absurd h
 
 pub one_flown : (seed steps : ℕ) (t : Tables) (pk : Packet) (o p : Outcome) → ToFlown seed steps t pk o → ToFlown seed steps t pk p → o ≡ p
 one_flown seed steps t pk o p h k = h ∙ sym k

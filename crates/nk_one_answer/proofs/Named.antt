@@ -30,7 +30,7 @@ use Rattle.nk_verify_commands.specs.Judging.{IsValidFor, IsInvalidFor, IsJudgeAn
 use Rattle.nk_verify_commands.specs.Judging.{IsFoundForAsked}
 use Rattle.nk_verify_commands.specs.Messages.{TellsQuery}
 use Rattle.nk_compile_commands.specs.Messages.{refusal_line}
-use Rattle.nk_reply.specs.Outcome.{Outcome, done, differs, text_refused, policy_refused}
+use Rattle.nk_reply.specs.Outcome.{Outcome, done}
 use Rattle.nk_input.specs.ProgramText.{Declares, HasFault}
 use Rattle.nk.proofs.Alike.{never_caused}
 use Rattle.nk.proofs.OneText.{declares_once, holds_once, certificate_once, no_fault, no_certified_fault, one_fault, one_certified_fault}
@@ -115,9 +115,7 @@ module _ (packets : TextsHavePackets) (name bytes : List ℕ) where
 
   compiled_kind : (o : Outcome) → IsCompileAnswer name bytes o → IsKind (HasFault bytes) Made Nothing Kept o
   compiled_kind (done t) h = h
-  compiled_kind (differs t) h = h
-  compiled_kind (text_refused t) h = h
-  compiled_kind (policy_refused t) h = h
+  compiled_kind o h = h
 
   pub one_compile : (o p : Outcome) → IsCompileAnswer name bytes o → IsCompileAnswer name bytes p → o ≡ p
   one_compile o p h k = one_kind (HasFault bytes) Made Nothing Kept compiled_apart o p (compiled_kind o h) (compiled_kind p k)
@@ -205,9 +203,7 @@ module _ (printed : OnePrinted) (writable : DeclaresWritable) (left right bytes 
 
   compared_kind : (o : Outcome) → IsEqualAnswer left right bytes o → IsKind (HasFault bytes) SameText OtherText LackingText o
   compared_kind (done t) h = h
-  compared_kind (differs t) h = h
-  compared_kind (text_refused t) h = h
-  compared_kind (policy_refused t) h = h
+  compared_kind o h = h
 
   pub one_equal : (o p : Outcome) → IsEqualAnswer left right bytes o → IsEqualAnswer left right bytes p → o ≡ p
   one_equal o p h k = one_kind (HasFault bytes) SameText OtherText LackingText compared_apart o p (compared_kind o h) (compared_kind p k)
@@ -290,9 +286,7 @@ module _ (finding : OneFinding) (left right bytes : List ℕ) where
 
   checked_kind : (o : Outcome) → IsCheckAnswer left right bytes o → IsKind (HasCertifiedFault bytes) ValidText InvalidText LackingBoth o
   checked_kind (done t) h = h
-  checked_kind (differs t) h = h
-  checked_kind (text_refused t) h = h
-  checked_kind (policy_refused t) h = h
+  checked_kind o h = h
 
   pub one_check : (o p : Outcome) → IsCheckAnswer left right bytes o → IsCheckAnswer left right bytes p → o ≡ p
   one_check o p h k = one_kind (HasCertifiedFault bytes) ValidText InvalidText LackingBoth checked_apart o p (checked_kind o h) (checked_kind p k)
@@ -300,10 +294,8 @@ module _ (finding : OneFinding) (left right bytes : List ℕ) where
 -- ---- why a query isn't asked
 
 told_once : (cause : QueryError) (x y : List ℕ) → TellsQuery cause x → TellsQuery cause y → x ≡ y
-told_once query.NoPolicy x y h k = h ∙ sym k
-told_once query.NotAPredicate x y h k = h ∙ sym k
-told_once query.TooLarge x y h k = h ∙ sym k
 told_once query.NoMemory x y h k = absurd h
+told_once cause x y h k = h ∙ sym k
 
 untold : (cause : QueryError) (x : List ℕ) → cause ≡ query.NoMemory → TellsQuery cause x → ⊥
 untold cause x e h = subst (λ c. TellsQuery c x) e h
@@ -405,9 +397,7 @@ module _ (printed : OnePrinted) (writable : DeclaresWritable) (asked : Asked) (b
 
   asked_kind : (o : Outcome) → IsAskAnswer asked bytes o → IsKind (HasFault bytes) HeldText BrokenText UnaskedText o
   asked_kind (done t) h = h
-  asked_kind (differs t) h = h
-  asked_kind (text_refused t) h = h
-  asked_kind (policy_refused t) h = h
+  asked_kind o h = h
 
   pub one_ask : (o p : Outcome) → IsAskAnswer asked bytes o → IsAskAnswer asked bytes p → o ≡ p
   one_ask o p h k = one_kind (HasFault bytes) HeldText BrokenText UnaskedText asked_apart o p (asked_kind o h) (asked_kind p k)
@@ -471,9 +461,7 @@ module _ (finding : OneFinding) (asked : Asked) (bytes : List ℕ) where
 
   judged_kind : (o : Outcome) → IsJudgeAnswer asked bytes o → IsKind (HasCertifiedFault bytes) JudgedText FailedText UnjudgedText o
   judged_kind (done t) h = h
-  judged_kind (differs t) h = h
-  judged_kind (text_refused t) h = h
-  judged_kind (policy_refused t) h = h
+  judged_kind o h = h
 
   pub one_judge : (o p : Outcome) → IsJudgeAnswer asked bytes o → IsJudgeAnswer asked bytes p → o ≡ p
   one_judge o p h k = one_kind (HasCertifiedFault bytes) JudgedText FailedText UnjudgedText judged_apart o p (judged_kind o h) (judged_kind p k)

@@ -119,9 +119,7 @@ module _ (left right bytes : List ℕ) where
 
   impact_kind : (o : Outcome) → IsImpactAnswer left right bytes o → IsKind (HasFault bytes) SameText OtherText LackingText o
   impact_kind (done t) h = h
-  impact_kind (differs t) h = h
-  impact_kind (text_refused t) h = h
-  impact_kind (policy_refused t) h = h
+  impact_kind o h = h
 
   one_outcome : DeclaresWritable → (o z : Outcome) → IsImpactAnswer left right bytes o → IsImpactAnswer left right bytes z → o ≡ z
   one_outcome writable o z h k =

@@ -13,7 +13,7 @@ use Rattle.nk_uniqueness.specs.Texts.{TextsHavePackets}
 use Rattle.nk_uniqueness.proofs.Pairs.{never_both, one_pair}
 use Rattle.nk_trace_commands.specs.Following.{ToPacket}
 use Rattle.nk_compile_commands.specs.Messages.{refusal_line}
-use Rattle.nk_reply.specs.Outcome.{Outcome, done, differs, text_refused, policy_refused}
+use Rattle.nk_reply.specs.Outcome.{Outcome, text_refused, policy_refused}
 use Rattle.nk_input.specs.ProgramText.{Declares, HasFault}
 use Rattle.nk_compile_commands.specs.Updating.{ToTurned, ToPair, IsPlannedAnswer, IsPairRefusal, IsUpdateAnswer, plan_for}
 use Rattle.nk.proofs.OneText.{declares_once, no_fault, one_fault}
@@ -39,9 +39,7 @@ module _ (packets : TextsHavePackets) (old new : List ℕ) (seed steps : ℕ) (w
 
   either : (o : Outcome) → IsUpdateAnswer old new seed steps word bytes o → IsFaulty o ⊎ IsOfText o
   either (text_refused t) h = inl (record { text = t; is = refl; fault = h })
-  either (done t) h = inr (record { said = h.0; declared = h.1; told = h.2 })
-  either (differs t) h = inr (record { said = h.0; declared = h.1; told = h.2 })
-  either (policy_refused t) h = inr (record { said = h.0; declared = h.1; told = h.2 })
+  either o h = inr (record { said = h.0; declared = h.1; told = h.2 })
 
   -- what is told by tables, over these fields
   abbrev ToldBy : FieldTable → TablePair → Outcome → Type 0

@@ -3,7 +3,7 @@ use Rattle.std.proofs.Common.{◌≡◌, ℕ, ◌⊎◌, inl, inr, List, sym, ap
 use Rattle.std.specs.Prelude.{AllPairs}
 use Rattle.std.proofs.lemmas.List.Elements.{All-weaker}
 use Rattle.nk_grammar.specs.Fields.{DeclaresFields, IsFieldOfText}
-use Rattle.nk_grammar.specs.File.{Declaration, IsWritten, field, tag, switch, declared_link, definition, fabric, virtual_link}
+use Rattle.nk_grammar.specs.File.{Declaration, IsWritten, field}
 use Rattle.nk_policy.specs.Policy.{Policy}
 use Rattle.nk_names.specs.declared.Program.{Program}
 use Rattle.nk_names.specs.Accepted.{IsStartPacket}
@@ -23,7 +23,7 @@ use Rattle.nk_uniqueness.specs.Texts.{TextsHavePackets}
 use Rattle.nk_uniqueness.proofs.OneTable.{one_table}
 use Rattle.nk_compile_commands.specs.Messages.{refusal_line}
 use Rattle.nk_virtual_command.specs.Messages.{unphysical_line}
-use Rattle.nk_reply.specs.Outcome.{Outcome, done, differs, text_refused, policy_refused}
+use Rattle.nk_reply.specs.Outcome.{Outcome, done}
 use Rattle.nk_input.specs.ProgramText.{Declares, HasFault}
 use Rattle.nk_virtual_command.specs.Virtualizing.{IsVirtualPrinted, LacksPhysical, IsPhysicalRefusal, IsVirtualizeAnswer}
 use Rattle.nk.proofs.OneText.{no_fault, one_fault}
@@ -33,12 +33,7 @@ use Rattle.nk_one_answer.proofs.Outcomes.{AreApart, IsKind, one_kind}
 -- a declared field is written so
 written : (d : Declaration) → IsFieldOfText d → IsWritten d
 written (field w n) h = h.1
-written (tag w) h = tt
-written (switch n ps) h = tt
-written (declared_link a m b n) h = tt
-written (definition w t line) h = tt
-written (fabric w t line) h = tt
-written (virtual_link a m b n w) h = tt
+written d h = tt
 
 -- no two virtual links of a text begin at one port
 abbrev BeginApart : List VirtualLink → Type 0
@@ -149,9 +144,7 @@ module _ (fields_of : DeclaresFields) (packets : TextsHavePackets) (name bytes :
 
   virtual_kind : (o : Outcome) → IsVirtualizeAnswer name bytes o → IsKind (HasFault bytes) Made Nothing Kept o
   virtual_kind (done t) h = h
-  virtual_kind (differs t) h = h
-  virtual_kind (text_refused t) h = h
-  virtual_kind (policy_refused t) h = h
+  virtual_kind o h = h
 
   pub one_virtualizing : (o p : Outcome) → IsVirtualizeAnswer name bytes o → IsVirtualizeAnswer name bytes p → o ≡ p
   one_virtualizing o p h k = one_kind (HasFault bytes) Made Nothing Kept virtual_apart o p (virtual_kind o h) (virtual_kind p k)
