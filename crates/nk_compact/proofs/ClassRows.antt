@@ -34,10 +34,10 @@ use Rattle.nk_compile.specs.MetUnder.{IsMetUnder}
 use Rattle.nk_compile.specs.PrintedTable.{IsNumberedList}
 use Rattle.nk_compile.specs.Ready.{sets_of}
 use Rattle.nk_compile.specs.WholeTable.{TagTree, rows_of_trees, HasRowsAt, link_end}
-use Rattle.nk_compile.proofs.Making.{is_compilable}
+use Rattle.nk_compile.proofs.CompileErrors.{is_compilable}
 use Rattle.nk_compile.proofs.Reached.{Setting, come}
 use Rattle.nk_compile.proofs.Results.{set_there, set_within, tag_at, results_are, declared_are}
-use Rattle.nk_compile.proofs.Standing.{IsTagged}
+use Rattle.nk_compile.proofs.StatesOfPositions.{IsTagged}
 use Rattle.nk_compile.proofs.TagPlaces.{tags_stand}
 use Rattle.nk_compile.proofs.TagTables.{tagged, comes_rows}
 use Rattle.nk_compact.specs.ClassStops.{acting_of, classes_among, class_stop_of}

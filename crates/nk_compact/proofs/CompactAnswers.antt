@@ -12,7 +12,7 @@ use Rattle.nk_compile.specs.declared.refusal.Refusal.TheVariants.{NoPolicy, NoTa
 use Rattle.nk_compile.specs.declared.refusal.CompileError.{CompileError}
 use Rattle.nk_compile.specs.declared.refusal.CompileError.TheVariants.{NoMemory, Refused}
 use Rattle.nk_compile.specs.Preparing.{IsEarlyError}
-use Rattle.nk_compile.proofs.Making.{static_refusal_named}
+use Rattle.nk_compile.proofs.CompileErrors.{static_refusal_named}
 use Rattle.nk_compact.specs.declared.compact.Compact.{Compact}
 use Rattle.nk_compact.specs.Compacted.{IsCompactOf, IsCompactReason, IsCompactError, IsCompactRefused, AnswersCompact}
 use Rattle.nk_compact.proofs.Merging.{named_merged_carries}

@@ -25,7 +25,7 @@ use Rattle.nk_table.specs.declared.Table.{Table}
 use Rattle.nk_switches.specs.Classed.{class_of}
 use Rattle.nk_compile.specs.Carries.{Carries}
 use Rattle.nk_compile.specs.WholeTable.{HasRowsAt, TagTree}
-use Rattle.nk_compile.proofs.Acting.{GivesAs, Acts, Numbering}
+use Rattle.nk_compile.proofs.ActingTags.{GivesAs, Acts, Numbering}
 use Rattle.nk_compile.proofs.Carried.{Leaving, leaving_by}
 use Rattle.nk_compile.proofs.Emitted.{acts_for}
 use Rattle.nk_compile.proofs.Reached.{Setting, Under, come, erases, same_some}

@@ -15,8 +15,8 @@ use Rattle.nk_table.specs.Rules.{sent_by, sent_for}
 use Rattle.nk_compile.specs.PrintedTable.{IsNumberedList, IsResult}
 use Rattle.nk_extract.specs.Buckets.{bucket_of, bucket_key, tag_of, IsBucketBefore}
 use Rattle.nk_compile.proofs.TagPlaces.{never_before}
-use Rattle.nk_compile.proofs.Sent.{sends}
-use Rattle.nk_compile.proofs.Acting.{Acts}
+use Rattle.nk_compile.proofs.BucketResults.{sends}
+use Rattle.nk_compile.proofs.ActingTags.{Acts}
 use Rattle.nk_compile.proofs.Reached.{Setting, AtState, Under, past, result_ok}
 
 -- the row for a copy with this number has the bucket list of a tag at its packet

@@ -43,10 +43,10 @@ use Rattle.nk_compile.specs.Ready.{sets_of, IsClear, IsReady}
 use Rattle.nk_compile.specs.Counted.{HasTagSets}
 use Rattle.nk_compile.proofs.Carried.{without_doubles}
 use Rattle.nk_compile.proofs.FewTags.{no_dup_from}
-use Rattle.nk_compile.proofs.Making.{is_compilable, none_seen}
+use Rattle.nk_compile.proofs.CompileErrors.{is_compilable, none_seen}
 use Rattle.nk_compile.proofs.TagPlaces.{never_itself}
-use Rattle.nk_compile.proofs.Whole.{IsSetUp, start_of, test_of, not_both}
-use Rattle.nk_compile.proofs.Fitting.{set_up}
+use Rattle.nk_compile.proofs.StoreFields.{IsSetUp, start_of, test_of, not_both}
+use Rattle.nk_compile.proofs.ProgramFits.{set_up}
 
 module _ (p : Policy) (A B : Packet → Type 0) (to : (pk : Packet) → A pk → B pk) (back : (pk : Packet) → B pk → A pk) where
   -- tag sets from the same packets

@@ -17,7 +17,7 @@ use Rattle.nk_compile.specs.declared.counted.Counted.{Counted}
 use Rattle.nk_compile.specs.declared.refusal.Refusal.{Refusal}
 use Rattle.nk_compile.specs.declared.refusal.Refusal.TheVariants.{NoPolicy}
 use Rattle.nk_compile.specs.declared.refusal.CompileError.{CompileError}
-use Rattle.nk_compile.proofs.Making.{static_refusal_named}
+use Rattle.nk_compile.proofs.CompileErrors.{static_refusal_named}
 use Rattle.nk_compile.proofs.Printed.{printed_carries}
 
 -- the reason for the policy is that for its name

@@ -22,7 +22,7 @@ use Rattle.nk_compile.specs.Counted.{HasTagSets}
 use Rattle.nk_compile.specs.NumberedAfter.{tags_after, IsTableAfter}
 use Rattle.nk_compile.specs.PrintedTable.{IsTreeOfTag}
 use Rattle.nk_compile.specs.WholeTable.{HasRowsAt, TagTree, rows_of_trees, IsSwitchTable, IsTableOf}
-use Rattle.nk_compile.proofs.After.{from_after, after_none}
+use Rattle.nk_compile.proofs.TagsNumberedAfter.{from_after, after_none}
 use Rattle.nk_compile.proofs.FewTags.{tags_fit}
 use Rattle.nk_compile.proofs.PairTags.{at_most_these, declared_place}
 use Rattle.nk_compile.proofs.PrintedRows.{plain_asks, plain_of, groups_in_order, rows_name_groups}

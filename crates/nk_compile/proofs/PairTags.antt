@@ -17,7 +17,7 @@ use Rattle.nk_update.specs.Tags.{IsEntering, HaveTheirTags}
 use Rattle.nk_compile.specs.Counted.{HasTagSets}
 use Rattle.nk_compile.specs.NumberedAfter.{IsTableAfter}
 use Rattle.nk_compile.specs.WholeTable.{IsTableOf}
-use Rattle.nk_compile.proofs.After.{after_none}
+use Rattle.nk_compile.proofs.TagsNumberedAfter.{after_none}
 use Rattle.nk_compile.proofs.Printed.{Asked, crossing_tags}
 
 -- a policy has at most as many tag sets as there are

@@ -20,13 +20,13 @@ use Rattle.nk_table.specs.Hops.{Copy, waiting}
 use Rattle.nk_compile.specs.NumberedAfter.{tags_after, IsTableAfter}
 use Rattle.nk_compile.specs.WholeTable.{IsTableOf}
 use Rattle.nk_compile.specs.Carries.{Carries}
-use Rattle.nk_compile.proofs.After.{from_after, stand_after, after_none}
+use Rattle.nk_compile.proofs.TagsNumberedAfter.{from_after, stand_after, after_none}
 use Rattle.nk_compile.proofs.FewTags.{tags_fit}
 use Rattle.nk_compile.proofs.Reached.{Setting, same_some}
 use Rattle.nk_compile.proofs.TagPlaces.{tags_stand}
 use Rattle.nk_compile.proofs.RowsFor.{own_numbering}
 use Rattle.nk_compile.proofs.Carried.{Leaving, leaving_by}
-use Rattle.nk_compile.proofs.Waits.{crossed_number}
+use Rattle.nk_compile.proofs.WaitingCopies.{crossed_number}
 
 -- what is asked of fields, topology, policy and tables, whose tags are numbered after the first ones
 abbrev pub Asked : ℕ → Policy → Tables → FieldTable → Topology → Type 0

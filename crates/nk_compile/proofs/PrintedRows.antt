@@ -21,7 +21,7 @@ use Rattle.nk_extract.proofs.Trees.{Tree, with_most_has}
 use Rattle.nk_group.specs.Groups.{taken, target_in_groups, rows_after, lists_after, numbered, groups_of, AreKept}
 use Rattle.nk_group.proofs.Kept.{groups_keep_buckets}
 use Rattle.nk_update.specs.Plans.{asked_of, NamesOneOf, AreNumberedFrom}
-use Rattle.nk_compile.proofs.Sent.{same_number, other_number}
+use Rattle.nk_compile.proofs.BucketResults.{same_number, other_number}
 
 -- ---- the value of the tag
 

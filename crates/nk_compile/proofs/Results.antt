@@ -31,9 +31,9 @@ use Rattle.nk_switches.specs.Made.{TagTree, rows_of_trees, IsTagTree, IsTableAt,
 use Rattle.nk_compile.specs.PrintedTable.{IsOfTag, StateRecords, IsResult, IsTreeOfTag}
 use Rattle.nk_compile.specs.WholeTable.{HasRowsAt, IsSwitchTable}
 use Rattle.nk_compile.specs.Ready.{sets_of, IsClear, IsReady}
-use Rattle.nk_compile.proofs.Fitting.{set_up}
+use Rattle.nk_compile.proofs.ProgramFits.{set_up}
 use Rattle.nk_compile.proofs.Reached.{same_some}
-use Rattle.nk_compile.proofs.Standing.{at_later, position_state, IsTagged, members_off, states_stay}
+use Rattle.nk_compile.proofs.StatesOfPositions.{at_later, position_state, IsTagged, members_off, states_stay}
 
 -- the set at a place
 pub set_there : (ss : List (List ℕ)) (tags : List ℕ) (t : ℕ) → t < length tags → slice_get (sets_of ss tags) t ≡ Some (set_of_tag ss tags t)

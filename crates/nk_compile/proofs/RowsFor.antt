@@ -23,8 +23,8 @@ use Rattle.nk_group.specs.Groups.{rows_after, groups_of as all_groups}
 use Rattle.nk_group.proofs.Choice.{groups_keep_the_choice}
 use Rattle.nk_compile.specs.PrintedTable.{IsNumberedList, IsTreeOfTag, IsBucketList}
 use Rattle.nk_compile.specs.WholeTable.{HasRowsAt, TagTree, rows_of_trees, IsSwitchTable}
-use Rattle.nk_compile.proofs.Sent.{same_number, other_number}
-use Rattle.nk_compile.proofs.Acting.{GivesAs, Numbering}
+use Rattle.nk_compile.proofs.BucketResults.{same_number, other_number}
+use Rattle.nk_compile.proofs.ActingTags.{GivesAs, Numbering}
 use Rattle.nk_compile.proofs.Reached.{Setting, AtState, come, tagged_index}
 use Rattle.nk_compile.proofs.Emitted.{HasBuckets, acts_for}
 

@@ -25,7 +25,7 @@ use Rattle.nk_compile.specs.NumberedAfter.{tags_after, IsTableAfter}
 use Rattle.nk_compile.specs.WholeTable.{HasRowsAt, IsSwitchTable, link_end}
 use Rattle.nk_compile.specs.Ready.{sets_of, IsClear, IsReady}
 use Rattle.nk_compile.specs.Comings.{first_end, ComesTo, HasComing}
-use Rattle.nk_compile.proofs.Standing.{IsTagged}
+use Rattle.nk_compile.proofs.StatesOfPositions.{IsTagged}
 use Rattle.nk_compile.proofs.Padding.{following_in, after_once}
 use Rattle.nk_compile.proofs.TagPlaces.{never_itself}
 use Rattle.nk_compile.proofs.Reasons.{none_some}

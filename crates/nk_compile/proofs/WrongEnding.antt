@@ -29,7 +29,7 @@ use Rattle.nk_edges.specs.Edges.{is_start, is_no_edge}
 use Rattle.nk_compile.specs.Levelled.{IsLevelled, IsLeastOff}
 use Rattle.nk_edges.specs.PacketSets.{IsSetInRange}
 use Rattle.nk_compile.specs.WrongEnds.{end_leaf, wrong_leaf, HaveEndsOf, wrong_on}
-use Rattle.nk_compile.proofs.Uniting.{of_wrong, in_wrong}
+use Rattle.nk_compile.proofs.EndsOfStates.{of_wrong, in_wrong}
 
 -- where there is an out, one of them
 some_out : (outs : List Out) → has_some_out outs ≡ true → (o : Out) × Has outs o

@@ -32,7 +32,7 @@ use Rattle.nk_compile.specs.PrintedTable.{IsTreeOfTag}
 use Rattle.nk_compile.specs.WholeTable.{HasRowsAt, TagTree, rows_of_trees, IsSwitchTable, IsTableOf}
 use Rattle.nk_compile_commands.specs.TextTables.{HasFewGroups, CompilesInOrder, CompilesPrintable, PoliciesInOrder, PoliciesPrintable}
 use Rattle.nk_compile.proofs.FewTags.{tags_fit}
-use Rattle.nk_compile.proofs.Fitting.{fronts}
+use Rattle.nk_compile.proofs.ProgramFits.{fronts}
 use Rattle.nk_names.proofs.Named.{let_named}
 use Rattle.nk_compile_commands.proofs.ResultBuckets.{buckets_ok}
 use Rattle.nk_compile_commands.proofs.SoundRows.{IsSoundRow, IsSoundTree, sound_row}

@@ -19,7 +19,7 @@ use Rattle.nk_extract.specs.RuleTree.{put}
 use Rattle.nk_extract.specs.Buckets.{changes, bucket_of}
 use Rattle.nk_compile.specs.PrintedTable.{IsOfTag, IsResult, IsBucketList}
 use Rattle.nk_compile_commands.proofs.Climbs.{Climbs, climbs_within, put_ascends, in_put, differs, changes_climb}
-use Rattle.nk_compile.proofs.Fitting.{fronts}
+use Rattle.nk_compile.proofs.ProgramFits.{fronts}
 
 -- a list that isn't empty has a member
 some_member : (xs : List ℕ) → xs ≢ [] → (l : ℕ) × Contains xs l

@@ -13,7 +13,7 @@ use Rattle.nk_compile.specs.NumberedAfter.{tags_after, IsTableAfter}
 use Rattle.nk_compile.specs.PrintedTable.{IsTreeOfTag}
 use Rattle.nk_compile.specs.WholeTable.{HasRowsAt, TagTree, rows_of_trees, IsSwitchTable, IsTableOf}
 use Rattle.nk_uniqueness.specs.Packets.{HavePackets}
-use Rattle.nk_compile.proofs.After.{after_none}
+use Rattle.nk_compile.proofs.TagsNumberedAfter.{after_none}
 use Rattle.nk_compile.proofs.OneTagList.{one_tag_list}
 use Rattle.nk_uniqueness.proofs.Trees.{one_tag_tree}
 

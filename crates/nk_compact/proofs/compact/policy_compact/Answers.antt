@@ -1,6 +1,6 @@
 use Rattle.std.proofs.Common.{◌∙◌, sym}
 use Rattle.nk_policy.specs.Tree.{tree_of}
-use Rattle.nk_compile.proofs.Making.{refused_with}
+use Rattle.nk_compile.proofs.CompileErrors.{refused_with}
 use Rattle.nk_compact.specs.Compacted.{IsCompactError}
 use Rattle.nk_compact.proofs.CompactAnswers.{early_compact_error}
 use Rattle.nk_compact.proofs.compact.policy_compact.Goals as goal

@@ -7,7 +7,7 @@ use Rattle.nk_switches.specs.Classed.{IsClassStop, IsClassTableAt}
 use Rattle.nk_switches.specs.Matched.{Matched}
 use Rattle.nk_compile.specs.Comings.{HasComing}
 use Rattle.nk_compile.proofs.Reached.{same_some}
-use Rattle.nk_compile.proofs.Standing.{state_ids}
+use Rattle.nk_compile.proofs.StatesOfPositions.{state_ids}
 use Rattle.nk_compile.proofs.TagTables.{tags_once}
 use Rattle.nk_compact.specs.ClassStops.{class_stop_of}
 use Rattle.nk_compact.proofs.ClassRows.{class_stops_are, tags_have_classes, firsts_within, merged_are}

@@ -1,7 +1,7 @@
 use Rattle.std.proofs.Common.{◌++◌, ap, sym, ◌∙◌}
 use Rattle.nk_names.specs.ProgramValue.{ProgramValue}
 use Rattle.nk_compile.specs.Headline.{IsCompiled}
-use Rattle.nk_compile.proofs.Handing.{tables_at}
+use Rattle.nk_compile.proofs.TablesOneByOne.{tables_at}
 use Rattle.nk_compile.proofs.compilation.compile_counted.Goals as goal
 
 pub hand_tables-requires : goal.hand_tables-requires

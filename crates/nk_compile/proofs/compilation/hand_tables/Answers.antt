@@ -1,4 +1,4 @@
-use Rattle.nk_compile.proofs.Handing.{handed, numbered_at}
+use Rattle.nk_compile.proofs.TablesOneByOne.{handed, numbered_at}
 use Rattle.nk_compile.proofs.compilation.hand_tables.Goals as goal
 
 pub tables_to-requires : goal.tables_to-requires

@@ -6,7 +6,7 @@ use Rattle.nk_names.specs.ProgramValue.{ProgramValue}
 use Rattle.nk_names.specs.WellFormed.{IsWellFormed}
 use Rattle.nk_compile.specs.Answers.{IsError}
 use Rattle.nk_compile.specs.Preparing.{IsNumberedPolicy}
-use Rattle.nk_compile.proofs.Handing.{error_named}
+use Rattle.nk_compile.proofs.TablesOneByOne.{error_named}
 use Rattle.nk_compile.proofs.Naming.{named_well_formed, has_room}
 use Rattle.nk_compile.proofs.compilation.number.Goals as goal
 

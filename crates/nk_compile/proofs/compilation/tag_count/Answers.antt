@@ -1,4 +1,4 @@
-use Rattle.nk_compile.proofs.Handing.{counted_by_name}
+use Rattle.nk_compile.proofs.TablesOneByOne.{counted_by_name}
 use Rattle.nk_compile.proofs.compilation.tag_count.Goals as goal
 
 pub returns-in-Ok : goal.returns-in-Ok

@@ -2,9 +2,9 @@ use Rattle.std.proofs.Common.{◌∙◌, sym, arith}
 use Rattle.nk_policy.specs.Tree.{tree_of}
 use Rattle.nk_compile.specs.Answers.{IsError}
 use Rattle.nk_compile.specs.declared.refusal.CompileError.TheVariants.{NoMemory}
-use Rattle.nk_compile.proofs.Handing.{ends_for}
+use Rattle.nk_compile.proofs.TablesOneByOne.{ends_for}
 use Rattle.nk_compile.proofs.Levelled.{prepared_unopposed, prepared_many}
-use Rattle.nk_compile.proofs.Making.{refused_with, early_error, many_error}
+use Rattle.nk_compile.proofs.CompileErrors.{refused_with, early_error, many_error}
 use Rattle.nk_compile.proofs.numbered.number_tags.Goals as goal
 
 pub max-requires : goal.max-requires

@@ -1,8 +1,8 @@
 use Rattle.std.proofs.Common.{◌++◌, ap, refl, ◌∙◌}
 use Rattle.nk_policy.specs.Tree.{tree_of}
 use Rattle.nk_compile.specs.Answers.{IsError, IsMade}
-use Rattle.nk_compile.proofs.Handing.{tables_at}
-use Rattle.nk_compile.proofs.Making.{refused_with}
+use Rattle.nk_compile.proofs.TablesOneByOne.{tables_at}
+use Rattle.nk_compile.proofs.CompileErrors.{refused_with}
 use Rattle.nk_compile.proofs.numbered.policy_tables.Goals as goal
 
 pub tables_to-requires : goal.tables_to-requires

@@ -1,7 +1,7 @@
 use Rattle.std.proofs.Common.{refl, arith}
 use Rattle.nk_policy.specs.Tree.{tree_of}
 use Rattle.nk_compile.specs.MadePair.{IsPairError}
-use Rattle.nk_compile.proofs.Making.{refused_with}
+use Rattle.nk_compile.proofs.CompileErrors.{refused_with}
 use Rattle.nk_compile.proofs.Pairing.{many_old, many_new, pair_made}
 use Rattle.nk_compile.proofs.pair.pair_tables.Goals as goal
 

@@ -2,7 +2,7 @@ use Rattle.std.proofs.Common.{◌∙◌, sym}
 use Rattle.nk_policy.specs.Tree.{tree_of}
 use Rattle.nk_compile.specs.MadePair.{IsPairError}
 use Rattle.nk_compile.proofs.Levelled.{prepared_unopposed}
-use Rattle.nk_compile.proofs.Making.{refused_with}
+use Rattle.nk_compile.proofs.CompileErrors.{refused_with}
 use Rattle.nk_compile.proofs.Pairing.{early_old, early_new}
 use Rattle.nk_compile.proofs.pair.policy_pair.Goals as goal
 

@@ -6,10 +6,10 @@ use Rattle.nk_compile.specs.Levelled.{IsLevelled}
 use Rattle.nk_compile.specs.Preparing.{IsEarlyError}
 use Rattle.nk_compile.specs.Ready.{IsBegun}
 use Rattle.nk_compile.specs.Refusals.{refusal_of, static_refusal_with}
-use Rattle.nk_compile.proofs.Begun.{begun_is}
-use Rattle.nk_compile.proofs.Fitting.{places_high}
+use Rattle.nk_compile.proofs.PolicyAutomaton.{begun_is}
+use Rattle.nk_compile.proofs.ProgramFits.{places_high}
 use Rattle.nk_compile.proofs.Levelled.{least_off}
-use Rattle.nk_compile.proofs.Making.{refused_with, off_error}
+use Rattle.nk_compile.proofs.CompileErrors.{refused_with, off_error}
 use Rattle.nk_compile.proofs.tables.prepare.Goals as goal
 
 -- nothing is seen

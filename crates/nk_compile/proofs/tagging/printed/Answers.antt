@@ -3,7 +3,7 @@ use Rattle.std.proofs.lemmas.Result.{IfOk-weaker}
 use Rattle.nk_policy.specs.Tree.{tree_of}
 use Rattle.nk_table.specs.declared.Tables.{Tables}
 use Rattle.nk_compile.specs.Preparing.{AreLinkEnds}
-use Rattle.nk_compile.proofs.Handing.{ends_for}
+use Rattle.nk_compile.proofs.TablesOneByOne.{ends_for}
 use Rattle.nk_compile.proofs.tagging.printed.Goals as goal
 
 pub print_to-requires-clause-prepared : goal.print_to-requires-clause-prepared

@@ -5,7 +5,7 @@ use Rattle.nk_switches.specs.declared.stop.Stop.{Stop}
 use Rattle.nk_switches.specs.Made.{IsStop}
 use Rattle.nk_compile.specs.Comings.{HasComing}
 use Rattle.nk_compile.proofs.Reached.{same_some}
-use Rattle.nk_compile.proofs.Standing.{state_ids}
+use Rattle.nk_compile.proofs.StatesOfPositions.{state_ids}
 use Rattle.nk_compile.proofs.TagTables.{tags_once, stop_is, tables_are}
 use Rattle.nk_compile.proofs.tagging.tag_tables.Goals as goal
 

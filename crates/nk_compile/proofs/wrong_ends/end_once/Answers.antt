@@ -1,5 +1,5 @@
 use Rattle.std.proofs.Common.{◌∙◌, sym}
-use Rattle.nk_compile.proofs.Uniting.{table_on, table_put}
+use Rattle.nk_compile.proofs.EndsOfStates.{table_on, table_put}
 use Rattle.nk_compile.proofs.wrong_ends.end_once.Goals as goal
 
 pub returns-in-Some-clause-end : goal.returns-in-Some-clause-end

@@ -1,6 +1,6 @@
 use Rattle.std.proofs.Common.{◌∙◌, ◌∷◌, [], ap, length, length-append, arith}
 use Rattle.nk_store.proofs.Stores.{grows_on}
-use Rattle.nk_compile.proofs.Uniting.{ends_more}
+use Rattle.nk_compile.proofs.EndsOfStates.{ends_more}
 use Rattle.nk_compile.proofs.wrong_ends.ends_of.Goals as goal
 
 pub loop-state-preserved : goal.loop-state-preserved

@@ -1,7 +1,7 @@
 use Rattle.std.proofs.Common.{◌≡◌, length}
 use Rattle.nk_store.specs.StoreState.{Grows}
 use Rattle.nk_compile.specs.WrongEnds.{AreEndsOf}
-use Rattle.nk_compile.proofs.Uniting.{HaveSoFar}
+use Rattle.nk_compile.proofs.EndsOfStates.{HaveSoFar}
 use Rattle.nk_compile.proofs.wrong_ends.ends_of.Given as goal
 
 -- the states so far have their diagrams, and so have those in the table

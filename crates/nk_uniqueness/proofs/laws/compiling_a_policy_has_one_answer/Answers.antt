@@ -1,4 +1,4 @@
-use Rattle.nk_compile.proofs.Making.{static_refusal_named}
+use Rattle.nk_compile.proofs.CompileErrors.{static_refusal_named}
 use Rattle.nk_uniqueness.proofs.OfPolicies.{accepted_policy_answer, refused_policy_answer, one_policy_answer, policy_answer_named}
 use Rattle.nk_uniqueness.proofs.laws.compiling_a_policy_has_one_answer.Goals as goal
 

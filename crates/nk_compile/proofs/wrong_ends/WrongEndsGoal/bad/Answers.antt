@@ -2,7 +2,7 @@ use Rattle.std.proofs.Common.{◌∙◌, [], sym, subst, ap, get_or, length}
 use Rattle.std.specs.Prelude.{map}
 use Rattle.std.proofs.lemmas.Result.{IfOk-weaker}
 use Rattle.nk_apply.specs.Unions.{AreIds, unions}
-use Rattle.nk_compile.proofs.Uniting.{picked_ids, picked_is}
+use Rattle.nk_compile.proofs.EndsOfStates.{picked_ids, picked_is}
 use Rattle.nk_compile.proofs.wrong_ends.WrongEndsGoal.bad.Goals as goal
 
 pub union_all-requires : goal.union_all-requires

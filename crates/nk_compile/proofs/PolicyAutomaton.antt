@@ -12,8 +12,8 @@ use Rattle.nk_auto.specs.Automaton.{IsAutomaton}
 use Rattle.nk_auto.specs.Continued.{IsFit}
 use Rattle.nk_compile.specs.Ready.{IsBegun}
 use Rattle.nk_compile.specs.Refusals.{static_refusal_with}
-use Rattle.nk_compile.proofs.Fitting.{fit}
-use Rattle.nk_compile.proofs.Making.{is_clear}
+use Rattle.nk_compile.proofs.ProgramFits.{fit}
+use Rattle.nk_compile.proofs.CompileErrors.{is_clear}
 
 pub begun_is : (fields : FieldTable) (topo : Topology) (tag : ℕ) (p : Policy) (first new : StoreState) (states slice : List ℕ) →
     IsFieldTable fields → fields.tag ≡ Some tag → IsTopology topo → marked_from p 1 ≡ p → static_refusal_with tag topo p ≡ None →

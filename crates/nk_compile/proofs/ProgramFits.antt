@@ -10,7 +10,7 @@ use Rattle.nk_names.proofs.Weaker.{assigns_weaker}
 use Rattle.nk_store.specs.StoreState.{StoreState, IsOver}
 use Rattle.nk_store.proofs.InRange.{same_value}
 use Rattle.nk_auto.specs.Continued.{IsFit}
-use Rattle.nk_compile.proofs.Whole.{IsSetUp}
+use Rattle.nk_compile.proofs.StoreFields.{IsSetUp}
 
 -- a front of two is read at its two places
 pub fronts : (xs : List ℕ) (a b : ℕ) → take 2 xs ≡ a ∷ b ∷ [] → (get_or xs 0 0 ≡ a) × (get_or xs 1 0 ≡ b)

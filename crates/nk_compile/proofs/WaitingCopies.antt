@@ -25,7 +25,7 @@ use Rattle.nk_table.specs.declared.Tables.{Tables}
 use Rattle.nk_table.specs.Rules.{sent_for}
 use Rattle.nk_table.specs.Hops.{Copy, crossing, across, leaving, next_of, left_of, waiting, left_after, moved_to}
 use Rattle.nk_compile.specs.PrintedTable.{StateRecords, IsResult}
-use Rattle.nk_compile.proofs.Acting.{GivesAs, Acts, Numbering}
+use Rattle.nk_compile.proofs.ActingTags.{GivesAs, Acts, Numbering}
 use Rattle.nk_compile.proofs.Reached.{Setting, Under, Come, come, same_some, past, erases, tagged_index, result_ok, next_literal}
 
 -- the ends of two lists by two elements
