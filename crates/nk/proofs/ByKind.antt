@@ -37,7 +37,8 @@ use Rattle.nk.specs.Succeeding.{AcceptsNamed, HavePolicies, HaveCertified, HasQu
 use Rattle.nk_trace_commands.specs.Tracing.{ToLocated}
 use Rattle.nk_trace_commands.specs.Flying.{ToFlown}
 use Rattle.nk.proofs.Alike.{of_named, never_lacking, of_question, never_caused}
-use Rattle.nk.proofs.OneText.{declares_once, holds_once, certificate_once, no_fault, no_certified_fault}
+use Rattle.nk_input.proofs.OneText.{declares_once, no_fault}
+use Rattle.nk.proofs.OneCertifiedText.{holds_once, certificate_once, no_certified_fault}
 
 -- an outcome, where two conditions are those of `Done` and of `Differs`
 abbrev pub Kind : Outcome → Type 0 → Type 0 → Type 0

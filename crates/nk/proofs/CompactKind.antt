@@ -7,7 +7,7 @@ use Rattle.nk_reply.specs.Outcome.{Outcome, done, differs, text_refused, policy_
 use Rattle.nk_input.specs.ProgramText.{Declares}
 use Rattle.nk.specs.Succeeding.{AcceptsMerged}
 use Rattle.nk.proofs.ByKind.{Kind}
-use Rattle.nk.proofs.OneText.{declares_once, no_fault}
+use Rattle.nk_input.proofs.OneText.{declares_once, no_fault}
 
 pub compact_kind : (name bytes : List ℕ) (o : Outcome) → IsCompactAnswer name bytes o → Kind o (AcceptsMerged name bytes) ⊥
 compact_kind name bytes (text_refused t) h = (λ d. no_fault bytes (program_by d.program) t d.declared h, λ x. x)

@@ -19,7 +19,7 @@ use Rattle.nk_input.specs.ProgramText.{Declares}
 use Rattle.nk.specs.Succeeding.{AcceptsUpdate}
 use Rattle.nk_compile_commands.specs.Updating.{ToTurned, IsPlannedAnswer, IsPairRefusal, IsUpdateAnswer, plan_for}
 use Rattle.nk.proofs.ByKind.{Kind}
-use Rattle.nk.proofs.OneText.{declares_once, no_fault}
+use Rattle.nk_input.proofs.OneText.{declares_once, no_fault}
 
 -- the kinds of outcome are apart
 abbrev IsRefusing : Outcome → Type 0

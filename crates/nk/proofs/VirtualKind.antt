@@ -23,7 +23,7 @@ use Rattle.nk_input.specs.ProgramText.{Declares}
 use Rattle.nk.specs.Succeeding.{AcceptsVirtual}
 use Rattle.nk_virtual_command.specs.Virtualizing.{LacksPhysical, IsPhysicalRefusal, IsVirtualizeAnswer}
 use Rattle.nk.proofs.ByKind.{Kind}
-use Rattle.nk.proofs.OneText.{declares_once, no_fault}
+use Rattle.nk_input.proofs.OneText.{declares_once, no_fault}
 
 -- what holds over the same fields, topology, virtual links and policy
 over_links : (P : FieldTable → Topology → List VirtualLink → Policy → Type 0) (f g : FieldTable) (t u : Topology) (k l : List VirtualLink) (p q : Policy)

@@ -8,7 +8,7 @@ use Rattle.nk_compact_command.specs.Compacting.{IsCompactPrinted, IsCompactRefus
 use Rattle.nk_compile_commands.specs.Messages.{refusal_line}
 use Rattle.nk_reply.specs.Outcome.{Outcome, done}
 use Rattle.nk_input.specs.ProgramText.{HasFault}
-use Rattle.nk.proofs.OneText.{no_fault, one_fault}
+use Rattle.nk_input.proofs.OneText.{no_fault, one_fault}
 use Rattle.nk_one_answer.proofs.Named.{Declared, alike, packets_of}
 use Rattle.nk_one_answer.proofs.Outcomes.{AreApart, IsKind, one_kind}
 

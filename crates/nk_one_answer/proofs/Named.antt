@@ -33,7 +33,8 @@ use Rattle.nk_compile_commands.specs.Messages.{refusal_line}
 use Rattle.nk_reply.specs.Outcome.{Outcome, done}
 use Rattle.nk_input.specs.ProgramText.{Declares, HasFault}
 use Rattle.nk.proofs.Alike.{never_caused}
-use Rattle.nk.proofs.OneText.{declares_once, holds_once, certificate_once, no_fault, no_certified_fault, one_fault, one_certified_fault}
+use Rattle.nk_input.proofs.OneText.{declares_once, no_fault, one_fault}
+use Rattle.nk.proofs.OneCertifiedText.{holds_once, certificate_once, no_certified_fault, one_certified_fault}
 use Rattle.nk_one_answer.proofs.Outcomes.{AreApart, IsKind, one_kind}
 
 -- a text declares this, of which that is so

@@ -28,7 +28,7 @@ use Rattle.nk_change_impact.specs.Ends.{Names, IsImpactAnswerOf, IsImpactFixedBy
 use Rattle.nk_change_impact.specs.Succeeding.{StandsFor}
 use Rattle.nk_change_impact.proofs.Standing.{one_standing, stands}
 use Rattle.nk_change_impact.proofs.Texts.{policies_alike, same_program}
-use Rattle.nk.proofs.OneText.{no_fault, one_fault}
+use Rattle.nk_input.proofs.OneText.{no_fault, one_fault}
 use Rattle.nk_one_answer.specs.FirstKept.{ShowsFirstKept}
 use Rattle.nk_one_answer.proofs.FirstKept.{first_kept, side_keeps}
 use Rattle.nk_one_answer.proofs.Named.{Declared, table_of}

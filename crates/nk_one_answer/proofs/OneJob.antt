@@ -19,7 +19,7 @@ use Rattle.nk_verify_commands.specs.Comparing.{IsEqualAnswer}
 use Rattle.nk_compile_commands.specs.Compiling.{IsCompileAnswer}
 use Rattle.nk.specs.Generating.{CountsTables, CountsRows, IsCounted, IsJobOver, IsNotDone, OrThen, tables_line, rows_line}
 use Rattle.nk_reply.specs.Outcome.{Outcome, done}
-use Rattle.nk.proofs.OneText.{declares_once}
+use Rattle.nk_input.proofs.OneText.{declares_once}
 use Rattle.nk_one_answer.proofs.Named.{packets_of, table_of, one_compile, one_equal}
 
 done_is : (x y : List ℕ) → done x ≡ done y → x ≡ y

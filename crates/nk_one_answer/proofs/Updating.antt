@@ -16,7 +16,7 @@ use Rattle.nk_compile_commands.specs.Messages.{refusal_line}
 use Rattle.nk_reply.specs.Outcome.{Outcome, text_refused, policy_refused}
 use Rattle.nk_input.specs.ProgramText.{Declares, HasFault}
 use Rattle.nk_compile_commands.specs.Updating.{ToTurned, ToPair, IsPlannedAnswer, IsPairRefusal, IsUpdateAnswer, plan_for}
-use Rattle.nk.proofs.OneText.{declares_once, no_fault, one_fault}
+use Rattle.nk_input.proofs.OneText.{declares_once, no_fault, one_fault}
 use Rattle.nk_one_answer.proofs.Following.{by_packet}
 use Rattle.nk_one_answer.proofs.Named.{packets_of}
 

@@ -26,7 +26,7 @@ use Rattle.nk_virtual_command.specs.Messages.{unphysical_line}
 use Rattle.nk_reply.specs.Outcome.{Outcome, done}
 use Rattle.nk_input.specs.ProgramText.{Declares, HasFault}
 use Rattle.nk_virtual_command.specs.Virtualizing.{IsVirtualPrinted, LacksPhysical, IsPhysicalRefusal, IsVirtualizeAnswer}
-use Rattle.nk.proofs.OneText.{no_fault, one_fault}
+use Rattle.nk_input.proofs.OneText.{no_fault, one_fault}
 use Rattle.nk_one_answer.proofs.Named.{Declared, alike, packets_of}
 use Rattle.nk_one_answer.proofs.Outcomes.{AreApart, IsKind, one_kind}
 

@@ -1,39 +1,24 @@
--- What the bytes of a text say is one, and a text that says something has no fault.
+-- What the bytes of a text with a certificate say is one, and a text that says something has no fault.
 use Rattle.std.proofs.Common.{◌≡◌, ℕ, List, sym, ap, subst, ◌∙◌}
 use Rattle.std.specs.Prelude.{Ok, Err}
 use Rattle.std.specs.declared.result.Result.{Result}
 use Rattle.nk_lex.specs.declared.token.Token.{Token}
 use Rattle.nk_lex.specs.declared.token.LexError.{LexError}
-use Rattle.nk_lex.specs.declared.token.LexError.TheVariants as lexical
 use Rattle.nk_lex.specs.Lex.{tokens_of}
 use Rattle.nk_grammar.specs.declared.decl.GrammarError.{GrammarError}
-use Rattle.nk_grammar.specs.declared.decl.GrammarError.TheVariants as grammar
 use Rattle.nk_grammar.specs.Certified.{Row, Certified}
 use Rattle.nk_grammar.specs.CertifiedMachine.{certified_of}
-use Rattle.nk_grammar.specs.File.{Declaration}
-use Rattle.nk_grammar.specs.FileMachine.{file_of}
 use Rattle.nk_names.specs.declared.fault.NamesError.{NamesError}
-use Rattle.nk_names.specs.declared.fault.NamesError.TheVariants as naming
 use Rattle.nk_names.specs.ProgramOf.{DeclaredProgram, program_of}
 use Rattle.nk_cert.specs.Certificates.{CertificateValue}
 use Rattle.nk_certtext.specs.declared.error.CertError.{CertError}
 use Rattle.nk_certtext.specs.declared.error.CertError.TheVariants as rows
 use Rattle.nk_certtext.specs.Rows.{certificate_of}
-use Rattle.nk_input.specs.ProgramText.{Declares, HasFault, TellsGrammar, TellsLexical, TellsNames, IsFaultOfNames, IsFaultOfTokens, IsFaultOfBytes}
+use Rattle.nk_input.proofs.OneText.{ok_is, lexical_once, grammar_once, naming_once}
 use Rattle.nk_verify_commands.specs.CertifiedText.{HoldsCertificate, HasCertifiedFault, TellsRows, IsFaultOfRows, IsFaultOfProgram, IsFaultOfCertifiedTokens, IsFaultOfCertifiedBytes}
-
-pub ok_is : {X E : Type 0} (x y : X) → ◌≡◌ {A = Result X E} (Ok x) (Ok y) → x ≡ y
-ok_is x y e = cc
 
 -- ---- what is said is one
 
-pub declares_once : (bytes : List ℕ) (s t : DeclaredProgram) → Declares bytes s → Declares bytes t → s ≡ t
-declares_once bytes s t d k =
-    let tokens = ok_is d.tokens k.tokens (sym d.cut ∙ k.cut) in
-    let declarations = ok_is d.declarations k.declarations (sym d.read ∙ ap file_of tokens ∙ k.read) in
-    ok_is s t (sym d.means ∙ ap program_of declarations ∙ k.means)
-
--- so is the text with a certificate
 written_once : (bytes : List ℕ) (s t : DeclaredProgram) (c e : CertificateValue) → (d : HoldsCertificate bytes s c) → (k : HoldsCertificate bytes t e) → d.written ≡ k.written
 written_once bytes s t c e d k =
     let tokens = ok_is d.tokens k.tokens (sym d.cut ∙ k.cut) in
@@ -53,11 +38,6 @@ certificate_once bytes s t c e d k =
 
 -- ---- what says something has no fault
 
-pub no_fault : (bytes : List ℕ) (s : DeclaredProgram) (text : List ℕ) → Declares bytes s → HasFault bytes text → ⊥
-no_fault bytes s text d h =
-    subst (λ r. IsFaultOfNames r text) d.means
-    (subst (λ r. IsFaultOfTokens r text) d.read (subst (λ r. IsFaultOfBytes r text) d.cut h))
-
 pub no_certified_fault : (bytes : List ℕ) (s : DeclaredProgram) (c : CertificateValue) (text : List ℕ) → HoldsCertificate bytes s c → HasCertifiedFault bytes text → ⊥
 no_certified_fault bytes s c text d h =
     subst (λ r. IsFaultOfRows r text) d.makes
@@ -66,36 +46,6 @@ no_certified_fault bytes s c text d h =
 
 -- ---- a fault is told by one line
 
-lexical_once : (e : LexError) (x y : List ℕ) → TellsLexical e x → TellsLexical e y → x ≡ y
-lexical_once (lexical.BadByte line) x y h k = h ∙ sym k
-lexical_once (lexical.NumberTooLarge line) x y h k = h ∙ sym k
-lexical_once lexical.NoMemory x y h k = absurd h
-
-grammar_once : (e : GrammarError) (x y : List ℕ) → TellsGrammar e x → TellsGrammar e y → x ≡ y
-grammar_once (grammar.Unexpected line) x y h k = h ∙ sym k
-grammar_once (grammar.TooDeep line) x y h k = h ∙ sym k
-grammar_once grammar.NoMemory x y h k = absurd h
-
-naming_once : (e : NamesError) (x y : List ℕ) → TellsNames e x → TellsNames e y → x ≡ y
-naming_once (naming.Fault kind line) x y h k = h ∙ sym k
-naming_once naming.NoMemory x y h k = absurd h
-
-names_once : (r : Result DeclaredProgram NamesError) (x y : List ℕ) → IsFaultOfNames r x → IsFaultOfNames r y → x ≡ y
-names_once (Ok s) x y h k = absurd h
-names_once (Err e) x y h k = naming_once e x y h k
-
-tokens_once : (r : Result (List Declaration) GrammarError) (x y : List ℕ) → IsFaultOfTokens r x → IsFaultOfTokens r y → x ≡ y
-tokens_once (Ok ds) x y h k = names_once (program_of ds) x y h k
-tokens_once (Err e) x y h k = grammar_once e x y h k
-
-bytes_once : (r : Result (List Token) LexError) (x y : List ℕ) → IsFaultOfBytes r x → IsFaultOfBytes r y → x ≡ y
-bytes_once (Ok ts) x y h k = tokens_once (file_of ts) x y h k
-bytes_once (Err e) x y h k = lexical_once e x y h k
-
-pub one_fault : (bytes x y : List ℕ) → HasFault bytes x → HasFault bytes y → x ≡ y
-one_fault bytes x y h k = bytes_once (tokens_of bytes) x y h k
-
--- likewise of a text with a certificate
 row_once : (e : CertError) (x y : List ℕ) → TellsRows e x → TellsRows e y → x ≡ y
 row_once (rows.CertFault line) x y h k = h ∙ sym k
 row_once (rows.Fault kind line) x y h k = h ∙ sym k
