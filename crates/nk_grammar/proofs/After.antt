@@ -4,8 +4,8 @@ use Rattle.std.specs.Prelude.{Some, None, Ok, Err, option_map, if◌then◌else�
 use Rattle.std.specs.declared.result.Result.{Result}
 use Rattle.nk_lex.specs.declared.ident.Ident.{Ident}
 use Rattle.nk_lex.specs.declared.ident.Number.{Number}
-use Rattle.nk_grammar.specs.declared.place.QuadNext.{QuadNext}
-use Rattle.nk_grammar.specs.declared.place.QuadNext.TheVariants as next
+use Rattle.nk_lex.specs.declared.quad.QuadNext.{QuadNext}
+use Rattle.nk_lex.specs.declared.quad.QuadNext.TheVariants as next
 use Rattle.nk_grammar.specs.declared.decl.PolicyKeyword.{PolicyKeyword}
 use Rattle.nk_grammar.specs.declared.decl.LinkKeyword.{LinkKeyword}
 use Rattle.nk_grammar.specs.declared.decl.LinkKeyword.TheVariants as links

@@ -3,7 +3,7 @@ use Rattle.std.proofs.Common.{◌≡◌, ℕ, subst, List, [], ◌∷◌, ◌++�
 use Rattle.std.specs.Prelude.{Some, None, option_and_then, if◌then◌else◌, map}
 use Rattle.nk_lex.specs.declared.ident.Ident.{Ident}
 use Rattle.nk_lex.specs.declared.ident.Number.{Number}
-use Rattle.nk_grammar.specs.declared.place.Quad.TheVariants as quad
+use Rattle.nk_lex.specs.declared.quad.Quad.TheVariants as quad
 use Rattle.nk_grammar.specs.declared.decl.PolicyKeyword.{PolicyKeyword}
 use Rattle.nk_grammar.specs.Terminal.{Terminal, number, colon, id_word, outside, is_colon_terminal, certificate_word, row_word, start_word}
 use Rattle.nk_grammar.specs.Tree.{Tree}

@@ -6,8 +6,8 @@ use Rattle.nk_lex.specs.Lex.{largest}
 use Rattle.nk_lex.specs.declared.token.Token.{Token}
 use Rattle.nk_lex.specs.declared.ident.Ident.{Ident}
 use Rattle.nk_lex.specs.declared.ident.Number.{Number}
-use Rattle.nk_grammar.specs.declared.place.QuadNext.{QuadNext}
-use Rattle.nk_grammar.specs.declared.place.QuadNext.TheVariants as next
+use Rattle.nk_lex.specs.declared.quad.QuadNext.{QuadNext}
+use Rattle.nk_lex.specs.declared.quad.QuadNext.TheVariants as next
 use Rattle.nk_grammar.specs.declared.decl.Completed.{Completed}
 use Rattle.nk_grammar.specs.declared.decl.Completed.TheVariants as completed
 use Rattle.nk_grammar.specs.declared.decl.PolicyKeyword.{PolicyKeyword}

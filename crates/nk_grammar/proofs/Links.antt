@@ -2,10 +2,10 @@
 use Rattle.std.proofs.Common.{◌≡◌, List, [], ◌∷◌, ◌++◌, Bool, true, false, refl}
 use Rattle.std.specs.Prelude.{if◌then◌else◌}
 use Rattle.nk_lex.specs.declared.ident.Number.{Number}
-use Rattle.nk_grammar.specs.declared.place.Quad.{Quad}
-use Rattle.nk_grammar.specs.declared.place.Quad.TheVariants as quad
-use Rattle.nk_grammar.specs.declared.place.QuadNext.{QuadNext}
-use Rattle.nk_grammar.specs.declared.place.QuadNext.TheVariants as next
+use Rattle.nk_lex.specs.declared.quad.Quad.{Quad}
+use Rattle.nk_lex.specs.declared.quad.Quad.TheVariants as quad
+use Rattle.nk_lex.specs.declared.quad.QuadNext.{QuadNext}
+use Rattle.nk_lex.specs.declared.quad.QuadNext.TheVariants as next
 use Rattle.nk_grammar.specs.Terminal.{Terminal, number, colon, fat_arrow, outside, is_colon_terminal, is_link_sign, arrow}
 use Rattle.nk_grammar.specs.Machine.{with_number, quad_step}
 

@@ -9,10 +9,10 @@ use Rattle.nk_lex.specs.Joined.{token_moved}
 use Rattle.nk_lex.specs.declared.ident.Number.{Number}
 use Rattle.nk_grammar.specs.declared.place.Place.{Place}
 use Rattle.nk_grammar.specs.declared.place.Place.TheVariants as place
-use Rattle.nk_grammar.specs.declared.place.Quad.{Quad}
-use Rattle.nk_grammar.specs.declared.place.Quad.TheVariants as quad
-use Rattle.nk_grammar.specs.declared.place.QuadNext.{QuadNext}
-use Rattle.nk_grammar.specs.declared.place.QuadNext.TheVariants as next
+use Rattle.nk_lex.specs.declared.quad.Quad.{Quad}
+use Rattle.nk_lex.specs.declared.quad.Quad.TheVariants as quad
+use Rattle.nk_lex.specs.declared.quad.QuadNext.{QuadNext}
+use Rattle.nk_lex.specs.declared.quad.QuadNext.TheVariants as next
 use Rattle.nk_grammar.specs.Terminal.{Terminal, Outside, name, number, tilde, closing, plus_sign, star_sign, equal, becomes, colon, fat_arrow, id_word, drop_word, dup_word, in_word, dots, outside, let_word, fabric_word, row_word, terminal_from, terminal_of, is_equal, is_in_word, is_dots, is_becomes, is_colon_terminal, is_link_sign}
 use Rattle.nk_grammar.specs.Tree.{Tree, Trees, name_of, test, range, assign, sum_of, seq_of, not_of, dup, link, no_part, part, with_part, with_star, sum_from, seq_from}
 use Rattle.nk_grammar.specs.Machine.{Open, group, negation, State, state, atom_ended, terms_joined, close, number_in, in_option, with_number, quad_step, begin, after_factor, linked, step_done, go_on_from, step_at, step, settled_at, settled, done_at, done, policy_ended}

@@ -3,10 +3,10 @@ use Rattle.std.proofs.Common.{◌≡◌, ℕ, subst, List, [], ◌∷◌, ◌++�
 use Rattle.std.specs.Prelude.{Some, None, option_and_then, option_map, if◌then◌else◌, map}
 use Rattle.nk_lex.specs.declared.ident.Ident.{Ident}
 use Rattle.nk_lex.specs.declared.ident.Number.{Number}
-use Rattle.nk_grammar.specs.declared.place.Quad.{Quad}
-use Rattle.nk_grammar.specs.declared.place.Quad.TheVariants as quad
-use Rattle.nk_grammar.specs.declared.place.QuadNext.{QuadNext}
-use Rattle.nk_grammar.specs.declared.place.QuadNext.TheVariants as next
+use Rattle.nk_lex.specs.declared.quad.Quad.{Quad}
+use Rattle.nk_lex.specs.declared.quad.Quad.TheVariants as quad
+use Rattle.nk_lex.specs.declared.quad.QuadNext.{QuadNext}
+use Rattle.nk_lex.specs.declared.quad.QuadNext.TheVariants as next
 use Rattle.nk_grammar.specs.declared.place.Place.{Place}
 use Rattle.nk_grammar.specs.declared.place.Place.TheVariants as place
 use Rattle.nk_grammar.specs.declared.decl.PolicyKeyword.{PolicyKeyword}

@@ -5,10 +5,10 @@ use Rattle.nk_lex.specs.declared.token.Token.{Token}
 use Rattle.nk_lex.specs.declared.ident.Ident.{Ident}
 use Rattle.nk_lex.specs.declared.ident.Number.{Number}
 use Rattle.nk_lex.specs.Faults.{and_then}
-use Rattle.nk_grammar.specs.declared.place.Quad.{Quad}
-use Rattle.nk_grammar.specs.declared.place.Quad.TheVariants as quad
-use Rattle.nk_grammar.specs.declared.place.QuadNext.{QuadNext}
-use Rattle.nk_grammar.specs.declared.place.QuadNext.TheVariants as next
+use Rattle.nk_lex.specs.declared.quad.Quad.{Quad}
+use Rattle.nk_lex.specs.declared.quad.Quad.TheVariants as quad
+use Rattle.nk_lex.specs.declared.quad.QuadNext.{QuadNext}
+use Rattle.nk_lex.specs.declared.quad.QuadNext.TheVariants as next
 use Rattle.nk_grammar.specs.declared.decl.PolicyKeyword.{PolicyKeyword}
 use Rattle.nk_grammar.specs.declared.decl.PolicyKeyword.TheVariants as policies
 use Rattle.nk_grammar.specs.declared.decl.LinkKeyword.{LinkKeyword}

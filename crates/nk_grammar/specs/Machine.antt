@@ -1,10 +1,10 @@
 -- A policy read token by token: what may come next, and what is open.
 use Rattle.std.specs.Prelude.{◌≡◌, ℕ, List, [], ◌∷◌, Bool, true, false, Option, Some, None, if◌then◌else◌, option_and_then}
 use Rattle.nk_lex.specs.declared.ident.Number.{Number}
-use Rattle.nk_grammar.specs.declared.place.Quad.{Quad}
-use Rattle.nk_grammar.specs.declared.place.Quad.TheVariants as quad
-use Rattle.nk_grammar.specs.declared.place.QuadNext.{QuadNext}
-use Rattle.nk_grammar.specs.declared.place.QuadNext.TheVariants as next
+use Rattle.nk_lex.specs.declared.quad.Quad.{Quad}
+use Rattle.nk_lex.specs.declared.quad.Quad.TheVariants as quad
+use Rattle.nk_lex.specs.declared.quad.QuadNext.{QuadNext}
+use Rattle.nk_lex.specs.declared.quad.QuadNext.TheVariants as next
 use Rattle.nk_grammar.specs.declared.place.Place.{Place}
 use Rattle.nk_grammar.specs.declared.place.Place.TheVariants as place
 use Rattle.nk_grammar.specs.Terminal.{Terminal, name, number, tilde, opening, closing, plus_sign, semicolon, star_sign, id_word, drop_word, dup_word, is_equal, is_in_word, is_dots, is_becomes, is_colon_terminal, is_link_sign}

@@ -3,9 +3,8 @@ ghost use Rattle.std.specs.Prelude.{◌≡◌};
 ghost use Rattle.nk_grammar.specs.declared.decl.GrammarError.TheVariants.{NoMemory};
 
 use crate::ast::Ast;
-use crate::place::Quad;
 use nk_field::List;
-use nk_lex::{Ident, Number};
+use nk_lex::{Ident, Number, Quad};
 use std::alloc::AllocError;
 use thiserror::Error;
 

@@ -4,8 +4,7 @@ ghost use Rattle.nk_grammar.specs.FileMachine.{name_in};
 ghost use Rattle.nk_grammar.specs.Machine.{number_in, quad_step};
 ghost use Rattle.nk_grammar.specs.Terminal.{is_link_sign, is_colon_terminal, is_dots, terminal_of};
 
-use crate::place::{Quad, QuadNext};
-use nk_lex::{Ident, Kind, Number, Token, ident_of};
+use nk_lex::{Ident, Kind, Number, Quad, QuadNext, Token, ident_of};
 use std::alloc::{AllocError, Global};
 
 /// The number that a token is, if it is one.

@@ -49,8 +49,8 @@ use crate::ast::Ast;
 use crate::build::{join, push_last, push_term, sequence, star_last, sum};
 use crate::frame::{Frame, close_negations, is_enclosed};
 use crate::parts::{is_dots_token, number_of, quad_after};
-use crate::place::{Place, Quad, QuadNext};
-use nk_lex::{Ident, Kind, Number, Token, ident_of};
+use crate::place::Place;
+use nk_lex::{Ident, Kind, Number, Quad, QuadNext, Token, ident_of};
 use std::alloc::{AllocError, AllocFailed, Global};
 use std::mem::replace;
 

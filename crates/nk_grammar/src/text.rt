@@ -41,10 +41,9 @@ ghost use Rattle.nk_grammar.specs.Tree.{tree_of};
 use crate::ast::Ast;
 use crate::decl::{Decl, GrammarError, LinkKeyword, Naming, PolicyKeyword, Stage};
 use crate::parts::{name_of, number_of, quad_after};
-use crate::place::{Quad, QuadNext};
 use crate::reader::PolicyReader;
 use nk_field::List;
-use nk_lex::{Ident, Kind, Number, Token};
+use nk_lex::{Ident, Kind, Number, Quad, QuadNext, Token};
 use std::alloc::{AllocError, AllocFailed, Global};
 use std::mem::replace;
 

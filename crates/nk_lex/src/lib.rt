@@ -17,6 +17,7 @@ mod kind;
 mod laws;
 mod lexemes;
 mod piece_laws;
+mod quad;
 mod settling;
 mod token;
 mod unfinished;
@@ -32,4 +33,5 @@ pub use laws::{
 };
 pub use lexemes::tokens;
 pub use piece_laws::{a_fault_stays, complete_tokens_stay};
+pub use quad::{Quad, QuadNext};
 pub use token::{LARGEST, LexError, Token};

@@ -16,7 +16,7 @@ use Rattle.nk_tabgrammar.specs.declared.written.WrittenTarget.TheVariants as tar
 use Rattle.nk_tabgrammar.specs.declared.written.WrittenGroup.{WrittenGroup}
 use Rattle.nk_tabgrammar.specs.declared.written.WrittenTable.{WrittenTable}
 use Rattle.nk_tabgrammar.specs.declared.written.WrittenTables.{WrittenTables}
-use Rattle.nk_tabgrammar.specs.declared.stage.Quad.TheVariants as quad
+use Rattle.nk_lex.specs.declared.quad.Quad.TheVariants as quad
 use Rattle.nk_tabgrammar.specs.declared.stage.Place.TheVariants as place
 use Rattle.nk_tabgrammar.specs.declared.stage.Owner.{Owner}
 use Rattle.nk_tabgrammar.specs.declared.stage.Owner.TheVariants as owner

@@ -19,10 +19,10 @@ use Rattle.nk_tabgrammar.specs.declared.written.WrittenTable.{WrittenTable}
 use Rattle.nk_tabgrammar.specs.declared.written.WrittenTables.{WrittenTables}
 use Rattle.nk_tabgrammar.specs.declared.written.ReadError.{ReadError}
 use Rattle.nk_tabgrammar.specs.declared.written.ReadError.TheVariants as error
-use Rattle.nk_tabgrammar.specs.declared.stage.Quad.{Quad}
-use Rattle.nk_tabgrammar.specs.declared.stage.Quad.TheVariants as quad
-use Rattle.nk_tabgrammar.specs.declared.stage.QuadNext.{QuadNext}
-use Rattle.nk_tabgrammar.specs.declared.stage.QuadNext.TheVariants as next
+use Rattle.nk_lex.specs.declared.quad.Quad.{Quad}
+use Rattle.nk_lex.specs.declared.quad.Quad.TheVariants as quad
+use Rattle.nk_lex.specs.declared.quad.QuadNext.{QuadNext}
+use Rattle.nk_lex.specs.declared.quad.QuadNext.TheVariants as next
 use Rattle.nk_tabgrammar.specs.declared.stage.Place.{Place}
 use Rattle.nk_tabgrammar.specs.declared.stage.Place.TheVariants as place
 use Rattle.nk_tabgrammar.specs.declared.stage.PlaceNext.{PlaceNext}

@@ -13,8 +13,8 @@ use Rattle.nk_tabgrammar.specs.declared.states.State.{State}
 use Rattle.nk_tabgrammar.specs.declared.states.State.TheVariants as state
 use Rattle.nk_tabgrammar.specs.declared.states.Tells.{Tells}
 use Rattle.nk_tabgrammar.specs.declared.states.Tells.TheVariants as tells
-use Rattle.nk_tabgrammar.specs.declared.stage.Quad.{Quad}
-use Rattle.nk_tabgrammar.specs.declared.stage.Quad.TheVariants as quad
+use Rattle.nk_lex.specs.declared.quad.Quad.{Quad}
+use Rattle.nk_lex.specs.declared.quad.Quad.TheVariants as quad
 use Rattle.nk_tabgrammar.specs.declared.stage.Place.{Place}
 use Rattle.nk_tabgrammar.specs.declared.stage.Place.TheVariants as place
 use Rattle.nk_tabgrammar.specs.declared.stage.Owner.{Owner}

@@ -3,37 +3,7 @@
 //! Types of the specifications (`next_reading`, `FollowStages`): programs go by `State`, which keeps nothing.
 use crate::written::{Pair, Way, WrittenBucket, WrittenGroup, WrittenMatch};
 use nk_field::List;
-use nk_lex::{Ident, Number};
-
-/// How much of `NUMBER : NUMBER -> NUMBER : NUMBER` stands there.
-#[derive(Clone, Copy)]
-pub enum Quad {
-    /// Nothing yet.
-    Start,
-    /// The source's switch.
-    Switch(Number),
-    /// The source's switch and the colon.
-    SwitchColon(Number),
-    /// The source.
-    Port(Number, Number),
-    /// The source and the arrow.
-    Arrow(Number, Number),
-    /// The source and the target's switch.
-    ToSwitch(Number, Number, Number),
-    /// The source, the target's switch and the colon.
-    ToColon(Number, Number, Number),
-}
-
-/// What one more token makes of a part of a link.
-#[derive(Clone, Copy)]
-pub enum QuadNext {
-    /// No link can continue with it.
-    Refused,
-    /// The link isn't complete yet.
-    Going(Quad),
-    /// The link is complete: switch and port of the source, then of the target.
-    Full(Number, Number, Number, Number),
-}
+use nk_lex::{Ident, Number, Quad};
 
 /// How much of a bucket stands there, the bracket at least.
 pub enum Place {

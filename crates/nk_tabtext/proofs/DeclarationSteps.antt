@@ -20,9 +20,9 @@ use Rattle.nk_tabgrammar.specs.declared.written.Declaration.TheVariants as decla
 use Rattle.nk_tabgrammar.specs.declared.written.WrittenTable.{WrittenTable}
 use Rattle.nk_tabgrammar.specs.declared.written.WrittenTables.{WrittenTables}
 use Rattle.nk_tabgrammar.specs.declared.written.ReadError.{ReadError}
-use Rattle.nk_tabgrammar.specs.declared.stage.Quad.{Quad}
-use Rattle.nk_tabgrammar.specs.declared.stage.Quad.TheVariants as quad
-use Rattle.nk_tabgrammar.specs.declared.stage.QuadNext.TheVariants as next
+use Rattle.nk_lex.specs.declared.quad.Quad.{Quad}
+use Rattle.nk_lex.specs.declared.quad.Quad.TheVariants as quad
+use Rattle.nk_lex.specs.declared.quad.QuadNext.TheVariants as next
 use Rattle.nk_tabgrammar.specs.declared.stage.Stage.TheVariants as stage
 use Rattle.nk_tabgrammar.specs.declared.stage.Declaring.TheVariants as declaring
 use Rattle.nk_tabgrammar.specs.Terminal.{mark, kind_place, table_terminal_of}
