@@ -233,7 +233,7 @@ fn exit(out: &mut Vec<u8>, e: &Exit) -> Result<(), AllocError>
             Ok(())
         }
         Exit::Port(n) => {
-            short::out_word(out)?;
+            short::piece(out, b"out ")?;
             number(out, *n as u64)
         }
     }
@@ -260,12 +260,12 @@ fn target(out: &mut Vec<u8>, fs: &Fields, t: &Target) -> Result<(), AllocError>
 fn row(out: &mut Vec<u8>, fs: &Fields, r: &Row) -> Result<(), AllocError>
     ensures { OnOk result (out.new.items ≡ out.old.items ++ row_text fs.now r.now) }
 {
-    short::row_word(out)?;
+    short::piece(out, b"row ")?;
     number(out, r.priority as u64)?;
-    short::colon(out)?;
+    short::piece(out, b" : ")?;
     some_matches(out, fs, r.matches.as_slice(), true)?;
     some_matches(out, fs, r.matches.as_slice(), false)?;
-    short::arrow(out)?;
+    short::piece(out, b"-> ")?;
     target(out, fs, &r.target)?;
     out.push(b'\n')?;
     Ok(())
@@ -281,11 +281,11 @@ pub(crate) fn row_line(
 ) -> Result<(), AllocError>
     ensures { OnOk result (out.new.items ≡ out.old.items ++ row_line_text priority matches.now (target_text fs.now what.now)) }
 {
-    short::row_word(out)?;
+    short::piece(out, b"row ")?;
     number(out, priority as u64)?;
-    short::colon(out)?;
+    short::piece(out, b" : ")?;
     out.extend_from_slice(matches)?;
-    short::arrow(out)?;
+    short::piece(out, b"-> ")?;
     target(out, fs, what)?;
     out.push(b'\n')?;
     Ok(())
