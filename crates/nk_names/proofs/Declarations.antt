@@ -7,6 +7,7 @@ use Rattle.nk_lex.specs.declared.ident.Ident.{Ident}
 use Rattle.nk_lex.specs.declared.ident.Number.{Number}
 use Rattle.nk_declare.proofs.Checks.{none_both}
 use Rattle.nk_grammar.specs.Tree.{Tree}
+use Rattle.nk_declare.specs.declared.fault.DeclareFault.TheVariants as fault
 use Rattle.nk_names.specs.declared.fault.FaultKind.{FaultKind}
 use Rattle.nk_names.specs.declared.fault.FaultKind.TheVariants as kind
 use Rattle.nk_names.specs.Meant.{Lets, text_fault_if, value_above, policy_for, unknown_in, misplaced_in}
@@ -23,7 +24,7 @@ at_most m n h = grind (arith, h)
 
 -- a number that isn't above a bound is at most it
 pub in_bound : (most : ℕ) (n : Number) → value_above most n ≡ None → n.value ≤ most
-in_bound most n h = at_most most n.value (not_wrong (nat_lt most n.value) kind.ValueOutOfRange n.line h)
+in_bound most n h = at_most most n.value (not_wrong (nat_lt most n.value) (kind.Declared fault.ValueOutOfRange) n.line h)
 
 -- what is known of a policy that has no fault
 pub record IsFaultless (fields : FieldTable) (lets : Lets) (w : Ident) (t : Tree) : Type 0 where

@@ -18,6 +18,7 @@ use Rattle.nk_grammar.specs.Grammar.{Pol, Term, one_term, plus, one_factor, semi
 use Rattle.nk_grammar.specs.Nesting.{nesting_of_pol, nesting_of_term, nesting_of_factor, nesting_of_atom}
 use Rattle.nk_grammar.specs.Text.{lexemes_of_let, IsWordOn, IsNumberOn, IsPolOn, IsTermOn, IsFactorOn, IsAtomOn, ReadsLetTexts}
 use Rattle.nk_grammar.specs.File.{definition}
+use Rattle.nk_declare.specs.declared.fault.DeclareFault.TheVariants as fault
 use Rattle.nk_names.specs.declared.fault.FaultKind.{FaultKind}
 use Rattle.nk_names.specs.declared.fault.FaultKind.TheVariants as kind
 use Rattle.nk_names.specs.Complements.{NegatesPredicates, AllNegatePredicates}
@@ -260,7 +261,7 @@ no_fault b k line e = ap (λ c. text_fault_if c k line) e
 
 -- a number that is in range
 not_above : (most : ℕ) (n : Number) → n.value ≤ most → value_above most n ≡ None
-not_above most n le = no_fault (nat_lt most n.value) kind.ValueOutOfRange n.line (test_fails most n.value le)
+not_above most n le = no_fault (nat_lt most n.value) (kind.Declared fault.ValueOutOfRange) n.line (test_fails most n.value le)
   where
     test_fails : (m k : ℕ) → k ≤ m → nat_lt m k ≡ false
     test_fails m k le = grind (arith, nat_tests)

@@ -10,6 +10,7 @@ use Rattle.nk_lex.specs.declared.ident.Number.{Number}
 use Rattle.nk_lex.specs.Faults.{first_of}
 pub use Rattle.nk_declare.specs.Declarations.{place_of_field, most_in}
 use Rattle.nk_grammar.specs.Tree.{Tree, Trees, name_of, test, range, assign, sum_of, seq_of, not_of, star_of, dup, link, no_part, part}
+use Rattle.nk_declare.specs.declared.fault.DeclareFault.TheVariants as fault
 use Rattle.nk_names.specs.declared.fault.FaultKind.{FaultKind}
 use Rattle.nk_names.specs.declared.fault.FaultKind.TheVariants as kind
 use Rattle.nk_names.specs.declared.fault.NamesError.{NamesError}
@@ -34,7 +35,7 @@ text_fault_if wrong k line = if wrong then Some (Fault k line) else None
 
 -- a number above a bound
 abbrev pub value_above : ℕ → Number → MaybeTextFault
-value_above most n = text_fault_if (nat_lt most n.value) kind.ValueOutOfRange n.line
+value_above most n = text_fault_if (nat_lt most n.value) (kind.Declared fault.ValueOutOfRange) n.line
 
 -- the four numbers of a link, which are a switch and a port, twice
 abbrev pub literal_ends : Number → Number → Number → Number → MaybeTextFault

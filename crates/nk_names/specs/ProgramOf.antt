@@ -8,8 +8,6 @@ use Rattle.nk_policy.specs.Policy.{Policy, depth_of, size_of, is_predicate, mark
 use Rattle.nk_lex.specs.declared.ident.Ident.{Ident}
 use Rattle.nk_lex.specs.declared.ident.Number.{Number}
 use Rattle.nk_lex.specs.Faults.{and_then, first_of, unless}
-use Rattle.nk_declare.specs.declared.fault.DeclareFault.{DeclareFault}
-use Rattle.nk_declare.specs.declared.fault.DeclareFault.TheVariants as wrong
 use Rattle.nk_declare.specs.declared.fault.DeclareError.{DeclareError}
 use Rattle.nk_declare.specs.declared.fault.DeclareError.TheVariants as refused
 use Rattle.nk_declare.specs.Declarations.{DeclaredValue, declared_with, link_fault, link_with}
@@ -37,23 +35,10 @@ pub record DeclaredProgram : Type 0 where
 abbrev pub empty_program : DeclaredProgram
 empty_program = record { fields = built_in; topo = no_topology; lets = []; fabrics = []; virtuals = [] }
 
--- what is wrong with a declaration, as a program's fault
-abbrev pub kind_of : DeclareFault → FaultKind
-kind_of wrong.FieldTwice = kind.FieldTwice
-kind_of wrong.TooManyFields = kind.TooManyFields
-kind_of wrong.TagTwice = kind.TagTwice
-kind_of wrong.TagUnknown = kind.TagUnknown
-kind_of wrong.SwitchTwice = kind.SwitchTwice
-kind_of wrong.PortTwice = kind.PortTwice
-kind_of wrong.NoSuchPort = kind.NoSuchPort
-kind_of wrong.SourceTwice = kind.SourceTwice
-kind_of wrong.TargetTwice = kind.TargetTwice
-kind_of wrong.ValueOutOfRange = kind.ValueOutOfRange
-
 -- a declaration's fault as a program's
 abbrev pub text_fault_of : DeclareError → NamesError
 text_fault_of refused.NoMemory = NoMemory
-text_fault_of (refused.Fault k line) = Fault (kind_of k) line
+text_fault_of (refused.Fault k line) = Fault (kind.Declared k) line
 
 -- A policy that is given a name: the name is none of those taken; then the policy's names and numbers, then its complements,
 -- then its depth, then its size.

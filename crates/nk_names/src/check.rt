@@ -6,7 +6,7 @@ ghost use Rattle.nk_names.specs.Meant.{text_fault_if, value_above, no_value, no_
 
 use crate::fault::{FaultKind, NamesError};
 use crate::lets::Lets;
-use nk_declare::field_with;
+use nk_declare::{DeclareFault, field_with};
 use nk_field::Fields;
 use nk_grammar::Ast;
 use nk_lex::{Ident, Number};
@@ -32,7 +32,7 @@ pub(crate) fn fault_if(wrong: bool, kind: FaultKind, line: u64) -> Option<NamesE
 fn above(most: u64, n: Number) -> Option<NamesError>
     ensures { result ≡ value_above most n }
 {
-    fault_if(most < n.value, FaultKind::ValueOutOfRange, n.line)
+    fault_if(most < n.value, FaultKind::Declared(DeclareFault::ValueOutOfRange), n.line)
 }
 
 /// The first number of a link that no switch and no port has.

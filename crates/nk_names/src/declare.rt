@@ -3,7 +3,7 @@ ghost use Rattle.std.specs.Prelude.{◌≡◌, None, Some, MatchResult, IfOk, On
 ghost use Rattle.nk_declare.specs.Declarations.{link_fault};
 ghost use Rattle.nk_grammar.specs.File.{declaration_of, field, tag, switch, declared_link, definition, fabric, virtual_link};
 ghost use Rattle.nk_grammar.specs.Tree.{tree_of};
-ghost use Rattle.nk_names.specs.ProgramOf.{NamesReturns, kind_of, text_fault_of, program_of_names, program_declaring, empty_program, named_fault, virtual_topology};
+ghost use Rattle.nk_names.specs.ProgramOf.{NamesReturns, text_fault_of, program_of_names, program_declaring, empty_program, named_fault, virtual_topology};
 
 use crate::build::{place_of, shared_of};
 use crate::check::{depth, fault_if, first_above, first_misplaced, first_unknown, size};
@@ -70,31 +70,13 @@ fn check_ends(names: &Names, a: Number, m: Number, b: Number, n: Number) -> Resu
     let (from_switch, from_port) = (place_of(a), place_of(m));
     let (to_switch, to_port) = (place_of(b), place_of(n));
     let missing = !topo.is_port(from_switch, from_port);
-    refuse(fault_if(missing, FaultKind::NoSuchPort, m.line))?;
+    refuse(fault_if(missing, FaultKind::Declared(DeclareFault::NoSuchPort), m.line))?;
     let missing = !topo.is_port(to_switch, to_port);
-    refuse(fault_if(missing, FaultKind::NoSuchPort, n.line))?;
+    refuse(fault_if(missing, FaultKind::Declared(DeclareFault::NoSuchPort), n.line))?;
     let twice = names.virtuals.is_source(from_switch, from_port);
-    refuse(fault_if(twice, FaultKind::SourceTwice, m.line))?;
+    refuse(fault_if(twice, FaultKind::Declared(DeclareFault::SourceTwice), m.line))?;
     let twice = names.virtuals.is_target(to_switch, to_port);
-    refuse(fault_if(twice, FaultKind::TargetTwice, n.line))
-}
-
-/// What is wrong with a declaration, as a program's fault.
-fn kind_of(fault: DeclareFault) -> FaultKind
-    ensures { result ≡ kind_of fault }
-{
-    match fault {
-        DeclareFault::FieldTwice => FaultKind::FieldTwice,
-        DeclareFault::TooManyFields => FaultKind::TooManyFields,
-        DeclareFault::TagTwice => FaultKind::TagTwice,
-        DeclareFault::TagUnknown => FaultKind::TagUnknown,
-        DeclareFault::SwitchTwice => FaultKind::SwitchTwice,
-        DeclareFault::PortTwice => FaultKind::PortTwice,
-        DeclareFault::NoSuchPort => FaultKind::NoSuchPort,
-        DeclareFault::SourceTwice => FaultKind::SourceTwice,
-        DeclareFault::TargetTwice => FaultKind::TargetTwice,
-        DeclareFault::ValueOutOfRange => FaultKind::ValueOutOfRange,
-    }
+    refuse(fault_if(twice, FaultKind::Declared(DeclareFault::TargetTwice), n.line))
 }
 
 /// A declaration's fault as a program's.
@@ -104,7 +86,7 @@ fn fault_of(error: DeclareError) -> NamesError
     match error {
         DeclareError::NoMemory => NamesError::NoMemory,
         DeclareError::Fault { kind, line } => NamesError::Fault {
-            kind: kind_of(kind),
+            kind: FaultKind::Declared(kind),
             line,
         },
     }

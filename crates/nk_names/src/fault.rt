@@ -2,39 +2,22 @@
 ghost use Rattle.std.specs.Prelude.{◌≡◌};
 ghost use Rattle.nk_names.specs.declared.fault.NamesError.TheVariants.{NoMemory};
 
+use nk_declare::DeclareFault;
 use std::alloc::AllocError;
 use thiserror::Error;
 
-/// What is wrong with a declaration.
+/// What is wrong with a text.
 #[derive(Clone, Copy, Debug, PartialEq, Eq, Error)]
 #[error("{}", self.message())]
 pub enum FaultKind {
-    /// A field has the name already; the switch is `sw` and the port `pt`.
-    FieldTwice,
-    /// Sixteen fields are declared already.
-    TooManyFields,
-    /// A tag is declared already.
-    TagTwice,
-    /// The tag is no field declared above.
-    TagUnknown,
-    /// The switch is declared already.
-    SwitchTwice,
-    /// The port stands before in the same declaration.
-    PortTwice,
-    /// An end of a link is no declared port.
-    NoSuchPort,
-    /// A link begins at the port already.
-    SourceTwice,
-    /// A link leads to the port already.
-    TargetTwice,
+    /// A declaration or a number has a fault that texts of tables may have too.
+    Declared(DeclareFault),
     /// A policy has the name already.
     LetTwice,
     /// No policy above has the name.
     UnknownName,
     /// No field above has the name.
     UnknownField,
-    /// A number is above the largest value of its field, or above 65,535 for switches and ports.
-    ValueOutOfRange,
     /// A `~` stands over what is no predicate.
     NotAPredicate,
     /// A policy is more than 256 deep when its names are written out.
