@@ -12,8 +12,6 @@ pub mod Regroupings
 pub mod Finals
 pub mod InPlace
 pub mod Followed
-pub mod PlainSteps
-pub mod ByActs
 pub mod Below
 pub mod Withouts
 pub mod Collected
@@ -24,4 +22,3 @@ pub mod Cut
 pub mod Fields
 pub mod Naming
 pub mod Sending
-pub mod Plains

@@ -2,10 +2,7 @@ pub mod Exact
 pub mod Targets
 pub mod Sets
 pub mod Branches
-pub mod Plain
-pub mod AllPlain
 pub mod States
-pub mod ByAct
 pub mod Unchanged
 pub mod Reach
 pub mod Pairs

@@ -4,19 +4,15 @@
 
 mod assigned;
 mod branches;
-mod by_act;
 mod changing;
 mod levels;
-mod plain;
 mod sets;
 mod splits;
 mod states;
-mod steps;
 mod targets;
 
 pub use levels::Levels;
 pub use sets::{SetId, Sets};
 pub use splits::{mean_same, split};
-pub use states::{state, state_of, states_at};
-pub use steps::steps_of;
+pub use states::{regroup, state, state_at, state_of, states_at};
 pub use targets::retarget;

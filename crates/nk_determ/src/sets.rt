@@ -127,7 +127,7 @@ impl Sets {
 
     /// The number of the set with these labels, which is put in where it isn't there. It is their first place, whatever sets
     /// come later.
-    pub(crate) fn put(&mut self, labels: List<u64>) -> Result<SetId, AllocError>
+    pub fn put(&mut self, labels: List<u64>) -> Result<SetId, AllocError>
         requires { IsStrictlyIncreasing labels }
         ensures grows { SetsGrow self.old self.new }
         ensures is { IfOk result (λ i. (later : Items (Items ℕ)) → SetsGrow self.new later → i ≡ place_in later labels) }

@@ -72,7 +72,7 @@ pub fn states_at(alloc: Global, states: &[Id], labels: &[u64]) -> Result<List<Id
 }
 
 /// The state at a place.
-fn state_at(states: &[Id], place: u64) -> Id
+pub fn state_at(states: &[Id], place: u64) -> Id
     requires { place < length states.now }
     ensures { result ≡ slice_index states.now place }
 {
@@ -151,7 +151,7 @@ fn split_all(st: &mut Store, diagrams: &[Id]) -> Result<List<Id>, AllocError>
 }
 
 /// The diagram with the outs of each act to the set of all labels of the act. Each node is visited once.
-pub(crate) fn regroup(st: &mut Store, ss: &mut Sets, d: Id) -> Result<Id, AllocError>
+pub fn regroup(st: &mut Store, ss: &mut Sets, d: Id) -> Result<Id, AllocError>
     requires { IsId st.old d }
     ensures grows { Grows st.old st.new }
     ensures sets { SetsGrow ss.old ss.new }

@@ -1,11 +1,5 @@
 -- Diagrams put together in any order and number.
 use Rattle.std.proofs.Common.{◌≡◌, ℕ, zero, suc, ◌<◌, ◌≤◌, ◌+◌, ◌↔◌, eqb, inl, inr, sym, ◌∙◌, subst, arith, List, length, get_or, Contains}
-use Rattle.std.specs.Ordering.{nat_cmp}
-use Rattle.std.specs.List.{dedup}
-use Rattle.std.specs.List.Sorted.{IsPermutation, IsSorted, IsStrictlyIncreasing}
-use Rattle.std.proofs.lemmas.List.Kept.{Contains-dedup_nat, Contains-from_dedup}
-use Rattle.std.proofs.lemmas.List.Sorted.{Contains-permutation, IsPermutation-sym}
-use Rattle.std.proofs.lemmas.Map.Keys.{IsStrictlyIncreasing-dedup}
 use Rattle.std.proofs.lemmas.Bool.Decides.{eqb_tells}
 use Rattle.nk_store.specs.declared.node.Out.{Out}
 use Rattle.nk_store.specs.Leaves.{Strict}
@@ -14,18 +8,6 @@ use Rattle.nk_apply.specs.Unions.{AreIds, unions}
 use Rattle.nk_apply.proofs.Sorted.{merged_strict}
 use Rattle.nk_apply.proofs.Members.{Has, merged_left, merged_right, merged_has, strict_same}
 use Rattle.nk_outs.proofs.Kept.{get_or_same}
-
--- numbers that were sorted and whose doubles were dropped are the same ones
-pub once_members : (ds all r : List ℕ) → IsPermutation ds all → r ≡ dedup eqb all → (d : ℕ) → Contains r d ↔ Contains ds d
-once_members ds all r moved is d =
-    subst (λ (xs : List ℕ). Contains xs d ↔ Contains ds d) (sym is) (
-      λ h. Contains-permutation all ds d (IsPermutation-sym ds all moved) (Contains-from_dedup eqb all d h),
-      λ h. Contains-dedup_nat all d (Contains-permutation ds all d moved h),
-    )
-
--- and each is there once
-pub once_rises : (all r : List ℕ) → IsSorted nat_cmp all → r ≡ dedup eqb all → IsStrictlyIncreasing r
-once_rises all r rising is = subst (λ xs. IsStrictlyIncreasing xs) (sym is) (IsStrictlyIncreasing-dedup all rising)
 
 -- among diagrams of the store are diagrams of the store
 pub ids_alike : (st : StoreState) (xs ys : List ℕ) → ((d : ℕ) → Contains xs d → Contains ys d) → AreIds st ys → AreIds st xs

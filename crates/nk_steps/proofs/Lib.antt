@@ -1,3 +1,6 @@
+pub mod PlainSteps
+pub mod ByActs
+pub mod Plains
 pub mod Cutting
 pub mod SingleLeaves
 pub mod SingleParts

@@ -1,2 +1,5 @@
+pub mod Plain
+pub mod AllPlain
+pub mod ByAct
 pub mod Local
 pub mod Single

@@ -11,7 +11,7 @@ ghost use Rattle.nk_determ.specs.Pairs.{AreStates, AreLabelsBelow};
 ghost use Rattle.nk_steps.specs.Local.{IsStateAt};
 
 use crate::together::steps_together;
-use nk_determ::{SetId, Sets, states_at};
+use nk_determ::{SetId, Sets, state_at, states_at};
 use nk_field::{Fid, List};
 use nk_sets::at_packets;
 use nk_store::{Id, Node, Out, Store};
@@ -50,7 +50,7 @@ fn go_together(st: &Store, states: &[Id], labels: &[u64]) -> bool
 {
     let mut fields = 0;
     for l in labels {
-        match fields_in_all(st, state_in(states, *l), fields) {
+        match fields_in_all(st, state_at(states, *l), fields) {
             Some(same) => fields = same,
             None => return false,
         }
@@ -149,18 +149,10 @@ fn cut_states(st: &mut Store, states: &[Id], labels: &[u64], x: Id) -> Result<Li
 {
     let mut ds = List::with_capacity(st.alloc(), labels.len())?;
     for l in labels {
-        let d = at_packets(st, x, state_in(states, *l))?;
+        let d = at_packets(st, x, state_at(states, *l))?;
         ds.push(d)?;
     }
     Ok(ds)
-}
-
-/// The state at a label.
-fn state_in(states: &[Id], label: u64) -> Id
-    requires { label < length states.now }
-    ensures { result ≡ slice_index states.now label }
-{
-    states[label as usize]
 }
 
 /// The diagrams in order, each once.

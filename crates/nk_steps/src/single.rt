@@ -1,6 +1,6 @@
 //! The steps of a diagram whose leaves have one label each at most.
-ghost use Rattle.std.specs.Prelude.{◌≡◌, ℕ, ◌+◌, ◌<◌, ◌≤◌, ◌++◌, ◌||◌, true, eqb, [], ◌∷◌, List as Items, IfOk, IfSome, OnOk};
-ghost use Rattle.std.specs.List.{flat_map, list_all};
+ghost use Rattle.std.specs.Prelude.{◌≡◌, ℕ, ◌+◌, ◌<◌, ◌≤◌, ◌++◌, true, [], ◌∷◌, List as Items, IfOk, IfSome, OnOk};
+ghost use Rattle.std.specs.List.{flat_map};
 ghost use Rattle.nk_store.specs.StoreState.{IsId, IsStorePacket, root_field, Grows};
 ghost use Rattle.nk_apply.specs.Cofactors.{IsSplit};
 ghost use Rattle.nk_determ.specs.Exact.{Sends};
@@ -8,6 +8,7 @@ ghost use Rattle.nk_determ.specs.Sets.{SetsGrow, holds, place_in};
 ghost use Rattle.nk_determ.specs.States.{SomeLeads, AreLedTo};
 ghost use Rattle.nk_steps.specs.Single.{step_to, first_label, AreSteps, AreLeafSteps, IsSingle, AreSingle, AreSingleBy};
 
+use crate::plain::have_label;
 use nk_apply::{known, part_near, tested};
 use nk_determ::Sets;
 use nk_field::{Fid, List};
@@ -178,7 +179,7 @@ fn outs_single(alloc: Global, ss: &mut Sets, outs: &[Out]) -> Result<Option<List
     ensures ok { IfOk result (λ o. IfSome o (λ r. AreSteps ss.new outs.now r)) }
 {
     let label = label_in(outs);
-    if !is_only(outs, label) {
+    if !have_label(outs, label) {
         return Ok(None);
     }
     if label == 0 {
@@ -201,13 +202,6 @@ fn label_in(outs: &[Out]) -> u64
     0
 }
 
-/// Whether each out is a final or has that label.
-fn is_only(outs: &[Out], label: u64) -> bool
-    ensures { result ≡ list_all (λ o. eqb o.target 0 || eqb o.target label) outs.now }
-{
-    outs.iter().all(|o| o.target == 0 || o.target == label)
-}
-
 /// The target of the set of a label alone, which is put in where it isn't there.
 fn target_single(alloc: Global, ss: &mut Sets, label: u64) -> Result<u64, AllocError>
     ensures sets { SetsGrow ss.old ss.new }
@@ -216,9 +210,7 @@ fn target_single(alloc: Global, ss: &mut Sets, label: u64) -> Result<u64, AllocE
 {
     let mut labels = List::with_capacity(alloc, 1)?;
     labels.push(label)?;
-    let s = ss.intern(labels)?;
-    ss.differ();
-    let _count = ss.len();
+    let s = ss.put(labels)?;
     Ok(s.target())
 }
 

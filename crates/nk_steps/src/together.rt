@@ -7,7 +7,8 @@ ghost use Rattle.nk_determ.specs.Sets.{SetsGrow};
 ghost use Rattle.nk_determ.specs.States.{SomeLeads, AreLedTo};
 
 use crate::single::steps_single;
-use nk_determ::{Sets, steps_of};
+use crate::steps::steps_of;
+use nk_determ::Sets;
 use nk_store::{Id, Store};
 use std::alloc::AllocError;
 

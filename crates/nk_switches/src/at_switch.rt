@@ -7,7 +7,7 @@ ghost use Rattle.nk_determ.specs.States.{HaveEach};
 ghost use Rattle.nk_switches.specs.States.{IsStateAtSwitch};
 
 use nk_apply::restrict;
-use nk_determ::{Sets, state_of};
+use nk_determ::{Sets, state_at, state_of};
 use nk_field::{Fid, List};
 use nk_store::{Id, Store};
 use std::alloc::AllocError;
@@ -48,16 +48,8 @@ fn cut_states(
 {
     let mut ds = List::new(st.alloc());
     for l in members {
-        let d = restrict(st, state_in(states, *l), Fid::SWITCH, sw as u64)?;
+        let d = restrict(st, state_at(states, *l), Fid::SWITCH, sw as u64)?;
         ds.push(d)?;
     }
     Ok(ds)
-}
-
-/// The state at a place.
-fn state_in(states: &[Id], place: u64) -> Id
-    requires { place < length states.now }
-    ensures { result ≡ slice_index states.now place }
-{
-    states[place as usize]
 }

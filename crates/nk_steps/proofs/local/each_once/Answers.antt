@@ -1,12 +1,12 @@
 use Rattle.std.proofs.Common.{◌∙◌, eqb}
 use Rattle.std.proofs.lemmas.List.Filters.{dedup_is}
-use Rattle.nk_steps.proofs.Alike.{once_members, once_rises}
+use Rattle.nk_steps.proofs.ByActs.{sorted_members, sorted_rise}
 use Rattle.nk_steps.proofs.local.each_once.Goals as goal
 
 pub returns-clause-members : goal.returns-clause-members
 returns-clause-members c =
-    once_members c.args.ds c.sort_unstable.new.self.items c.from_vec.result (rw c.into_vec-all.ensures at c.sort_unstable.ensures.permutation)
+    sorted_members c.args.ds c.sort_unstable.new.self.items c.from_vec.result (rw c.into_vec-all.ensures at c.sort_unstable.ensures.permutation)
     (c.from_vec.ensures ∙ dedup_is eqb _ _ c.dedup.ensures.filtered)
 
 pub returns-clause-once : goal.returns-clause-once
-returns-clause-once c = once_rises c.sort_unstable.new.self.items c.from_vec.result c.sort_unstable.ensures.sorted (c.from_vec.ensures ∙ dedup_is eqb _ _ c.dedup.ensures.filtered)
+returns-clause-once c = sorted_rise c.sort_unstable.new.self.items c.from_vec.result c.sort_unstable.ensures.sorted (c.from_vec.ensures ∙ dedup_is eqb _ _ c.dedup.ensures.filtered)
