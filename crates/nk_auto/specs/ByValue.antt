@@ -2,13 +2,13 @@
 -- field's values and the diagram of what is done there (Dijkstra, CACM 1975: a guarded command).
 use Rattle.std.specs.Prelude.{◌≡◌, ℕ, ◌↔◌, true, cond, List, [], ◌∷◌, slice_index}
 use Rattle.std.specs.List.{Contains}
-use Rattle.nk_policy.specs.Policy.{Policy}
+use Rattle.nk_policy.specs.Policy.{Policy, assign}
 use Rattle.nk_policy.specs.Meaning.{Gives}
 use Rattle.nk_store.specs.declared.node.Out.{Out}
 use Rattle.nk_store.specs.StoreState.{StoreState, IsChild, IsStorePacket, look}
 use Rattle.nk_apply.specs.Predicates.{HasOnlyFinals}
 use Rattle.nk_auto.specs.Plain.{Sends}
-use Rattle.nk_auto.specs.Continued.{IsFit}
+use Rattle.nk_auto.specs.Continued.{IsFit, IsSilent}
 use Rattle.nk_auto.specs.Values.{is_between}
 
 -- the leaf of the first arm whose interval holds the value, else nothing
@@ -42,3 +42,7 @@ pub record AreArms (st : StoreState) (f : ℕ) (xs : List ((ℕ × ℕ) × ℕ))
 abbrev pub HaveOwnValues : StoreState → List ((ℕ × ℕ) × ℕ) → Type 0
 HaveOwnValues st xs = (x : (ℕ × ℕ) × ℕ) → Contains xs x → (v : ℕ) (pk : List ℕ) → is_between v x.0 ≡ true →
     arm_leaf st xs v pk ≡ look st x.1 pk
+
+-- each diagram is that of the assignment beside it
+abbrev pub AreAssignments : StoreState → List ((ℕ × ℕ) × ℕ) → Type 0
+AreAssignments st xs = (x : (ℕ × ℕ) × ℕ) → Contains xs x → IsSilent st x.1 (assign x.0.0 x.0.1)

@@ -2,6 +2,7 @@
 //! next record.
 #![tactic(auto)]
 
+mod assignments;
 mod by_parts;
 mod by_value;
 mod going_on;

@@ -6,8 +6,9 @@ ghost use Rattle.nk_store.specs.StoreState.{IsId, look, Grows, HasLeaves};
 ghost use Rattle.nk_apply.specs.Predicates.{HasOnlyFinals, IsPredicate};
 ghost use Rattle.nk_apply.specs.Seqs.{seq_leaf};
 ghost use Rattle.nk_auto.specs.Continued.{IsSilent};
-ghost use Rattle.nk_auto.specs.ByValue.{IsArm, AreArms};
+ghost use Rattle.nk_auto.specs.ByValue.{IsArm, AreArms, AreAssignments};
 
+use crate::assignments::{assignment_after, drawn_once};
 use crate::by_value::{choice_between, common_field, is_behind};
 use crate::one_field::{range_where, set_where, test_where};
 use crate::values::{tested_value, tests_of_sum, tests_together};
@@ -158,10 +159,11 @@ fn arms_of(st: &mut Store, f: Fid, ps: &[Pol]) -> Result<Option<List<((u64, u64)
     ensures ok { IfOk result (λ o. IfSome o (λ arms. AreArms st.new f arms (sum_of (trees_of ps.now)))) }
 {
     let mut found = List::with_capacity(st.alloc(), ps.len())?;
+    let mut drawn = List::new(st.alloc());
     let mut i = ps.len();
     while i > 0 {
         i -= 1;
-        let Some(one) = arm_of(st, f, &ps[i])? else {
+        let Some(one) = arm_of(st, f, &ps[i], &mut drawn)? else {
             return Ok(None);
         };
         found.push(one)?;
@@ -175,21 +177,35 @@ fn arms_of(st: &mut Store, f: Fid, ps: &[Pol]) -> Result<Option<List<((u64, u64)
 /// earlier field is tested after it.
 #[cycle(silent)]
 #[tactic(auto, using(nk_policy::proofs::Trees::tree_of_seq))]
-fn arm_of(st: &mut Store, f: Fid, p: &Pol) -> Result<Option<((u64, u64), Id)>, AllocError>
+fn arm_of(
+    st: &mut Store,
+    f: Fid,
+    p: &Pol,
+    drawn: &mut List<((Fid, u64), Id)>,
+) -> Result<Option<((u64, u64), Id)>, AllocError>
+    requires { AreAssignments st.old drawn.old }
     ensures grows { Grows st.old st.new }
     ensures ok { IfOk result (λ o. IfSome o (λ x. IsArm st.new f x (tree_of p.now))) }
+    ensures drawn { OnOk result (AreAssignments st.new drawn.new) }
 {
     match p {
-        Pol::Seq(qs) => arm_of_all(st, f, qs.as_slice()),
+        Pol::Seq(qs) => arm_of_all(st, f, qs.as_slice(), drawn),
         _ => Ok(None),
     }
 }
 
 /// The same by the sequence's parts.
 #[cycle(silent)]
-fn arm_of_all(st: &mut Store, f: Fid, ps: &[Pol]) -> Result<Option<((u64, u64), Id)>, AllocError>
+fn arm_of_all(
+    st: &mut Store,
+    f: Fid,
+    ps: &[Pol],
+    drawn: &mut List<((Fid, u64), Id)>,
+) -> Result<Option<((u64, u64), Id)>, AllocError>
+    requires { AreAssignments st.old drawn.old }
     ensures grows { Grows st.old st.new }
     ensures ok { IfOk result (λ o. IfSome o (λ x. IsArm st.new f x (seq_of (trees_of ps.now)))) }
+    ensures drawn { OnOk result (AreAssignments st.new drawn.new) }
 {
     if ps.len() == 0 {
         return Ok(None);
@@ -197,12 +213,31 @@ fn arm_of_all(st: &mut Store, f: Fid, ps: &[Pol]) -> Result<Option<((u64, u64), 
     let Some(ends) = tested_value(&ps[0], f) else {
         return Ok(None);
     };
-    let d = silent_from(st, ps, 1)?;
+    let d = what_follows(st, ps, drawn)?;
     if is_behind(st, f, d) {
         Ok(Some((ends, d)))
     } else {
         Ok(None)
     }
+}
+
+/// The diagram of what is after the first part. An assignment alone is drawn once for all arms.
+#[cycle(silent)]
+fn what_follows(
+    st: &mut Store,
+    ps: &[Pol],
+    drawn: &mut List<((Fid, u64), Id)>,
+) -> Result<Id, AllocError>
+    requires some { 1 ≤ length ps.now }
+    requires drawn { AreAssignments st.old drawn.old }
+    ensures grows { Grows st.old st.new }
+    ensures ok { IfOk result (λ d. IsSilent st.new d (seq_of (trees_of (drop 1 ps.now)))) }
+    ensures drawn { OnOk result (AreAssignments st.new drawn.new) }
+{
+    if let Some(set) = assignment_after(ps) {
+        return drawn_once(st, set, drawn);
+    }
+    silent_from(st, ps, 1)
 }
 
 /// Those of a sequence's parts, built from the last part to the first; what stands before parts that always record isn't drawn, and

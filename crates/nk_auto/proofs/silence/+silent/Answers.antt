@@ -3,13 +3,15 @@ use Rattle.std.specs.Prelude.{IfSome}
 use Rattle.std.proofs.lemmas.Bool.Decides.{nat_tests}
 use Rattle.std.proofs.lemmas.Option.{IfSome_then}
 use Rattle.std.proofs.lemmas.Result.{IfOk-weaker}
-use Rattle.nk_policy.specs.Policy.{sum_of, seq_of}
+use Rattle.nk_policy.specs.Policy.{assign, sum_of, seq_of, no_part, part}
 use Rattle.nk_policy.specs.Tree.{tree_of, trees_of}
 use Rattle.nk_policy.proofs.Steps.{left_is}
 use Rattle.nk_store.specs.StoreState.{HasLeaves}
 use Rattle.nk_store.proofs.Stores.{grows_on}
+use Rattle.nk_apply.proofs.MadeOf.{on_any}
 use Rattle.nk_auto.specs.Continued.{IsSilent}
 use Rattle.nk_auto.specs.ByValue.{IsArm, AreArms}
+use Rattle.nk_auto.proofs.Assignments.{assignments_grow, alone_silent}
 use Rattle.nk_auto.proofs.ByValue.{Arm, arm_behind, arms_grow, arms_more, arms_moved}
 use Rattle.nk_auto.proofs.Grown.{leaves_grow}
 use Rattle.nk_auto.proofs.Parts.{trees_before}
@@ -89,6 +91,7 @@ arms_of-loop-i-preserved t c =
       arms = subst (λ ps. AreArms c.arm_of.new.st c.args.f c.push.new.self (sum_of ps)) (sym (trees_before c.args.ps.now c.loop-i.i c.index-ps-i.result c.loop-i-test.true c.loop-i.invariant.within c.index-ps-i.is))
           (arms_more c.arm_of.new.st c.args.f c.in-Some.one c.loop-i.found c.push.new.self (tree_of c.index-ps-i.result) (trees_of (drop c.loop-i.i c.args.ps.now)) c.in_ok-push.ensures.ok one
           (arms_grow c.loop-i.st c.arm_of.new.st c.args.f c.loop-i.found (sum_of (trees_of (drop c.loop-i.i c.args.ps.now))) c.arm_of.ensures.grows c.loop-i.invariant.arms));
+      drawn = c.in_ok-one.ensures.drawn;
     }
 
 pub arms_of-returns-clause-ok : goal.arms_of-returns-clause-ok
@@ -103,8 +106,19 @@ pub arm_of_all-returns-then-is_behind-clause-ok : goal.arm_of_all-returns-then-i
 arm_of_all-returns-then-is_behind-clause-ok t c =
     let some : 0 < length c.args.ps.now = omega (arith, c.if-ps-eq0.false) in
     let child = c.is_behind.ensures c.if-is_behind.true in
-    subst (λ ps. IsArm c.silent_from.new.st c.args.f (c.in-Some.ends, c.in_ok-d.d) (seq_of ps)) (sym (ap trees_of (left_is c.args.ps.now 0 c.index-ps-0.result some c.index-ps-0.is)))
-    (arm_behind c.silent_from.new.st c.args.f c.in_ok-d.d c.in-Some.ends (tree_of c.index-ps-0.result) (trees_of (drop 1 c.args.ps.now)) c.in-Some.ensures c.in_ok-d.ensures.ok child)
+    subst (λ ps. IsArm c.what_follows.new.st c.args.f (c.in-Some.ends, c.in_ok-d.d) (seq_of ps)) (sym (ap trees_of (left_is c.args.ps.now 0 c.index-ps-0.result some c.index-ps-0.is)))
+    (arm_behind c.what_follows.new.st c.args.f c.in_ok-d.d c.in-Some.ends (tree_of c.index-ps-0.result) (trees_of (drop 1 c.args.ps.now)) c.in-Some.ensures c.in_ok-d.ensures.ok child)
+
+pub what_follows-returns-in-Some-clause-ok : goal.what_follows-returns-in-Some-clause-ok
+what_follows-returns-in-Some-clause-ok t c =
+    let is = subst (λ (o : Option (ℕ × ℕ)). IfSome o (λ s. trees_of (drop 1 c.args.ps.now) ≡ part (assign s.0 s.1) no_part)) c.in-Some.is c.assignment_after.ensures in
+    IfOk-weaker c.drawn_once.result _ _
+    (λ d h. subst (λ ps. IsSilent c.drawn_once.new.st d (seq_of ps)) (sym is) (alone_silent c.drawn_once.new.st d (assign c.in-Some.set.0 c.in-Some.set.1) h))
+    c.drawn_once.ensures.ok
+
+pub what_follows-returns-clause-drawn : goal.what_follows-returns-clause-drawn
+what_follows-returns-clause-drawn t c =
+    on_any c.silent_from.result _ (assignments_grow c.args.st.now c.silent_from.new.st c.args.drawn.now c.silent_from.ensures.grows c.requires.drawn)
 
 pub silent_not-returns-clause-ok : goal.silent_not-returns-clause-ok
 silent_not-returns-clause-ok t c =

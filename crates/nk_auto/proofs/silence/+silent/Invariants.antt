@@ -3,7 +3,7 @@ use Rattle.nk_policy.specs.Policy.{sum_of, seq_of}
 use Rattle.nk_policy.specs.Tree.{trees_of}
 use Rattle.nk_store.specs.StoreState.{Grows, HasLeaves}
 use Rattle.nk_auto.specs.Continued.{IsSilent}
-use Rattle.nk_auto.specs.ByValue.{AreArms}
+use Rattle.nk_auto.specs.ByValue.{AreArms, AreAssignments}
 use Rattle.nk_auto.proofs.Sums.{AreOf}
 use Rattle.nk_auto.proofs.silence.+silent.Given as goal
 
@@ -31,12 +31,13 @@ invariant-silent_from-loop-i l = record {
 abbrev pub decreases-silent_from-loop-i : goal.decreases-silent_from-loop-i
 decreases-silent_from-loop-i l = l.i
 
--- the parts from the place on have the arms that were found
+-- the parts from the place on have the arms that were found, and what is remembered is right
 abbrev pub invariant-arms_of-loop-i : goal.invariant-arms_of-loop-i
 invariant-arms_of-loop-i l = record {
   grows : Grows l.fn.st l.st;
   within : l.i ≤ length l.ps;
   arms : AreArms l.st l.fn.f l.found (sum_of (trees_of (drop l.i l.ps)));
+  drawn : AreAssignments l.st l.drawn;
 }
 
 abbrev pub decreases-arms_of-loop-i : goal.decreases-arms_of-loop-i
