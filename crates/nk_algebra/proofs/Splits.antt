@@ -224,6 +224,17 @@ partition_made old s1 s2 s3 s4 f a b kept right left d ia ib g h k hk hr hl hd =
       ∙ ap (λ y. merged (seq_leaf (partition_on_field f true (look old a pk)) B pk) y) is_right ∙ partition_whole (assigns f) (look old a pk) B pk;
 }
 
+-- where all outs are kept, these put through are the sequence
+pub kept_whole : (old s1 s2 : StoreState) (a b kept right : ℕ) → IsId old a → IsId old b → Grows old s1 → kept ≡ a →
+    HasLeaves s2 right (λ pk. seq_leaf (look s1 kept pk) (look s1 b) pk) →
+    HasLeaves s2 right (λ pk. seq_leaf (look old a pk) (look old b) pk)
+kept_whole old s1 s2 a b kept right ia ib g same h = record {
+  id = h.id;
+  leaf = λ pk w.
+      h.leaf pk w ∙ ap (λ C. seq_leaf (look s1 kept pk) C pk) (same_looks old s1 b g ib)
+      ∙ ap (λ d. seq_leaf (look s1 d pk) (look old b) pk) same ∙ ap (λ os. seq_leaf os (look old b) pk) (g.leaves a pk ia);
+}
+
 -- the outs that assign f, put through
 pub moved_made : (old s1 s2 : StoreState) (f a b moved d : ℕ) → IsId old b → Grows old s1 →
     HasLeaves s1 moved (λ pk. partition_on_field f true (look old a pk)) →

@@ -297,7 +297,8 @@ fn seq_leaves(st: &mut Store, a: Id, b: Id) -> Result<Id, AllocError>
     }
 }
 
-/// The sequence, outs that assign the field apart from the others.
+/// The sequence, outs that assign the field apart from the others. Where none assigns it, what keeps it is the first diagram itself,
+/// and no outs that assign it are looked for: that saves one of two walks over the first diagram.
 #[cycle(partition_diagram)]
 fn seq_partition(st: &mut Store, f: Fid, a: Id, b: Id) -> Result<Id, AllocError>
     requires left { IsId st.old a }
@@ -310,6 +311,9 @@ fn seq_partition(st: &mut Store, f: Fid, a: Id, b: Id) -> Result<Id, AllocError>
 {
     let kept = keeping(st, f, a)?;
     let right = seq_kept(st, f, kept, b)?;
+    if kept == a {
+        return Ok(right);
+    }
     let left = seq_moved(st, f, a, b)?;
     union_later(st, left, right)
 }

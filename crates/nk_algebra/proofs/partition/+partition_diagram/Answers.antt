@@ -1,4 +1,5 @@
-use Rattle.std.proofs.Common.{◌+◌, ◌∙◌, sym, subst, ap, arith}
+use Rattle.std.proofs.Common.{◌≡◌, ◌+◌, ◌∙◌, sym, subst, ap, arith}
+use Rattle.std.proofs.lemmas.Bool.Decides.{nat_tests}
 use Rattle.std.proofs.lemmas.Result.{IfOk-weaker}
 use Rattle.nk_store.specs.Nodes.{child_at}
 use Rattle.nk_store.specs.StoreState.{look}
@@ -10,7 +11,7 @@ use Rattle.nk_apply.specs.Seqs.{seq_leaf}
 use Rattle.nk_apply.proofs.Sequences.{seq_made}
 use Rattle.nk_apply.proofs.Turned.{set_within}
 use Rattle.nk_algebra.proofs.Reaches.{ending_made}
-use Rattle.nk_algebra.proofs.Splits.{kept_leaf, kept_push, kept_all, kept_made, partition_made, moved_made, split_first}
+use Rattle.nk_algebra.proofs.Splits.{kept_leaf, kept_push, kept_all, kept_made, kept_whole, partition_made, moved_made, split_first}
 use Rattle.nk_algebra.proofs.partition.+partition_diagram.Goals as goal
 
 pub seq_partition-returns-clause-ok : goal.seq_partition-returns-clause-ok
@@ -18,6 +19,15 @@ seq_partition-returns-clause-ok t c = IfOk-weaker c.union_later.result _ _
     (λ d h. partition_made c.args.st.now c.keeping.new.st c.seq_kept.new.st c.seq_moved.new.st c.union_later.new.st c.args.f c.args.a c.args.b c.in_ok-kept.kept c.in_ok-right.right c.in_ok-left.left d
     c.requires.left c.requires.right c.keeping.ensures.grows c.seq_kept.ensures.grows c.seq_moved.ensures.grows
     c.in_ok-kept.ensures.ok c.in_ok-right.ensures.ok c.in_ok-left.ensures.ok h) c.union_later.ensures.ok
+
+pub seq_partition-returns-then-eq-clause-ok : goal.seq_partition-returns-then-eq-clause-ok
+seq_partition-returns-then-eq-clause-ok t c =
+    let same : c.in_ok-kept.kept ≡ c.args.a = grind (arith, nat_tests, c.eq.ensures, c.if-eq.true) in
+    kept_whole c.args.st.now c.keeping.new.st c.seq_kept.new.st c.args.a c.args.b c.in_ok-kept.kept c.in_ok-right.right
+    c.requires.left c.requires.right c.keeping.ensures.grows same c.in_ok-right.ensures.ok
+
+pub seq_partition-returns-then-eq-clause-grows : goal.seq_partition-returns-then-eq-clause-grows
+seq_partition-returns-then-eq-clause-grows t c = grows_on _ _ _ c.keeping.ensures.grows c.seq_kept.ensures.grows
 
 pub seq_kept-returns-clause-ok : goal.seq_kept-returns-clause-ok
 seq_kept-returns-clause-ok t c = IfOk-weaker c.choose.result _ _
