@@ -1,11 +1,11 @@
 //! One diagram changed node by node.
-ghost use Rattle.std.specs.Prelude.{◌≡◌, ℕ, ◌<◌, ◌≤◌, eqb, IfOk, OnOk, MatchOption, List as Items, slice_index};
+ghost use Rattle.std.specs.Prelude.{◌≡◌, ℕ, ◌<◌, ◌≤◌, eqb, Some, IfOk, IfSome, OnOk, MatchOption, List as Items, slice_index};
 ghost use Rattle.std.specs.Map.{lookup};
 ghost use Rattle.nk_store.specs.declared.node.Out.{Out};
 ghost use Rattle.nk_store.specs.Nodes.{child_at};
 ghost use Rattle.nk_store.specs.StoreState.{IsId, look, root_field, Grows, HasLeaves, IsWhole, AreParts};
 ghost use Rattle.nk_apply.specs.Cofactors.{cofactor, IsSplit};
-ghost use Rattle.nk_apply.specs.MadeOf.{AreMadeOf};
+ghost use Rattle.nk_apply.specs.MadeOf.{IsMadeOf, AreMadeOf};
 
 use crate::part::part_near;
 use nk_field::{Fid, List};
@@ -234,15 +234,61 @@ fn walk_parts<M: NodeMap>(
     let mut parts = List::with_capacity(st.alloc(), part_count(st, d))?;
     let mut near = 0;
     let mut from = 0;
+    let mut before = None;
+    let mut last = None;
     loop {
         let (end, child) = part_near(st, d, g, from, &mut near);
-        let to = walk_once(st, seen, m, child)?;
+        let to = walk_part(st, seen, m, before, child)?;
         parts.push((end, to))?;
         if end == max {
             return Ok(parts);
         }
+        before = last;
+        last = Some((child, to));
         from = end + 1;
     }
+}
+
+/// What is made of a part, by what was made of the part two places before, where that was the same diagram: between intervals of a
+/// table stands nothing, again and again. A look into the table of what was made takes some 300 instructions.
+#[cycle(walk)]
+fn walk_part<M: NodeMap>(
+    st: &mut Store,
+    seen: &mut HashMap<Id, Id>,
+    m: &M,
+    before: Option<(Id, Id)>,
+    d: Id,
+) -> Result<Id, AllocError>
+    requires id { IsId st.old d }
+    requires allowed { M.allowed m.now st.old.maxes }
+    requires before { IfSome before (λ x. IsMadeOf (M.taken m.now) (M.made m.now) (M.first m.now) st.old x.0 x.1) }
+    requires seen { AreMadeOf (M.taken m.now) (M.made m.now) (M.first m.now) st.old seen.old.entries }
+    ensures grows { Grows st.old st.new }
+    ensures ok { IfOk result (λ r. HasLeaves st.new r (λ pk. M.made m.now st.old.maxes pk (look st.old d (M.taken m.now pk)))) }
+    ensures later { IfOk result (λ r. M.first m.now (root_field st.old d) ≤ root_field st.new r) }
+    ensures seen { OnOk result (AreMadeOf (M.taken m.now) (M.made m.now) (M.first m.now) st.new seen.new.entries) }
+{
+    if let Some(r) = made_before(before, d) {
+        return Ok(r);
+    }
+    walk_once(st, seen, m, d)
+}
+
+/// What was made of a diagram, if the pair is a diagram's that is this one.
+fn made_before(before: Option<(Id, Id)>, d: Id) -> Option<Id>
+    ensures { IfSome result (λ r. before ≡ Some (d, r)) }
+{
+    match before {
+        Some(pair) => made_by(pair, d),
+        None => None,
+    }
+}
+
+/// The same of a pair.
+fn made_by(pair: (Id, Id), d: Id) -> Option<Id>
+    ensures { IfSome result (λ r. pair ≡ (d, r)) }
+{
+    if pair.0 == d { Some(pair.1) } else { None }
 }
 
 /// How many parts a diagram has by the field that it tests first.
