@@ -69,7 +69,8 @@ fn job_over(alloc: Global, bytes: Vec<u8>) -> Result<CommandAnswer, AllocError>
 fn job_of_program(alloc: Global, program: &Program) -> Result<CommandAnswer, AllocError>
     requires is { IsProgram program.now.fields program.now.topo program.now.lets }
     requires declared { CanBeDeclared (program_by program.now) }
-    ensures { IfOk result (λ s. (bytes : List ℕ) → Declares bytes (program_by program.now) → IsJobOver bytes (outcome_of s)) }
+    ensures { IfOk result (λ s. (bytes : List ℕ) → Declares bytes (program_by program.now)
+        → IsJobOver bytes (outcome_of s)) }
 {
     let mut out = match count_tables(alloc, program, "go")? {
         Step::Line(line) => line,
@@ -92,7 +93,8 @@ fn job_of_program(alloc: Global, program: &Program) -> Result<CommandAnswer, All
 fn count_tables(alloc: Global, program: &Program, name: &str) -> Result<Step, AllocError>
     requires is { IsProgram program.now.fields program.now.topo program.now.lets }
     requires declared { CanBeDeclared (program_by program.now) }
-    ensures { IfOk result (IsJobStep (ToProgram (program_by program.now) name.now) (CountsTables program.now name.now)) }
+    ensures { IfOk result (IsJobStep (ToProgram (program_by program.now) name.now)
+        (CountsTables program.now name.now)) }
 {
     // These two are laws: what is compiled is such as is read back, and that is read back.
     compiled_tables_are_printable();
@@ -132,7 +134,8 @@ fn count_rows(alloc: Global, program: &Program, left: &str, right: &str) -> Resu
 
 /// The line of what is counted of a policy's tables.
 fn tables_message(alloc: Global, name: &str, counted: &Counted) -> Result<Vec<u8>, AllocError>
-    ensures { IfOk result (λ v. v.items ≡ tables_line name.now counted.now.tag_sets counted.now.tables.tables) }
+    ensures { IfOk result (λ v. v.items
+        ≡ tables_line name.now counted.now.tag_sets counted.now.tables.tables) }
 {
     let tables = counted.tables.tables.as_slice();
     let mut line = Vec::from_slice(alloc, name.as_bytes())?;

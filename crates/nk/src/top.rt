@@ -63,7 +63,8 @@ pub fn run<S: Source, O: Sink, E: Sink>(
     // The status `Usage` comes only for words that are no command.
     ensures usage { result ≡ Status.Usage → command_of (texts words.now) ≡ None }
     // No call was made on the source where the words are no command, or one that doesn't read.
-    ensures unread { asks_for_input (command_of (texts words.now)) ≡ false → source.new ≡ source.old }
+    ensures unread { asks_for_input (command_of (texts words.now)) ≡ false
+        → source.new ≡ source.old }
     // No call was made on the sink that the answer doesn't go to.
     ensures alone { LeavesAlone result (out.new ≡ out.old) (err.new ≡ err.old) }
 {
@@ -75,7 +76,8 @@ pub fn run<S: Source, O: Sink, E: Sink>(
 fn decide<S: Source>(alloc: Global, words: &[String], source: &mut S) -> Reply
     ensures meant { IsMeant (texts words.now)
         (use_of S.left S.faults source.old source.new) (answer_in result) }
-    ensures unread { asks_for_input (command_of (texts words.now)) ≡ false → source.new ≡ source.old }
+    ensures unread { asks_for_input (command_of (texts words.now)) ≡ false
+        → source.new ≡ source.old }
 {
     match read_words(alloc, words) {
         Ok(command) => reply_from(alloc, &command, source),

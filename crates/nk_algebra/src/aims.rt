@@ -55,7 +55,8 @@ pub fn assign(st: &mut Store, f: Fid, n: u64) -> Result<Id, AllocError>
     requires field { f < 18 }
     requires within { n ≤ slice_index st.old.maxes f }
     ensures grows { Grows st.old st.new }
-    ensures ok { IfOk result (λ d. HasLeaves st.new d (λ pk. record { act = (f, n) ∷ []; target = 0 } ∷ [])) }
+    ensures ok { IfOk result
+        (λ d. HasLeaves st.new d (λ pk. record { act = (f, n) ∷ []; target = 0 } ∷ [])) }
     ensures later { IfOk result (λ d. root_field st.new d ≡ 18) }
 {
     let alloc = st.alloc();

@@ -23,7 +23,8 @@ const FEW: usize = 64;
 pub fn choose(st: &mut Store, f: Fid, parts: List<(u64, Id)>) -> Result<Id, AllocError>
     requires { AreChoices st.old f parts }
     ensures grows { Grows st.old st.new }
-    ensures ok { IfOk result (λ d. HasLeaves st.new d (λ pk. look st.old (child_at 0 parts (slice_index pk f)) pk)) }
+    ensures ok { IfOk result
+        (λ d. HasLeaves st.new d (λ pk. look st.old (child_at 0 parts (slice_index pk f)) pk)) }
 {
     if are_later(st, f, &parts) {
         return st.case(f, parts);
@@ -111,7 +112,8 @@ fn choose_by(
     requires choices { AreChoices st.old f parts }
     requires seen { AreChosen st.old f seen.old.entries }
     ensures grows { Grows st.old st.new }
-    ensures ok { IfOk result (λ d. HasLeaves st.new d (λ pk. look st.old (child_at 0 parts (slice_index pk f)) pk)) }
+    ensures ok { IfOk result
+        (λ d. HasLeaves st.new d (λ pk. look st.old (child_at 0 parts (slice_index pk f)) pk)) }
     ensures later { IfOk result (λ d. first_of st.old f parts ≤ root_field st.new d) }
     ensures seen { OnOk result (AreChosen st.new f seen.new.entries) }
 {
@@ -140,7 +142,8 @@ fn choose_once(
     requires before { g < f }
     requires seen { AreChosen st.old f seen.old.entries }
     ensures grows { Grows st.old st.new }
-    ensures ok { IfOk result (λ d. HasLeaves st.new d (λ pk. look st.old (child_at 0 parts (slice_index pk f)) pk)) }
+    ensures ok { IfOk result
+        (λ d. HasLeaves st.new d (λ pk. look st.old (child_at 0 parts (slice_index pk f)) pk)) }
     ensures later { IfOk result (λ d. g ≤ root_field st.new d) }
     ensures seen { OnOk result (AreChosen st.new f seen.new.entries) }
 {
@@ -189,7 +192,8 @@ fn choose_here(st: &mut Store, f: Fid, parts: &List<(u64, Id)>) -> Result<Id, Al
     requires choices { AreChoices st.old f parts.now }
     requires first { Each (λ c. f ≤ root_field st.old c) parts.now }
     ensures grows { Grows st.old st.new }
-    ensures ok { IfOk result (λ d. HasLeaves st.new d (λ pk. look st.old (child_at 0 parts.now (slice_index pk f)) pk)) }
+    ensures ok { IfOk result
+        (λ d. HasLeaves st.new d (λ pk. look st.old (child_at 0 parts.now (slice_index pk f)) pk)) }
     ensures later { IfOk result (λ d. f ≤ root_field st.new d) }
 {
     st.laws();
@@ -203,7 +207,10 @@ fn finer(st: &Store, f: Fid, parts: &List<(u64, Id)>) -> Result<List<(u64, Id)>,
     requires choices { AreChoices st.now f parts.now }
     requires first { Each (λ c. f ≤ root_field st.now c) parts.now }
     ensures parts { IfOk result (λ ps. AreParts st.now f ps) }
-    ensures ok { IfOk result (λ ps. (v : ℕ) (pk : Items ℕ) → IsWhole pk → look st.now (child_at 0 ps v) pk ≡ look st.now (cofactor st.now f v (child_at 0 parts.now v)) pk) }
+    ensures ok { IfOk result
+        (λ ps. (v : ℕ) (pk : Items ℕ) → IsWhole pk
+        → look st.now (child_at 0 ps v) pk
+        ≡ look st.now (cofactor st.now f v (child_at 0 parts.now v)) pk) }
 {
     st.laws();
     let max = st.max(f);
@@ -237,7 +244,8 @@ fn choose_before(
     requires before { g < f }
     requires seen { AreChosen st.old f seen.old.entries }
     ensures grows { Grows st.old st.new }
-    ensures ok { IfOk result (λ d. HasLeaves st.new d (λ pk. look st.old (child_at 0 parts.now (slice_index pk f)) pk)) }
+    ensures ok { IfOk result
+        (λ d. HasLeaves st.new d (λ pk. look st.old (child_at 0 parts.now (slice_index pk f)) pk)) }
     ensures later { IfOk result (λ d. g ≤ root_field st.new d) }
     ensures seen { OnOk result (AreChosen st.new f seen.new.entries) }
 {
@@ -261,7 +269,10 @@ fn choose_parts(
     requires seen { AreChosen st.old f seen.old.entries }
     ensures grows { Grows st.old st.new }
     ensures parts { IfOk result (λ ps. AreParts st.new g ps) }
-    ensures ok { IfOk result (λ ps. (v : ℕ) (pk : Items ℕ) → IsWhole pk → look st.new (child_at 0 ps v) pk ≡ look st.old (cofactor st.old g v (child_at 0 parts.now (slice_index pk f))) pk) }
+    ensures ok { IfOk result
+        (λ ps. (v : ℕ) (pk : Items ℕ) → IsWhole pk
+        → look st.new (child_at 0 ps v) pk
+        ≡ look st.old (cofactor st.old g v (child_at 0 parts.now (slice_index pk f))) pk) }
     ensures seen { OnOk result (AreChosen st.new f seen.new.entries) }
 {
     st.laws();

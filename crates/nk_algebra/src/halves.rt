@@ -14,7 +14,8 @@ use std::alloc::AllocError;
 pub(crate) fn choose_all(st: &mut Store, f: Fid, parts: &List<(u64, Id)>) -> Result<Id, AllocError>
     requires { AreChoices st.old f parts.now }
     ensures grows { Grows st.old st.new }
-    ensures ok { IfOk result (λ d. HasLeaves st.new d (λ pk. look st.old (child_at 0 parts.now (slice_index pk f)) pk)) }
+    ensures ok { IfOk result
+        (λ d. HasLeaves st.new d (λ pk. look st.old (child_at 0 parts.now (slice_index pk f)) pk)) }
 {
     choose_some(st, f, parts, 0, parts.len())
 }
@@ -32,7 +33,8 @@ fn choose_some(
     requires some { from < to }
     requires within { to ≤ length parts.now }
     ensures grows { Grows st.old st.new }
-    ensures ok { IfOk result (λ d. HasLeaves st.new d (λ pk. chosen st.old f parts.now from to pk)) }
+    ensures ok { IfOk result
+        (λ d. HasLeaves st.new d (λ pk. chosen st.old f parts.now from to pk)) }
 {
     if to - from == 1 {
         return choose_one(st, f, parts, from);
@@ -48,7 +50,8 @@ fn choose_one(st: &mut Store, f: Fid, parts: &List<(u64, Id)>, k: usize) -> Resu
     requires choices { AreChoices st.old f parts.now }
     requires within { k < length parts.now }
     ensures grows { Grows st.old st.new }
-    ensures ok { IfOk result (λ d. HasLeaves st.new d (λ pk. chosen st.old f parts.now k (k + 1) pk)) }
+    ensures ok { IfOk result
+        (λ d. HasLeaves st.new d (λ pk. chosen st.old f parts.now k (k + 1) pk)) }
 {
     let from = first_value(st, f, parts, k);
     let (end, d) = *parts.at(k);

@@ -31,7 +31,8 @@ pub(crate) fn seq_two_leaves(st: &mut Store, a: Id, b: Id) -> Result<Id, AllocEr
     requires left_leaf { root_field st.old a ≡ 18 }
     requires right_leaf { root_field st.old b ≡ 18 }
     ensures grows { Grows st.old st.new }
-    ensures ok { IfOk result (λ d. HasLeaves st.new d (λ pk. seq_leaf (look st.old a pk) (look st.old b) pk)) }
+    ensures ok { IfOk result
+        (λ d. HasLeaves st.new d (λ pk. seq_leaf (look st.old a pk) (look st.old b) pk)) }
 {
     let n = out_count(st, a);
     let block = (AT_ONCE / out_count(st, b).max(1)).max(1);
@@ -56,7 +57,9 @@ fn seq_blocks(
     requires within { to ≤ length (outs_of st.old a) }
     requires some { 0 < block }
     ensures grows { Grows st.old st.new }
-    ensures ok { IfOk result (λ d. HasLeaves st.new d (λ pk. over_places (out_made (outs_of st.old a) (look st.old b) pk) from (to - from))) }
+    ensures ok { IfOk result
+        (λ d. HasLeaves st.new d
+        (λ pk. over_places (out_made (outs_of st.old a) (look st.old b) pk) from (to - from))) }
 {
     if to - from <= block {
         return seq_block(st, a, b, from, to);
@@ -76,7 +79,9 @@ fn seq_block(st: &mut Store, a: Id, b: Id, from: usize, to: usize) -> Result<Id,
     requires order { from ≤ to }
     requires within { to ≤ length (outs_of st.old a) }
     ensures grows { Grows st.old st.new }
-    ensures ok { IfOk result (λ d. HasLeaves st.new d (λ pk. over_places (out_made (outs_of st.old a) (look st.old b) pk) from (to - from))) }
+    ensures ok { IfOk result
+        (λ d. HasLeaves st.new d
+        (λ pk. over_places (out_made (outs_of st.old a) (look st.old b) pk) from (to - from))) }
 {
     st.laws();
     let outs = outs_after_all(st.alloc(), outs_at(st, a), outs_at(st, b), from, to)?;

@@ -104,7 +104,8 @@ fn ends_between(act: &Act, f: Fid, lo: u64, hi: u64) -> bool
 
 /// The last value that an act assigns to a field.
 fn last_value(act: &Act, f: Fid) -> Option<u64>
-    ensures { MatchOption result (assigns f act.now ≡ false) (λ n. (assigns f act.now ≡ true) × (last_value f act.now ≡ n)) }
+    ensures { MatchOption result (assigns f act.now ≡ false)
+        (λ n. (assigns f act.now ≡ true) × (last_value f act.now ≡ n)) }
 {
     let pairs = act.as_slice();
     let mut i = pairs.len();
@@ -214,7 +215,8 @@ fn one_keeps(outs: &[Out], f: Fid) -> bool {
 fn wide_field(st: &Store, a: Id, b: Id) -> Option<Fid>
     requires left { IsId st.now a }
     requires right { IsId st.now b }
-    ensures { IfSome result (λ f. (f < 18) × (f ≡ min (root_field st.now a) (root_field st.now b)) × (f ≤ root_field st.now a) × (f ≤ root_field st.now b)) }
+    ensures { IfSome result (λ f. (f < 18) × (f ≡ min (root_field st.now a) (root_field st.now b))
+        × (f ≤ root_field st.now a) × (f ≤ root_field st.now b)) }
 {
     if !is_wide(st, a) || !may_keep(st, a) {
         return None;
@@ -275,7 +277,8 @@ pub(crate) fn seq_anew(st: &mut Store, a: Id, b: Id) -> Result<Id, AllocError>
     requires left { IsId st.old a }
     requires right { IsId st.old b }
     ensures grows { Grows st.old st.new }
-    ensures ok { IfOk result (λ d. HasLeaves st.new d (λ pk. seq_leaf (look st.old a pk) (look st.old b) pk)) }
+    ensures ok { IfOk result
+        (λ d. HasLeaves st.new d (λ pk. seq_leaf (look st.old a pk) (look st.old b) pk)) }
 {
     match wide_field(st, a, b) {
         None => sequence_anew(st, a, b),
@@ -289,7 +292,8 @@ fn seq_leaves(st: &mut Store, a: Id, b: Id) -> Result<Id, AllocError>
     requires left { IsId st.old a }
     requires right { IsId st.old b }
     ensures grows { Grows st.old st.new }
-    ensures ok { IfOk result (λ d. HasLeaves st.new d (λ pk. seq_leaf (look st.old a pk) (look st.old b) pk)) }
+    ensures ok { IfOk result
+        (λ d. HasLeaves st.new d (λ pk. seq_leaf (look st.old a pk) (look st.old b) pk)) }
 {
     match wide_field(st, a, b) {
         None => sequence(st, a, b),
@@ -307,7 +311,8 @@ fn seq_partition(st: &mut Store, f: Fid, a: Id, b: Id) -> Result<Id, AllocError>
     requires first { f ≤ root_field st.old a }
     requires second { f ≤ root_field st.old b }
     ensures grows { Grows st.old st.new }
-    ensures ok { IfOk result (λ d. HasLeaves st.new d (λ pk. seq_leaf (look st.old a pk) (look st.old b) pk)) }
+    ensures ok { IfOk result
+        (λ d. HasLeaves st.new d (λ pk. seq_leaf (look st.old a pk) (look st.old b) pk)) }
 {
     let kept = keeping(st, f, a)?;
     let right = seq_kept(st, f, kept, b)?;
@@ -322,7 +327,8 @@ fn seq_partition(st: &mut Store, f: Fid, a: Id, b: Id) -> Result<Id, AllocError>
 fn keeping(st: &mut Store, f: Fid, a: Id) -> Result<Id, AllocError>
     requires { IsId st.old a }
     ensures grows { Grows st.old st.new }
-    ensures ok { IfOk result (λ d. HasLeaves st.new d (λ pk. partition_on_field f false (look st.old a pk))) }
+    ensures ok { IfOk result
+        (λ d. HasLeaves st.new d (λ pk. partition_on_field f false (look st.old a pk))) }
     ensures later { IfOk result (λ d. root_field st.old a ≤ root_field st.new d) }
     ensures keep { IfOk result (λ d. (pk : Items ℕ) → IsWhole pk → Keep f (look st.new d pk)) }
 {
@@ -342,7 +348,9 @@ fn seq_moved(st: &mut Store, f: Fid, a: Id, b: Id) -> Result<Id, AllocError>
     requires first { f ≤ root_field st.old a }
     requires second { f ≤ root_field st.old b }
     ensures grows { Grows st.old st.new }
-    ensures ok { IfOk result (λ d. HasLeaves st.new d (λ pk. seq_leaf (partition_on_field f true (look st.old a pk)) (look st.old b) pk)) }
+    ensures ok { IfOk result
+        (λ d. HasLeaves st.new d
+        (λ pk. seq_leaf (partition_on_field f true (look st.old a pk)) (look st.old b) pk)) }
 {
     let outs = Partition {
         kind: Kind::Assigning(f),
@@ -364,7 +372,10 @@ fn moved_parts(st: &mut Store, f: Fid, a: Id, b: Id) -> Result<List<(u64, Id)>, 
     requires second { f ≤ root_field st.old b }
     ensures grows { Grows st.old st.new }
     ensures parts { IfOk result (λ ps. AreChoices st.new f ps) }
-    ensures ok { IfOk result (λ ps. (v : ℕ) (pk : Items ℕ) → IsWhole pk → look st.new (child_at 0 ps v) pk ≡ seq_leaf (look st.old (cofactor st.old f v a) pk) (look st.old b) pk) }
+    ensures ok { IfOk result
+        (λ ps. (v : ℕ) (pk : Items ℕ) → IsWhole pk
+        → look st.new (child_at 0 ps v) pk
+        ≡ seq_leaf (look st.old (cofactor st.old f v a) pk) (look st.old b) pk) }
 {
     st.laws();
     let max = st.max(f);
@@ -392,7 +403,8 @@ fn seq_to_values(st: &mut Store, f: Fid, a: Id, b: Id) -> Result<Id, AllocError>
     requires first { f < root_field st.old a }
     requires second { f ≤ root_field st.old b }
     ensures grows { Grows st.old st.new }
-    ensures ok { IfOk result (λ d. HasLeaves st.new d (λ pk. seq_leaf (look st.old a pk) (look st.old b) pk)) }
+    ensures ok { IfOk result
+        (λ d. HasLeaves st.new d (λ pk. seq_leaf (look st.old a pk) (look st.old b) pk)) }
 {
     if is_wide(st, a) && is_wide(st, b) {
         seq_by_values(st, f, a, b, TURNS)
@@ -411,7 +423,8 @@ fn seq_by_values(st: &mut Store, f: Fid, a: Id, b: Id, turns: u64) -> Result<Id,
     requires second { f ≤ root_field st.old b }
     requires few { turns ≤ 64 }
     ensures grows { Grows st.old st.new }
-    ensures ok { IfOk result (λ d. HasLeaves st.new d (λ pk. seq_leaf (look st.old a pk) (look st.old b) pk)) }
+    ensures ok { IfOk result
+        (λ d. HasLeaves st.new d (λ pk. seq_leaf (look st.old a pk) (look st.old b) pk)) }
 {
     if turns == 0 {
         return sequence(st, a, b);
@@ -432,7 +445,8 @@ fn seq_at_value(st: &mut Store, f: Fid, n: u64, a: Id, b: Id, turns: u64) -> Res
     requires second { f ≤ root_field st.old b }
     requires few { turns < 64 }
     ensures grows { Grows st.old st.new }
-    ensures ok { IfOk result (λ d. HasLeaves st.new d (λ pk. seq_leaf (look st.old a pk) (look st.old b) pk)) }
+    ensures ok { IfOk result
+        (λ d. HasLeaves st.new d (λ pk. seq_leaf (look st.old a pk) (look st.old b) pk)) }
 {
     st.laws();
     let from = n.min(st.max(f));
@@ -448,7 +462,9 @@ fn seq_at_value(st: &mut Store, f: Fid, n: u64, a: Id, b: Id, turns: u64) -> Res
 fn ending(st: &mut Store, f: Fid, values: (u64, u64), chosen: bool, a: Id) -> Result<Id, AllocError>
     requires { IsId st.old a }
     ensures grows { Grows st.old st.new }
-    ensures ok { IfOk result (λ d. HasLeaves st.new d (λ pk. partition (ends_between f values.0 values.1) chosen (look st.old a pk))) }
+    ensures ok { IfOk result
+        (λ d. HasLeaves st.new d
+        (λ pk. partition (ends_between f values.0 values.1) chosen (look st.old a pk))) }
     ensures later { IfOk result (λ d. root_field st.old a ≤ root_field st.new d) }
 {
     let outs = Partition {
@@ -498,7 +514,8 @@ fn seq_kept(st: &mut Store, f: Fid, a: Id, b: Id) -> Result<Id, AllocError>
     requires second { f ≤ root_field st.old b }
     requires keep { (pk : Items ℕ) → IsWhole pk → Keep f (look st.old a pk) }
     ensures grows { Grows st.old st.new }
-    ensures ok { IfOk result (λ d. HasLeaves st.new d (λ pk. seq_leaf (look st.old a pk) (look st.old b) pk)) }
+    ensures ok { IfOk result
+        (λ d. HasLeaves st.new d (λ pk. seq_leaf (look st.old a pk) (look st.old b) pk)) }
 {
     st.laws();
     let parts = kept_parts(st, f, a, b)?;
@@ -515,7 +532,11 @@ fn kept_parts(st: &mut Store, f: Fid, a: Id, b: Id) -> Result<List<(u64, Id)>, A
     requires second { f ≤ root_field st.old b }
     ensures grows { Grows st.old st.new }
     ensures parts { IfOk result (λ ps. AreChoices st.new f ps) }
-    ensures ok { IfOk result (λ ps. (v : ℕ) (pk : Items ℕ) → IsWhole pk → look st.new (child_at 0 ps v) pk ≡ seq_leaf (look st.old (cofactor st.old f v a) pk) (look st.old (cofactor st.old f v b)) pk) }
+    ensures ok { IfOk result
+        (λ ps. (v : ℕ) (pk : Items ℕ) → IsWhole pk
+        → look st.new (child_at 0 ps v) pk
+        ≡ seq_leaf (look st.old (cofactor st.old f v a) pk)
+        (look st.old (cofactor st.old f v b)) pk) }
 {
     st.laws();
     let max = st.max(f);

@@ -63,7 +63,8 @@ pub fn after(st: &mut Store, d: Id, act: &Act) -> Result<Id, AllocError>
     requires id { IsId st.old d }
     requires suits { IsActFrom st.old.maxes 0 act.now }
     ensures grows { Grows st.old st.new }
-    ensures ok { IfOk result (λ r. HasLeaves st.new r (λ pk. prefixed act.now (look st.old d (applied act.now pk)))) }
+    ensures ok { IfOk result
+        (λ r. HasLeaves st.new r (λ pk. prefixed act.now (look st.old d (applied act.now pk)))) }
 {
     if act.as_slice().is_empty() {
         st.laws();
@@ -90,9 +91,12 @@ pub fn seq(st: &mut Store, a: Id, b: Id) -> Result<Id, AllocError>
     requires left { IsId st.old a }
     requires right { IsId st.old b }
     ensures grows { Grows st.old st.new }
-    ensures ok { IfOk result (λ d. HasLeaves st.new d (λ pk. seq_leaf (look st.old a pk) (look st.old b) pk)) }
-    ensures predicate { IfOk result (λ d. IsPredicate st.old a → IsPredicate st.old b → IsPredicate st.new d) }
-    ensures ends { IfOk result (λ d. HasOnlyFinals (look st.old b) → HasOnlyFinals (look st.new d)) }
+    ensures ok { IfOk result
+        (λ d. HasLeaves st.new d (λ pk. seq_leaf (look st.old a pk) (look st.old b) pk)) }
+    ensures predicate { IfOk result
+        (λ d. IsPredicate st.old a → IsPredicate st.old b → IsPredicate st.new d) }
+    ensures ends { IfOk result
+        (λ d. HasOnlyFinals (look st.old b) → HasOnlyFinals (look st.new d)) }
     ensures kept { IfOk result (λ d. recalled st.new operations.Seq a b ≡ Some d) }
     ensures again { GivesKept st.old st.new operations.Seq a b result }
 {
@@ -104,7 +108,8 @@ fn seq_once(st: &mut Store, a: Id, b: Id) -> Result<Id, AllocError>
     requires left { IsId st.old a }
     requires right { IsId st.old b }
     ensures grows { Grows st.old st.new }
-    ensures ok { IfOk result (λ d. HasLeaves st.new d (λ pk. seq_leaf (look st.old a pk) (look st.old b) pk)) }
+    ensures ok { IfOk result
+        (λ d. HasLeaves st.new d (λ pk. seq_leaf (look st.old a pk) (look st.old b) pk)) }
     ensures kept { IfOk result (λ d. recalled st.new operations.Seq a b ≡ Some d) }
     ensures again { GivesKept st.old st.new operations.Seq a b result }
 {
@@ -122,7 +127,8 @@ pub(crate) fn sequence(st: &mut Store, a: Id, b: Id) -> Result<Id, AllocError>
     requires left { IsId st.old a }
     requires right { IsId st.old b }
     ensures grows { Grows st.old st.new }
-    ensures ok { IfOk result (λ d. HasLeaves st.new d (λ pk. seq_leaf (look st.old a pk) (look st.old b) pk)) }
+    ensures ok { IfOk result
+        (λ d. HasLeaves st.new d (λ pk. seq_leaf (look st.old a pk) (look st.old b) pk)) }
 {
     if st.drops(a) {
         return Ok(a);
@@ -141,7 +147,8 @@ pub(crate) fn sequence_anew(st: &mut Store, a: Id, b: Id) -> Result<Id, AllocErr
     requires left { IsId st.old a }
     requires right { IsId st.old b }
     ensures grows { Grows st.old st.new }
-    ensures ok { IfOk result (λ d. HasLeaves st.new d (λ pk. seq_leaf (look st.old a pk) (look st.old b) pk)) }
+    ensures ok { IfOk result
+        (λ d. HasLeaves st.new d (λ pk. seq_leaf (look st.old a pk) (look st.old b) pk)) }
 {
     match tested(st, a) {
         None => seq_outs(st, a, b),
@@ -158,7 +165,8 @@ fn seq_case(st: &mut Store, f: Fid, a: Id, b: Id) -> Result<Id, AllocError>
     requires first { root_field st.old a ≡ f }
     requires split { IsSplit st.old f a }
     ensures grows { Grows st.old st.new }
-    ensures ok { IfOk result (λ d. HasLeaves st.new d (λ pk. seq_leaf (look st.old a pk) (look st.old b) pk)) }
+    ensures ok { IfOk result
+        (λ d. HasLeaves st.new d (λ pk. seq_leaf (look st.old a pk) (look st.old b) pk)) }
 {
     let parts = seq_parts(st, f, a, b)?;
     choose(st, f, parts)
@@ -196,7 +204,10 @@ fn after_at(st: &mut Store, a: Id, i: usize, b: Id) -> Result<Id, AllocError>
     requires right { IsId st.old b }
     requires within { i < length (outs_of st.old a) }
     ensures grows { Grows st.old st.new }
-    ensures ok { IfOk result (λ r. HasLeaves st.new r (λ pk. let g = (slice_index_or (outs_of st.old a) i no_out).act in prefixed g (look st.old b (applied g pk)))) }
+    ensures ok { IfOk result
+        (λ r. HasLeaves st.new r
+        (λ pk. let g = (slice_index_or (outs_of st.old a) i no_out).act in prefixed g
+        (look st.old b (applied g pk)))) }
 {
     let act = act_at(st, a, i)?;
     after(st, b, &act)
@@ -208,7 +219,8 @@ fn seq_outs(st: &mut Store, a: Id, b: Id) -> Result<Id, AllocError>
     requires right { IsId st.old b }
     requires leaf { root_field st.old a ≡ 18 }
     ensures grows { Grows st.old st.new }
-    ensures ok { IfOk result (λ d. HasLeaves st.new d (λ pk. seq_leaf (look st.old a pk) (look st.old b) pk)) }
+    ensures ok { IfOk result
+        (λ d. HasLeaves st.new d (λ pk. seq_leaf (look st.old a pk) (look st.old b) pk)) }
 {
     let n = out_count(st, a);
     if n == 0 {
@@ -228,7 +240,9 @@ fn seq_some(st: &mut Store, a: Id, b: Id, from: usize, to: usize) -> Result<Id, 
     requires some { from < to }
     requires within { to ≤ length (outs_of st.old a) }
     ensures grows { Grows st.old st.new }
-    ensures ok { IfOk result (λ d. HasLeaves st.new d (λ pk. over_places (out_made (outs_of st.old a) (look st.old b) pk) from (to - from))) }
+    ensures ok { IfOk result
+        (λ d. HasLeaves st.new d
+        (λ pk. over_places (out_made (outs_of st.old a) (look st.old b) pk) from (to - from))) }
 {
     if to - from == 1 {
         return after_at(st, a, from, b);
@@ -249,7 +263,10 @@ fn seq_parts(st: &mut Store, f: Fid, a: Id, b: Id) -> Result<List<(u64, Id)>, Al
     requires split { IsSplit st.old f a }
     ensures grows { Grows st.old st.new }
     ensures parts { IfOk result (λ ps. AreChoices st.new f ps) }
-    ensures ok { IfOk result (λ ps. (v : ℕ) (pk : Items ℕ) → IsWhole pk → look st.new (child_at 0 ps v) pk ≡ seq_leaf (look st.old (cofactor st.old f v a) pk) (look st.old b) pk) }
+    ensures ok { IfOk result
+        (λ ps. (v : ℕ) (pk : Items ℕ) → IsWhole pk
+        → look st.new (child_at 0 ps v) pk
+        ≡ seq_leaf (look st.old (cofactor st.old f v a) pk) (look st.old b) pk) }
 {
     let max = st.max(f);
     let mut parts = List::new(st.alloc());

@@ -72,7 +72,9 @@ pub(crate) fn few_parts(st: &mut Store, f: Fid, ds: &[Id]) -> Result<List<(u64, 
     requires first { AreFrom st.old f ds.now }
     requires some { 0 < length ds.now }
     ensures grows { Grows st.old st.new }
-    ensures ok { IfOk result (HaveParts st.new f (λ v pk. over_places (cofactor_leaf st.old f ds.now v pk) 0 (length ds.now))) }
+    ensures ok { IfOk result
+        (HaveParts st.new f (λ v pk.
+        over_places (cofactor_leaf st.old f ds.now v pk) 0 (length ds.now))) }
 {
     st.laws();
     let max = st.max(f);
@@ -118,7 +120,9 @@ fn union_there(st: &mut Store, f: Fid, ds: &[Id], v: u64, children: &[Id]) -> Re
     requires some { 0 < length ds.now }
     requires children { children.now ≡ cofactors st.old f v ds.now }
     ensures grows { Grows st.old st.new }
-    ensures ok { IfOk result (λ r. HasLeaves st.new r (λ pk. over_places (cofactor_leaf st.old f ds.now v pk) 0 (length ds.now))) }
+    ensures ok { IfOk result
+        (λ r. HasLeaves st.new r
+        (λ pk. over_places (cofactor_leaf st.old f ds.now v pk) 0 (length ds.now))) }
     ensures later { IfOk result (λ r. f < root_field st.new r) }
 {
     st.laws();

@@ -44,7 +44,8 @@ impl Join for Together {
 pub(crate) fn united(st: &Store, a: Id, b: Id) -> Option<Id>
     requires left { IsId st.now a }
     requires right { IsId st.now b }
-    ensures { IfSome result (λ d. HasLeaves st.now d (λ pk. merged (look st.now a pk) (look st.now b pk))) }
+    ensures { IfSome result (λ d.
+        HasLeaves st.now d (λ pk. merged (look st.now a pk) (look st.now b pk))) }
 {
     if a == b || st.drops(b) {
         st.laws();
@@ -82,7 +83,8 @@ impl Join for Guard {
 fn guarded_by_leaf(st: &Store, a: Id, b: Id) -> Option<Id>
     requires left { IsId st.now a }
     requires right { IsId st.now b }
-    ensures { IfSome result (λ d. HasLeaves st.now d (λ pk. guarded (look st.now a pk) (look st.now b pk))) }
+    ensures { IfSome result (λ d.
+        HasLeaves st.now d (λ pk. guarded (look st.now a pk) (look st.now b pk))) }
 {
     if a == b || st.drops(b) {
         return Some(b);
@@ -132,9 +134,13 @@ pub fn union(st: &mut Store, a: Id, b: Id) -> Result<Id, AllocError>
     requires left { IsId st.old a }
     requires right { IsId st.old b }
     ensures grows { Grows st.old st.new }
-    ensures ok { IfOk result (λ d. HasLeaves st.new d (λ pk. merged (look st.old a pk) (look st.old b pk))) }
-    ensures predicate { IfOk result (λ d. IsPredicate st.old a → IsPredicate st.old b → IsPredicate st.new d) }
-    ensures ends { IfOk result (λ d. HasOnlyFinals (look st.old a) → HasOnlyFinals (look st.old b) → HasOnlyFinals (look st.new d)) }
+    ensures ok { IfOk result
+        (λ d. HasLeaves st.new d (λ pk. merged (look st.old a pk) (look st.old b pk))) }
+    ensures predicate { IfOk result
+        (λ d. IsPredicate st.old a → IsPredicate st.old b → IsPredicate st.new d) }
+    ensures ends { IfOk result
+        (λ d. HasOnlyFinals (look st.old a) → HasOnlyFinals (look st.old b)
+        → HasOnlyFinals (look st.new d)) }
     ensures kept { IfOk result (λ d. recalled st.new operations.Union a b ≡ Some d) }
     ensures again { GivesKept st.old st.new operations.Union a b result }
 {
@@ -146,7 +152,8 @@ fn union_once(st: &mut Store, a: Id, b: Id) -> Result<Id, AllocError>
     requires left { IsId st.old a }
     requires right { IsId st.old b }
     ensures grows { Grows st.old st.new }
-    ensures ok { IfOk result (λ d. HasLeaves st.new d (λ pk. merged (look st.old a pk) (look st.old b pk))) }
+    ensures ok { IfOk result
+        (λ d. HasLeaves st.new d (λ pk. merged (look st.old a pk) (look st.old b pk))) }
     ensures kept { IfOk result (λ d. recalled st.new operations.Union a b ≡ Some d) }
     ensures again { GivesKept st.old st.new operations.Union a b result }
 {
@@ -163,7 +170,8 @@ fn union_anew(st: &mut Store, a: Id, b: Id) -> Result<Id, AllocError>
     requires left { IsId st.old a }
     requires right { IsId st.old b }
     ensures grows { Grows st.old st.new }
-    ensures ok { IfOk result (λ d. HasLeaves st.new d (λ pk. merged (look st.old a pk) (look st.old b pk))) }
+    ensures ok { IfOk result
+        (λ d. HasLeaves st.new d (λ pk. merged (look st.old a pk) (look st.old b pk))) }
 {
     match united(st, a, b) {
         Some(d) => Ok(d),
@@ -176,8 +184,10 @@ pub fn union_later(st: &mut Store, a: Id, b: Id) -> Result<Id, AllocError>
     requires left { IsId st.old a }
     requires right { IsId st.old b }
     ensures grows { Grows st.old st.new }
-    ensures ok { IfOk result (λ d. HasLeaves st.new d (λ pk. merged (look st.old a pk) (look st.old b pk))) }
-    ensures later { IfOk result (λ d. min (root_field st.old a) (root_field st.old b) ≤ root_field st.new d) }
+    ensures ok { IfOk result
+        (λ d. HasLeaves st.new d (λ pk. merged (look st.old a pk) (look st.old b pk))) }
+    ensures later { IfOk result
+        (λ d. min (root_field st.old a) (root_field st.old b) ≤ root_field st.new d) }
 {
     merge(st, &Together, a, b)
 }
@@ -187,9 +197,11 @@ pub fn both(st: &mut Store, pred: Id, d: Id) -> Result<Id, AllocError>
     requires pred { IsId st.old pred }
     requires right { IsId st.old d }
     ensures grows { Grows st.old st.new }
-    ensures ok { IfOk result (λ r. HasLeaves st.new r (λ pk. guarded (look st.old pred pk) (look st.old d pk))) }
+    ensures ok { IfOk result
+        (λ r. HasLeaves st.new r (λ pk. guarded (look st.old pred pk) (look st.old d pk))) }
     ensures predicate { IfOk result (λ r. IsPredicate st.old d → IsPredicate st.new r) }
-    ensures ends { IfOk result (λ r. HasOnlyFinals (look st.old d) → HasOnlyFinals (look st.new r)) }
+    ensures ends { IfOk result
+        (λ r. HasOnlyFinals (look st.old d) → HasOnlyFinals (look st.new r)) }
     ensures kept { IfOk result (λ r. recalled st.new operations.Both pred d ≡ Some r) }
     ensures again { GivesKept st.old st.new operations.Both pred d result }
 {
@@ -201,7 +213,8 @@ fn both_once(st: &mut Store, pred: Id, d: Id) -> Result<Id, AllocError>
     requires pred { IsId st.old pred }
     requires right { IsId st.old d }
     ensures grows { Grows st.old st.new }
-    ensures ok { IfOk result (λ r. HasLeaves st.new r (λ pk. guarded (look st.old pred pk) (look st.old d pk))) }
+    ensures ok { IfOk result
+        (λ r. HasLeaves st.new r (λ pk. guarded (look st.old pred pk) (look st.old d pk))) }
     ensures kept { IfOk result (λ r. recalled st.new operations.Both pred d ≡ Some r) }
     ensures again { GivesKept st.old st.new operations.Both pred d result }
 {
@@ -218,7 +231,8 @@ fn both_anew(st: &mut Store, pred: Id, d: Id) -> Result<Id, AllocError>
     requires pred { IsId st.old pred }
     requires right { IsId st.old d }
     ensures grows { Grows st.old st.new }
-    ensures ok { IfOk result (λ r. HasLeaves st.new r (λ pk. guarded (look st.old pred pk) (look st.old d pk))) }
+    ensures ok { IfOk result
+        (λ r. HasLeaves st.new r (λ pk. guarded (look st.old pred pk) (look st.old d pk))) }
 {
     match guarded_by_leaf(st, pred, d) {
         Some(r) => Ok(r),
@@ -231,7 +245,8 @@ pub fn both_later(st: &mut Store, pred: Id, d: Id) -> Result<Id, AllocError>
     requires pred { IsId st.old pred }
     requires right { IsId st.old d }
     ensures grows { Grows st.old st.new }
-    ensures ok { IfOk result (λ r. HasLeaves st.new r (λ pk. guarded (look st.old pred pk) (look st.old d pk))) }
+    ensures ok { IfOk result
+        (λ r. HasLeaves st.new r (λ pk. guarded (look st.old pred pk) (look st.old d pk))) }
 {
     merge(st, &Guard, pred, d)
 }
@@ -240,7 +255,8 @@ pub fn both_later(st: &mut Store, pred: Id, d: Id) -> Result<Id, AllocError>
 pub fn negate(st: &mut Store, pred: Id) -> Result<Id, AllocError>
     requires { IsId st.old pred }
     ensures grows { Grows st.old st.new }
-    ensures ok { IfOk result (λ r. HasLeaves st.new r (λ pk. absent (look st.old pred pk) (look st.old pred pk))) }
+    ensures ok { IfOk result
+        (λ r. HasLeaves st.new r (λ pk. absent (look st.old pred pk) (look st.old pred pk))) }
     ensures predicate { IfOk result (λ r. IsPredicate st.new r) }
     ensures kept { IfOk result (λ r. recalled st.new operations.Negate pred pred ≡ Some r) }
     ensures again { GivesKept st.old st.new operations.Negate pred pred result }
@@ -253,7 +269,8 @@ pub fn negate(st: &mut Store, pred: Id) -> Result<Id, AllocError>
 fn negate_once(st: &mut Store, pred: Id) -> Result<Id, AllocError>
     requires { IsId st.old pred }
     ensures grows { Grows st.old st.new }
-    ensures ok { IfOk result (λ r. HasLeaves st.new r (λ pk. absent (look st.old pred pk) (look st.old pred pk))) }
+    ensures ok { IfOk result
+        (λ r. HasLeaves st.new r (λ pk. absent (look st.old pred pk) (look st.old pred pk))) }
     ensures kept { IfOk result (λ r. recalled st.new operations.Negate pred pred ≡ Some r) }
     ensures again { GivesKept st.old st.new operations.Negate pred pred result }
 {

@@ -40,8 +40,10 @@ pub(crate) fn union_many(st: &mut Store, ds: &[Id]) -> Result<Id, AllocError>
     requires ids { AreIds st.old ds.now }
     requires some { 0 < length ds.now }
     ensures grows { Grows st.old st.new }
-    ensures ok { IfOk result (λ r. HasLeaves st.new r (λ pk. unions st.old ds.now 0 (length ds.now) pk)) }
-    ensures later { IfOk result (λ r. (p : ℕ) → p ≤ 18 → AreFrom st.old p ds.now → p ≤ root_field st.new r) }
+    ensures ok { IfOk result
+        (λ r. HasLeaves st.new r (λ pk. unions st.old ds.now 0 (length ds.now) pk)) }
+    ensures later { IfOk result
+        (λ r. (p : ℕ) → p ≤ 18 → AreFrom st.old p ds.now → p ≤ root_field st.new r) }
 {
     if ds.len() > 2 && least_place(st, ds) == PLACES {
         return union_leaves(st, ds);
@@ -54,8 +56,10 @@ fn union_leaves(st: &mut Store, ds: &[Id]) -> Result<Id, AllocError>
     requires ids { AreIds st.old ds.now }
     requires leaves { AreFrom st.old 18 ds.now }
     ensures grows { Grows st.old st.new }
-    ensures ok { IfOk result (λ r. HasLeaves st.new r (λ pk. unions st.old ds.now 0 (length ds.now) pk)) }
-    ensures later { IfOk result (λ r. (p : ℕ) → p ≤ 18 → AreFrom st.old p ds.now → p ≤ root_field st.new r) }
+    ensures ok { IfOk result
+        (λ r. HasLeaves st.new r (λ pk. unions st.old ds.now 0 (length ds.now) pk)) }
+    ensures later { IfOk result
+        (λ r. (p : ℕ) → p ≤ 18 → AreFrom st.old p ds.now → p ≤ root_field st.new r) }
 {
     st.laws();
     let outs = outs_of_all(st, ds)?;
@@ -104,8 +108,10 @@ fn union_some(st: &mut Store, ds: &[Id], from: usize, to: usize) -> Result<Id, A
     requires some { from < to }
     requires within { to ≤ length ds.now }
     ensures grows { Grows st.old st.new }
-    ensures ok { IfOk result (λ r. HasLeaves st.new r (λ pk. unions st.old ds.now from (to - from) pk)) }
-    ensures later { IfOk result (λ r. (p : ℕ) → p ≤ 18 → AreFrom st.old p ds.now → p ≤ root_field st.new r) }
+    ensures ok { IfOk result
+        (λ r. HasLeaves st.new r (λ pk. unions st.old ds.now from (to - from) pk)) }
+    ensures later { IfOk result
+        (λ r. (p : ℕ) → p ≤ 18 → AreFrom st.old p ds.now → p ≤ root_field st.new r) }
 {
     let first = ds[from];
     let _tidy = st.view(first);

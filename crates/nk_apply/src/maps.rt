@@ -18,7 +18,9 @@ pub trait LeafMap {
     /// What is made of the outs of a leaf, in any order and number.
     fn map(&self, alloc: Global, outs: &[Out]) -> Result<List<Out>, AllocError>
         ensures is { IfOk result (λ r. AreOrdered r (mapped self.now outs.now)) }
-        ensures suits { IfOk result (λ r. (maxes : Items ℕ) → allowed self.now maxes → Every (Suits maxes) outs.now → Every (Suits maxes) r) };
+        ensures suits { IfOk result
+            (λ r. (maxes : Items ℕ) → allowed self.now maxes → Every (Suits maxes) outs.now
+            → Every (Suits maxes) r) };
 }
 
 /// A diagram changed leaf by leaf keeps all fields.

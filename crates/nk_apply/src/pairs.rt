@@ -19,7 +19,8 @@ pub trait Join {
     fn known(&self, _st: &Store, _a: Id, _b: Id) -> Option<Id>
         requires left { IsId _st.now _a }
         requires right { IsId _st.now _b }
-        ensures { IfSome result (λ d. HasLeaves _st.now d (λ pk. joined self.now (look _st.now _a pk) (look _st.now _b pk))) }
+        ensures { IfSome result (λ d.
+            HasLeaves _st.now d (λ pk. joined self.now (look _st.now _a pk) (look _st.now _b pk))) }
     {
         None
     }
@@ -28,7 +29,8 @@ pub trait Join {
     fn keep(&self, _st: &mut Store, _a: Id, _b: Id, _d: Id) -> Result<(), AllocError>
         requires left { IsId _st.old _a }
         requires right { IsId _st.old _b }
-        requires leaves { HasLeaves _st.old _d (λ pk. joined self.now (look _st.old _a pk) (look _st.old _b pk)) }
+        requires leaves { HasLeaves _st.old _d
+            (λ pk. joined self.now (look _st.old _a pk) (look _st.old _b pk)) }
         ensures grows { Grows _st.old _st.new }
         ensures nodes { _st.new.nodes ≡ _st.old.nodes }
     {
@@ -41,14 +43,17 @@ pub trait Join {
         requires right { Strict b.now }
         ensures is { IfOk result (λ r. r ≡ joined self.now a.now b.now) }
         ensures sorted { IfOk result (λ r. Strict r) }
-        ensures suits { IfOk result (λ r. (maxes : Items ℕ) → Every (Suits maxes) a.now → Every (Suits maxes) b.now → Every (Suits maxes) r) };
+        ensures suits { IfOk result
+            (λ r. (maxes : Items ℕ) → Every (Suits maxes) a.now → Every (Suits maxes) b.now
+            → Every (Suits maxes) r) };
 }
 
 /// The first field that one of two diagrams tests, if any.
 pub fn first_field(st: &Store, a: Id, b: Id) -> Option<Fid>
     requires left { IsId st.now a }
     requires right { IsId st.now b }
-    ensures { MatchOption result ((root_field st.now a ≡ 18) × (root_field st.now b ≡ 18)) (λ f. IsFirst st.now a b f) }
+    ensures { MatchOption result ((root_field st.now a ≡ 18) × (root_field st.now b ≡ 18))
+        (λ f. IsFirst st.now a b f) }
 {
     match (st.view(a), st.view(b)) {
         (Node::Leaf(_), Node::Leaf(_)) => None,
@@ -64,8 +69,10 @@ pub fn merge<J: Join>(st: &mut Store, j: &J, a: Id, b: Id) -> Result<Id, AllocEr
     requires left { IsId st.old a }
     requires right { IsId st.old b }
     ensures grows { Grows st.old st.new }
-    ensures ok { IfOk result (λ d. HasLeaves st.new d (λ pk. J.joined j.now (look st.old a pk) (look st.old b pk))) }
-    ensures later { IfOk result (λ d. min (root_field st.old a) (root_field st.old b) ≤ root_field st.new d) }
+    ensures ok { IfOk result
+        (λ d. HasLeaves st.new d (λ pk. J.joined j.now (look st.old a pk) (look st.old b pk))) }
+    ensures later { IfOk result
+        (λ d. min (root_field st.old a) (root_field st.old b) ≤ root_field st.new d) }
 {
     if let Some(d) = known_root_field(st, j, a, b) {
         return Ok(d);
@@ -81,8 +88,10 @@ pub(crate) fn merge_anew<J: Join>(st: &mut Store, j: &J, a: Id, b: Id) -> Result
     requires left { IsId st.old a }
     requires right { IsId st.old b }
     ensures grows { Grows st.old st.new }
-    ensures ok { IfOk result (λ d. HasLeaves st.new d (λ pk. J.joined j.now (look st.old a pk) (look st.old b pk))) }
-    ensures later { IfOk result (λ d. min (root_field st.old a) (root_field st.old b) ≤ root_field st.new d) }
+    ensures ok { IfOk result
+        (λ d. HasLeaves st.new d (λ pk. J.joined j.now (look st.old a pk) (look st.old b pk))) }
+    ensures later { IfOk result
+        (λ d. min (root_field st.old a) (root_field st.old b) ≤ root_field st.new d) }
 {
     match first_field(st, a, b) {
         None => merge_leaves(st, j, a, b),
@@ -97,8 +106,10 @@ fn merge_case<J: Join>(st: &mut Store, j: &J, f: Fid, a: Id, b: Id) -> Result<Id
     requires right { IsId st.old b }
     requires first { IsFirst st.old a b f }
     ensures grows { Grows st.old st.new }
-    ensures ok { IfOk result (λ d. HasLeaves st.new d (λ pk. J.joined j.now (look st.old a pk) (look st.old b pk))) }
-    ensures later { IfOk result (λ d. min (root_field st.old a) (root_field st.old b) ≤ root_field st.new d) }
+    ensures ok { IfOk result
+        (λ d. HasLeaves st.new d (λ pk. J.joined j.now (look st.old a pk) (look st.old b pk))) }
+    ensures later { IfOk result
+        (λ d. min (root_field st.old a) (root_field st.old b) ≤ root_field st.new d) }
 {
     let parts = merge_parts(st, j, f, a, b)?;
     st.case(f, parts)
@@ -108,8 +119,10 @@ fn merge_case<J: Join>(st: &mut Store, j: &J, f: Fid, a: Id, b: Id) -> Result<Id
 fn known_root_field<J: Join>(st: &Store, j: &J, a: Id, b: Id) -> Option<Id>
     requires left { IsId st.now a }
     requires right { IsId st.now b }
-    ensures leaves { IfSome result (λ d. HasLeaves st.now d (λ pk. J.joined j.now (look st.now a pk) (look st.now b pk))) }
-    ensures later { IfSome result (λ d. min (root_field st.now a) (root_field st.now b) ≤ root_field st.now d) }
+    ensures leaves { IfSome result
+        (λ d. HasLeaves st.now d (λ pk. J.joined j.now (look st.now a pk) (look st.now b pk))) }
+    ensures later { IfSome result
+        (λ d. min (root_field st.now a) (root_field st.now b) ≤ root_field st.now d) }
 {
     st.laws();
     j.known(st, a, b)
@@ -122,7 +135,8 @@ fn merge_leaves<J: Join>(st: &mut Store, j: &J, a: Id, b: Id) -> Result<Id, Allo
     requires left_leaf { root_field st.old a ≡ 18 }
     requires right_leaf { root_field st.old b ≡ 18 }
     ensures grows { Grows st.old st.new }
-    ensures ok { IfOk result (λ d. HasLeaves st.new d (λ pk. J.joined j.now (look st.old a pk) (look st.old b pk))) }
+    ensures ok { IfOk result
+        (λ d. HasLeaves st.new d (λ pk. J.joined j.now (look st.old a pk) (look st.old b pk))) }
     ensures later { IfOk result (λ d. root_field st.new d ≡ 18) }
 {
     let outs = match (st.view(a), st.view(b)) {
@@ -146,7 +160,11 @@ fn merge_parts<J: Join>(
     requires first { IsFirst st.old a b f }
     ensures grows { Grows st.old st.new }
     ensures parts { IfOk result (λ ps. AreParts st.new f ps) }
-    ensures ok { IfOk result (λ ps. (v : ℕ) (pk : Items ℕ) → IsWhole pk → look st.new (child_at 0 ps v) pk ≡ J.joined j.now (look st.old (cofactor st.old f v a) pk) (look st.old (cofactor st.old f v b) pk)) }
+    ensures ok { IfOk result
+        (λ ps. (v : ℕ) (pk : Items ℕ) → IsWhole pk
+        → look st.new (child_at 0 ps v) pk
+        ≡ J.joined j.now (look st.old (cofactor st.old f v a) pk)
+        (look st.old (cofactor st.old f v b) pk)) }
 {
     let max = st.max(f);
     let mut parts = List::new(st.alloc());

@@ -10,7 +10,8 @@ use nk_store::{Id, Node, Store};
 /// The field that a diagram tests first; `None` for a leaf.
 pub fn tested(st: &Store, a: Id) -> Option<Fid>
     requires { IsId st.now a }
-    ensures { MatchOption result (root_field st.now a ≡ 18) (λ f. (f < 18) × (root_field st.now a ≡ f) × IsSplit st.now f a) }
+    ensures { MatchOption result (root_field st.now a ≡ 18)
+        (λ f. (f < 18) × (root_field st.now a ≡ f) × IsSplit st.now f a) }
 {
     match st.view(a) {
         Node::Leaf(_) => None,
@@ -88,7 +89,8 @@ fn place_near(parts: &[(u64, Id)], max: u64, v: u64, near: usize) -> usize
 fn is_place(parts: &[(u64, Id)], max: u64, v: u64, place: usize) -> bool
     requires rise { Rises max 0 parts.now }
     ensures within { result ≡ true → place < length parts.now }
-    ensures found { result ≡ true → (e : ℕ × ℕ) → slice_index_or parts.now place e ≡ found_in (0, 0) parts.now v }
+    ensures found { result ≡ true → (e : ℕ × ℕ)
+        → slice_index_or parts.now place e ≡ found_in (0, 0) parts.now v }
 {
     if place >= parts.len() || parts[place].0 < v {
         return false;

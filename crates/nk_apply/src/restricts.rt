@@ -18,7 +18,8 @@ pub fn restrict(st: &mut Store, d: Id, f: Fid, n: u64) -> Result<Id, AllocError>
     ensures ok { IfOk result (λ r. HasLeaves st.new r (λ pk. look st.old d (slice_set pk f n))) }
     ensures later { IfOk result (λ r. root_field st.old d ≤ root_field st.new r) }
     ensures predicate { IfOk result (λ r. IsPredicate st.old d → IsPredicate st.new r) }
-    ensures ends { IfOk result (λ r. HasOnlyFinals (look st.old d) → HasOnlyFinals (look st.new r)) }
+    ensures ends { IfOk result
+        (λ r. HasOnlyFinals (look st.old d) → HasOnlyFinals (look st.new r)) }
 {
     restricted(st, d, f, n)
 }

@@ -25,7 +25,10 @@ pub fn span(
     requires inside { IsChild st.old f inside }
     requires outside { IsChild st.old f outside }
     ensures grows { Grows st.old st.new }
-    ensures ok { IfOk result (λ d. HasLeaves st.new d (λ pk. look st.old (spanned (slice_index st.old.maxes f) lo hi inside outside (slice_index pk f)) pk)) }
+    ensures ok { IfOk result
+        (λ d. HasLeaves st.new d
+        (λ pk. look st.old (spanned (slice_index st.old.maxes f) lo hi inside outside
+        (slice_index pk f)) pk)) }
     ensures later { IfOk result (λ d. f ≤ root_field st.new d) }
 {
     let parts = span_parts(st.alloc(), st.max(f), lo, hi, inside, outside)?;
@@ -60,7 +63,8 @@ pub fn test(st: &mut Store, f: Fid, n: u64) -> Result<Id, AllocError>
     requires within { n ≤ slice_index st.old.maxes f }
     ensures grows { Grows st.old st.new }
     ensures ok { IfOk result (λ d. HasLeaves st.new d
-        (λ pk. cond (eqb (min (slice_index pk f) (slice_index st.old.maxes f)) n) (no_out ∷ []) [])) }
+        (λ pk. cond (eqb (min (slice_index pk f) (slice_index st.old.maxes f)) n)
+        (no_out ∷ []) [])) }
     ensures later { IfOk result (λ d. f ≤ root_field st.new d) }
     ensures predicate { IfOk result (λ d. IsPredicate st.new d) }
 {
@@ -73,7 +77,8 @@ fn at_value(st: &mut Store, f: Fid, n: u64) -> Result<Id, AllocError>
     requires within { n ≤ slice_index st.old.maxes f }
     ensures grows { Grows st.old st.new }
     ensures ok { IfOk result (λ d. HasLeaves st.new d
-        (λ pk. cond (eqb (min (slice_index pk f) (slice_index st.old.maxes f)) n) (no_out ∷ []) [])) }
+        (λ pk. cond (eqb (min (slice_index pk f) (slice_index st.old.maxes f)) n)
+        (no_out ∷ []) [])) }
     ensures later { IfOk result (λ d. f ≤ root_field st.new d) }
 {
     let inside = identity(st)?;

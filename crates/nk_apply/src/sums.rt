@@ -21,7 +21,8 @@ pub(crate) fn union_at(st: &mut Store, f: Fid, ds: &[Id]) -> Result<Id, AllocErr
     requires first { AreFrom st.old f ds.now }
     requires some { 0 < length ds.now }
     ensures grows { Grows st.old st.new }
-    ensures ok { IfOk result (λ r. HasLeaves st.new r (λ pk. unions st.old ds.now 0 (length ds.now) pk)) }
+    ensures ok { IfOk result
+        (λ r. HasLeaves st.new r (λ pk. unions st.old ds.now 0 (length ds.now) pk)) }
 {
     st.laws();
     let parts = all_parts(st, f, ds)?;
@@ -35,7 +36,9 @@ fn all_parts(st: &mut Store, f: Fid, ds: &[Id]) -> Result<List<(u64, Id)>, Alloc
     requires first { AreFrom st.old f ds.now }
     requires some { 0 < length ds.now }
     ensures grows { Grows st.old st.new }
-    ensures ok { IfOk result (HaveParts st.new f (λ v pk. over_places (cofactor_leaf st.old f ds.now v pk) 0 (length ds.now))) }
+    ensures ok { IfOk result
+        (HaveParts st.new f (λ v pk.
+        over_places (cofactor_leaf st.old f ds.now v pk) 0 (length ds.now))) }
 {
     if are_few(st, f, ds) {
         return few_parts(st, f, ds);
@@ -57,7 +60,9 @@ fn sum_parts(
     requires some { from < to }
     requires within { to ≤ length ds.now }
     ensures grows { Grows st.old st.new }
-    ensures ok { IfOk result (HaveParts st.new f (λ v pk. over_places (cofactor_leaf st.old f ds.now v pk) from (to - from))) }
+    ensures ok { IfOk result
+        (HaveParts st.new f (λ v pk.
+        over_places (cofactor_leaf st.old f ds.now v pk) from (to - from))) }
 {
     st.laws();
     if to - from == 1 {
@@ -109,7 +114,9 @@ fn join_parts(
     requires left { AreParts st.old f xs.now }
     requires right { AreParts st.old f ys.now }
     ensures grows { Grows st.old st.new }
-    ensures ok { IfOk result (HaveParts st.new f (λ v pk. merged (look st.old (child_at 0 xs.now v) pk) (look st.old (child_at 0 ys.now v) pk))) }
+    ensures ok { IfOk result
+        (HaveParts st.new f (λ v pk.
+        merged (look st.old (child_at 0 xs.now v) pk) (look st.old (child_at 0 ys.now v) pk))) }
 {
     let max = st.max(f);
     let none = empty(st)?;
@@ -137,8 +144,10 @@ fn union_beside(st: &mut Store, none: Id, x: Id, y: Id) -> Result<Id, AllocError
     requires left { IsId st.old x }
     requires right { IsId st.old y }
     ensures grows { Grows st.old st.new }
-    ensures ok { IfOk result (λ d. HasLeaves st.new d (λ pk. merged (look st.old x pk) (look st.old y pk))) }
-    ensures later { IfOk result (λ d. min (root_field st.old x) (root_field st.old y) ≤ root_field st.new d) }
+    ensures ok { IfOk result
+        (λ d. HasLeaves st.new d (λ pk. merged (look st.old x pk) (look st.old y pk))) }
+    ensures later { IfOk result
+        (λ d. min (root_field st.old x) (root_field st.old y) ≤ root_field st.new d) }
 {
     st.laws();
     if y == none {

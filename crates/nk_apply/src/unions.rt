@@ -16,8 +16,10 @@ use std::alloc::AllocError;
 pub fn union_all(st: &mut Store, ds: &[Id]) -> Result<Id, AllocError>
     requires { AreIds st.old ds.now }
     ensures grows { Grows st.old st.new }
-    ensures ok { IfOk result (λ r. HasLeaves st.new r (λ pk. unions st.old ds.now 0 (length ds.now) pk)) }
-    ensures predicate { IfOk result (λ r. ((k : ℕ) → k < length ds.now → IsPredicate st.old (slice_index ds.now k))
+    ensures ok { IfOk result
+        (λ r. HasLeaves st.new r (λ pk. unions st.old ds.now 0 (length ds.now) pk)) }
+    ensures predicate { IfOk result
+        (λ r. ((k : ℕ) → k < length ds.now → IsPredicate st.old (slice_index ds.now k))
         → IsPredicate st.new r) }
 {
     unions_of(st, ds)
@@ -27,7 +29,8 @@ pub fn union_all(st: &mut Store, ds: &[Id]) -> Result<Id, AllocError>
 fn unions_of(st: &mut Store, ds: &[Id]) -> Result<Id, AllocError>
     requires { AreIds st.old ds.now }
     ensures grows { Grows st.old st.new }
-    ensures ok { IfOk result (λ r. HasLeaves st.new r (λ pk. unions st.old ds.now 0 (length ds.now) pk)) }
+    ensures ok { IfOk result
+        (λ r. HasLeaves st.new r (λ pk. unions st.old ds.now 0 (length ds.now) pk)) }
 {
     if ds.len() == 0 {
         return empty(st);
@@ -46,7 +49,8 @@ fn unions_of(st: &mut Store, ds: &[Id]) -> Result<Id, AllocError>
 fn alone(st: &Store, ds: &[Id]) -> Option<Id>
     requires ids { AreIds st.now ds.now }
     requires some { 0 < length ds.now }
-    ensures { IfSome result (λ r. HasLeaves st.now r (λ pk. unions st.now ds.now 0 (length ds.now) pk)) }
+    ensures { IfSome result (λ r.
+        HasLeaves st.now r (λ pk. unions st.now ds.now 0 (length ds.now) pk)) }
 {
     st.laws();
     let mut found = ds[0];

@@ -40,7 +40,8 @@ pub trait NodeMap {
 
     /// What holds at the fields that are kept; it does nothing.
     fn laws(&self)
-        ensures same { (g : ℕ) (pk : Items ℕ) → g < kept self.now → slice_index (taken self.now pk) g ≡ slice_index pk g }
+        ensures same { (g : ℕ) (pk : Items ℕ) → g < kept self.now
+            → slice_index (taken self.now pk) g ≡ slice_index pk g }
         ensures least { (t : ℕ) → first self.now t ≤ t }
         ensures following { (g t : ℕ) → g < kept self.now → g < t → g < first self.now t };
 
@@ -50,8 +51,11 @@ pub trait NodeMap {
         requires allowed { allowed self.now st.old.maxes }
         requires past { kept self.now ≤ root_field st.old d }
         ensures grows { Grows st.old st.new }
-        ensures ok { IfOk result (λ r. HasLeaves st.new r (λ pk. made self.now st.old.maxes pk (look st.old d (taken self.now pk)))) }
-        ensures later { IfOk result (λ r. first self.now (root_field st.old d) ≤ root_field st.new r) };
+        ensures ok { IfOk result
+            (λ r. HasLeaves st.new r
+            (λ pk. made self.now st.old.maxes pk (look st.old d (taken self.now pk)))) }
+        ensures later { IfOk result
+            (λ r. first self.now (root_field st.old d) ≤ root_field st.new r) };
 }
 
 /// What is made of a diagram. Each node is visited once; no table is made where it tests none of the kept fields. The only
@@ -60,7 +64,9 @@ pub fn map_nodes<M: NodeMap>(st: &mut Store, m: &M, d: Id) -> Result<Id, AllocEr
     requires id { IsId st.old d }
     requires allowed { M.allowed m.now st.old.maxes }
     ensures grows { Grows st.old st.new }
-    ensures ok { IfOk result (λ r. HasLeaves st.new r (λ pk. M.made m.now st.old.maxes pk (look st.old d (M.taken m.now pk)))) }
+    ensures ok { IfOk result
+        (λ r. HasLeaves st.new r
+        (λ pk. M.made m.now st.old.maxes pk (look st.old d (M.taken m.now pk)))) }
     ensures later { IfOk result (λ r. M.first m.now (root_field st.old d) ≤ root_field st.new r) }
 {
     match first_before(st, d, m.place()) {
@@ -78,7 +84,9 @@ fn map_below<M: NodeMap>(st: &mut Store, m: &M, g: Fid, d: Id) -> Result<Id, All
     requires split { IsSplit st.old g d }
     requires allowed { M.allowed m.now st.old.maxes }
     ensures grows { Grows st.old st.new }
-    ensures ok { IfOk result (λ r. HasLeaves st.new r (λ pk. M.made m.now st.old.maxes pk (look st.old d (M.taken m.now pk)))) }
+    ensures ok { IfOk result
+        (λ r. HasLeaves st.new r
+        (λ pk. M.made m.now st.old.maxes pk (look st.old d (M.taken m.now pk)))) }
     ensures later { IfOk result (λ r. M.first m.now (root_field st.old d) ≤ root_field st.new r) }
 {
     let mut seen = HashMap::new(st.alloc());
@@ -95,11 +103,15 @@ fn walk_once<M: NodeMap>(
 ) -> Result<Id, AllocError>
     requires id { IsId st.old d }
     requires allowed { M.allowed m.now st.old.maxes }
-    requires seen { AreMadeOf (M.taken m.now) (M.made m.now) (M.first m.now) st.old seen.old.entries }
+    requires seen { AreMadeOf (M.taken m.now) (M.made m.now)
+        (M.first m.now) st.old seen.old.entries }
     ensures grows { Grows st.old st.new }
-    ensures ok { IfOk result (λ r. HasLeaves st.new r (λ pk. M.made m.now st.old.maxes pk (look st.old d (M.taken m.now pk)))) }
+    ensures ok { IfOk result
+        (λ r. HasLeaves st.new r
+        (λ pk. M.made m.now st.old.maxes pk (look st.old d (M.taken m.now pk)))) }
     ensures later { IfOk result (λ r. M.first m.now (root_field st.old d) ≤ root_field st.new r) }
-    ensures seen { OnOk result (AreMadeOf (M.taken m.now) (M.made m.now) (M.first m.now) st.new seen.new.entries) }
+    ensures seen { OnOk result
+        (AreMadeOf (M.taken m.now) (M.made m.now) (M.first m.now) st.new seen.new.entries) }
 {
     match first_before(st, d, m.place()) {
         None => walk_end(st, seen, m, d),
@@ -111,7 +123,8 @@ fn walk_once<M: NodeMap>(
 fn first_before(st: &Store, d: Id, place: usize) -> Option<Fid>
     requires id { IsId st.now d }
     requires few { place ≤ 18 }
-    ensures { MatchOption result (place ≤ root_field st.now d) (λ g. (g < place) × (root_field st.now d ≡ g) × IsSplit st.now g d) }
+    ensures { MatchOption result (place ≤ root_field st.now d)
+        (λ g. (g < place) × (root_field st.now d ≡ g) × IsSplit st.now g d) }
 {
     match st.view(d) {
         Node::Case(g, _) => { if g.place() < place { Some(*g) } else { None } }
@@ -129,11 +142,15 @@ fn walk_end<M: NodeMap>(
     requires id { IsId st.old d }
     requires past { M.kept m.now ≤ root_field st.old d }
     requires allowed { M.allowed m.now st.old.maxes }
-    requires seen { AreMadeOf (M.taken m.now) (M.made m.now) (M.first m.now) st.old seen.old.entries }
+    requires seen { AreMadeOf (M.taken m.now) (M.made m.now)
+        (M.first m.now) st.old seen.old.entries }
     ensures grows { Grows st.old st.new }
-    ensures ok { IfOk result (λ r. HasLeaves st.new r (λ pk. M.made m.now st.old.maxes pk (look st.old d (M.taken m.now pk)))) }
+    ensures ok { IfOk result
+        (λ r. HasLeaves st.new r
+        (λ pk. M.made m.now st.old.maxes pk (look st.old d (M.taken m.now pk)))) }
     ensures later { IfOk result (λ r. M.first m.now (root_field st.old d) ≤ root_field st.new r) }
-    ensures seen { OnOk result (AreMadeOf (M.taken m.now) (M.made m.now) (M.first m.now) st.new seen.new.entries) }
+    ensures seen { OnOk result
+        (AreMadeOf (M.taken m.now) (M.made m.now) (M.first m.now) st.new seen.new.entries) }
 {
     if m.is_quick() {
         return m.change(st, d);
@@ -168,11 +185,15 @@ fn walk_case<M: NodeMap>(
     requires first { root_field st.old d ≡ g }
     requires split { IsSplit st.old g d }
     requires allowed { M.allowed m.now st.old.maxes }
-    requires seen { AreMadeOf (M.taken m.now) (M.made m.now) (M.first m.now) st.old seen.old.entries }
+    requires seen { AreMadeOf (M.taken m.now) (M.made m.now)
+        (M.first m.now) st.old seen.old.entries }
     ensures grows { Grows st.old st.new }
-    ensures ok { IfOk result (λ r. HasLeaves st.new r (λ pk. M.made m.now st.old.maxes pk (look st.old d (M.taken m.now pk)))) }
+    ensures ok { IfOk result
+        (λ r. HasLeaves st.new r
+        (λ pk. M.made m.now st.old.maxes pk (look st.old d (M.taken m.now pk)))) }
     ensures later { IfOk result (λ r. M.first m.now (root_field st.old d) ≤ root_field st.new r) }
-    ensures seen { OnOk result (AreMadeOf (M.taken m.now) (M.made m.now) (M.first m.now) st.new seen.new.entries) }
+    ensures seen { OnOk result
+        (AreMadeOf (M.taken m.now) (M.made m.now) (M.first m.now) st.new seen.new.entries) }
 {
     if let Some(r) = known(seen, d) {
         return Ok(r);
@@ -197,11 +218,15 @@ fn walk_node<M: NodeMap>(
     requires first { root_field st.old d ≡ g }
     requires split { IsSplit st.old g d }
     requires allowed { M.allowed m.now st.old.maxes }
-    requires seen { AreMadeOf (M.taken m.now) (M.made m.now) (M.first m.now) st.old seen.old.entries }
+    requires seen { AreMadeOf (M.taken m.now) (M.made m.now)
+        (M.first m.now) st.old seen.old.entries }
     ensures grows { Grows st.old st.new }
-    ensures ok { IfOk result (λ r. HasLeaves st.new r (λ pk. M.made m.now st.old.maxes pk (look st.old d (M.taken m.now pk)))) }
+    ensures ok { IfOk result
+        (λ r. HasLeaves st.new r
+        (λ pk. M.made m.now st.old.maxes pk (look st.old d (M.taken m.now pk)))) }
     ensures later { IfOk result (λ r. M.first m.now (root_field st.old d) ≤ root_field st.new r) }
-    ensures seen { OnOk result (AreMadeOf (M.taken m.now) (M.made m.now) (M.first m.now) st.new seen.new.entries) }
+    ensures seen { OnOk result
+        (AreMadeOf (M.taken m.now) (M.made m.now) (M.first m.now) st.new seen.new.entries) }
 {
     m.laws();
     let parts = walk_parts(st, seen, m, g, d)?;
@@ -223,11 +248,16 @@ fn walk_parts<M: NodeMap>(
     requires first { root_field st.old d ≡ g }
     requires split { IsSplit st.old g d }
     requires allowed { M.allowed m.now st.old.maxes }
-    requires seen { AreMadeOf (M.taken m.now) (M.made m.now) (M.first m.now) st.old seen.old.entries }
+    requires seen { AreMadeOf (M.taken m.now) (M.made m.now)
+        (M.first m.now) st.old seen.old.entries }
     ensures grows { Grows st.old st.new }
     ensures parts { IfOk result (λ ps. AreParts st.new g ps) }
-    ensures ok { IfOk result (λ ps. (v : ℕ) (pk : Items ℕ) → IsWhole pk → look st.new (child_at 0 ps v) pk ≡ M.made m.now st.old.maxes pk (look st.old (cofactor st.old g v d) (M.taken m.now pk))) }
-    ensures seen { OnOk result (AreMadeOf (M.taken m.now) (M.made m.now) (M.first m.now) st.new seen.new.entries) }
+    ensures ok { IfOk result
+        (λ ps. (v : ℕ) (pk : Items ℕ) → IsWhole pk
+        → look st.new (child_at 0 ps v) pk
+        ≡ M.made m.now st.old.maxes pk (look st.old (cofactor st.old g v d) (M.taken m.now pk))) }
+    ensures seen { OnOk result
+        (AreMadeOf (M.taken m.now) (M.made m.now) (M.first m.now) st.new seen.new.entries) }
 {
     m.laws();
     let max = st.max(g);
@@ -261,12 +291,17 @@ fn walk_part<M: NodeMap>(
 ) -> Result<Id, AllocError>
     requires id { IsId st.old d }
     requires allowed { M.allowed m.now st.old.maxes }
-    requires before { IfSome before (λ x. IsMadeOf (M.taken m.now) (M.made m.now) (M.first m.now) st.old x.0 x.1) }
-    requires seen { AreMadeOf (M.taken m.now) (M.made m.now) (M.first m.now) st.old seen.old.entries }
+    requires before { IfSome before
+        (λ x. IsMadeOf (M.taken m.now) (M.made m.now) (M.first m.now) st.old x.0 x.1) }
+    requires seen { AreMadeOf (M.taken m.now) (M.made m.now)
+        (M.first m.now) st.old seen.old.entries }
     ensures grows { Grows st.old st.new }
-    ensures ok { IfOk result (λ r. HasLeaves st.new r (λ pk. M.made m.now st.old.maxes pk (look st.old d (M.taken m.now pk)))) }
+    ensures ok { IfOk result
+        (λ r. HasLeaves st.new r
+        (λ pk. M.made m.now st.old.maxes pk (look st.old d (M.taken m.now pk)))) }
     ensures later { IfOk result (λ r. M.first m.now (root_field st.old d) ≤ root_field st.new r) }
-    ensures seen { OnOk result (AreMadeOf (M.taken m.now) (M.made m.now) (M.first m.now) st.new seen.new.entries) }
+    ensures seen { OnOk result
+        (AreMadeOf (M.taken m.now) (M.made m.now) (M.first m.now) st.new seen.new.entries) }
 {
     if let Some(r) = made_before(before, d) {
         return Ok(r);

@@ -57,7 +57,8 @@ pub(crate) fn drawn_once(
 
 /// The diagram of an assignment, if it is remembered.
 fn remembered(drawn: &[((Fid, u64), Id)], set: (Fid, u64)) -> Option<Id>
-    ensures { IfSome result (λ d. (st : StoreState) → AreAssignments st drawn.now → IsSilent st d (assign set.0 set.1)) }
+    ensures { IfSome result (λ d. (st : StoreState) → AreAssignments st drawn.now
+        → IsSilent st d (assign set.0 set.1)) }
 {
     for entry in drawn {
         if is_for(entry, set) {
@@ -77,7 +78,8 @@ fn is_for(entry: &((Fid, u64), Id), set: (Fid, u64)) -> bool
 
 /// Remembers the diagram of an assignment, while there is room.
 fn remember(drawn: &mut List<((Fid, u64), Id)>, set: (Fid, u64), d: Id) -> Result<(), AllocError>
-    ensures { OnOk result ((st : StoreState) → AreAssignments st drawn.old → IsSilent st d (assign set.0 set.1)
+    ensures { OnOk result ((st : StoreState) → AreAssignments st drawn.old
+        → IsSilent st d (assign set.0 set.1)
         → AreAssignments st drawn.new) }
 {
     if drawn.len() >= MOST {

@@ -21,7 +21,9 @@ use std::alloc::AllocError;
 /// error is that memory ran out.
 pub fn automaton(st: &mut Store, parts: &Parts) -> Result<List<Id>, AllocError>
     ensures grows { Grows st.old st.new }
-    ensures ok { IfOk result (λ states. (p : Policy) (first : ℕ) → ArePolicyParts parts.now p → IsDrawable st.old p first →
+    ensures ok { IfOk result
+        (λ states. (p : Policy) (first : ℕ) → ArePolicyParts parts.now p → IsDrawable st.old p first
+        →
         IsAutomaton st.new states first p) }
     ensures ids { IfOk result (λ states. AreIds st.new states) }
 {
@@ -39,7 +41,9 @@ fn push_states(
     states: &mut List<Id>,
 ) -> Result<(), AllocError>
     ensures grows { Grows st.old st.new }
-    ensures pushed { OnOk result ((made : Items ℕ) × (states.new ≡ states.old ++ made) × AreOfParts st.new made entries.now) }
+    ensures pushed { OnOk result
+        ((made : Items ℕ) × (states.new ≡ states.old ++ made)
+        × AreOfParts st.new made entries.now) }
 {
     for entry in entries {
         let d = state_of_part(st, &entry.1)?;

@@ -142,7 +142,8 @@ pub(crate) fn choice_between(
 ) -> Result<Option<Id>, AllocError>
     requires { AreBehind st.old f arms.now }
     ensures grows { Grows st.old st.new }
-    ensures ok { IfOk result (λ o. IfSome o (λ d. (p : Policy) → AreArms st.old f arms.now p → IsSilent st.new d p)) }
+    ensures ok { IfOk result
+        (λ o. IfSome o (λ d. (p : Policy) → AreArms st.old f arms.now p → IsSilent st.new d p)) }
 {
     let _place = f.place();
     let outside = empty(st)?;
@@ -166,7 +167,8 @@ fn arm_parts(
     requires behind { AreBehind st.now f arms.now }
     requires outside { IsConstant st.now outside [] }
     ensures parts { IfOk result (λ o. IfSome o
-        (HaveParts st.now f (λ v pk. arm_leaf st.now arms.now (min v (slice_index st.now.maxes f)) pk))) }
+        (HaveParts st.now f (λ v pk.
+        arm_leaf st.now arms.now (min v (slice_index st.now.maxes f)) pk))) }
     ensures alone { IfOk result (λ o. IfSome o (λ parts. HaveOwnValues st.now arms.now)) }
 {
     let max = st.max(f);

@@ -154,7 +154,8 @@ pub fn before_dup(st: &mut Store, l: u32, next: Id) -> Result<Id, AllocError>
 /// The packet itself, to a target.
 fn recorded(st: &mut Store, l: u64) -> Result<Id, AllocError>
     ensures grows { Grows st.old st.new }
-    ensures ok { IfOk result (λ d. HasLeaves st.new d (λ pk. record { act = []; target = l } ∷ [])) }
+    ensures ok { IfOk result
+        (λ d. HasLeaves st.new d (λ pk. record { act = []; target = l } ∷ [])) }
 {
     let d = identity(st)?;
     aim(st, d, l)
@@ -176,7 +177,8 @@ pub fn star_without_dup(st: &mut Store, q: &Pol, next: Id) -> Result<Id, AllocEr
 /// A link literal up to its first record: its two tests, and then the record.
 pub fn link_start(st: &mut Store, a: u16, m: u16, l: u32) -> Result<Id, AllocError>
     ensures grows { Grows st.old st.new }
-    ensures ok { IfOk result (λ d. (b n next : ℕ) → IsId st.old next → IsContinued st.new d (link a m b n l) next) }
+    ensures ok { IfOk result
+        (λ d. (b n next : ℕ) → IsId st.old next → IsContinued st.new d (link a m b n l) next) }
 {
     let at_dup = recorded(st, u64::from(l))?;
     let at_port = after_test(st, Fid::PORT, u64::from(m), at_dup)?;
@@ -188,7 +190,8 @@ pub fn link_start(st: &mut Store, a: u16, m: u16, l: u32) -> Result<Id, AllocErr
 pub fn link_rest(st: &mut Store, b: u16, n: u16, l: u32) -> Result<Id, AllocError>
     ensures grows { Grows st.old st.new }
     ensures ok { IfOk result (λ d. (next : ℕ) → IsId st.old next →
-        IsContinued st.new d (seq_of (part (assign 0 b) (part (assign 1 n) (part (dup (l + 1)) no_part)))) next) }
+        IsContinued st.new d (seq_of
+        (part (assign 0 b) (part (assign 1 n) (part (dup (l + 1)) no_part)))) next) }
 {
     let at_dup = recorded(st, u64::from(l) + 1)?;
     let at_port = after_set(st, Fid::PORT, u64::from(n), at_dup)?;

@@ -27,7 +27,9 @@ pub struct Behind {
 /// A diagram with no predicate before it.
 pub fn unguarded(st: &mut Store, rest: Id) -> Result<Behind, AllocError>
     ensures grows { Grows st.old st.new }
-    ensures ok { IfOk result (λ b. (p : Policy) (k : ℕ) → IsContinued st.old rest p k → IsGuarded st.new b.guard b.rest p k) }
+    ensures ok { IfOk result
+        (λ b. (p : Policy) (k : ℕ) → IsContinued st.old rest p k
+        → IsGuarded st.new b.guard b.rest p k) }
 {
     let guard = identity(st)?;
     Ok(Behind { guard, rest })
@@ -39,7 +41,9 @@ pub fn put_together(st: &mut Store, following: Behind) -> Result<Id, AllocError>
     requires rest { IsId st.old following.rest }
     ensures grows { Grows st.old st.new }
     ensures id { IfOk result (λ d. IsId st.new d) }
-    ensures ok { IfOk result (λ d. (p : Policy) (k : ℕ) → IsGuarded st.old following.guard following.rest p k → IsContinued st.new d p k) }
+    ensures ok { IfOk result
+        (λ d. (p : Policy) (k : ℕ) → IsGuarded st.old following.guard following.rest p k
+        → IsContinued st.new d p k) }
 {
     let d = at_packets(st, following.guard, following.rest)?;
     Ok(d)
@@ -50,8 +54,11 @@ pub fn guarded_by(st: &mut Store, d: Id, following: Behind) -> Result<Behind, Al
     requires id { IsId st.old d }
     requires guard { IsId st.old following.guard }
     ensures grows { Grows st.old st.new }
-    ensures ok { IfOk result (λ b. (p : Policy) (ps : Policies) (k : ℕ) → NeverRecords p → IsSilent st.old d p → IsPredicate st.old d →
-        IsGuarded st.old following.guard following.rest (seq_of ps) k → IsGuarded st.new b.guard b.rest (seq_of (part p ps)) k) }
+    ensures ok { IfOk result
+        (λ b. (p : Policy) (ps : Policies) (k : ℕ) → NeverRecords p → IsSilent st.old d p
+        → IsPredicate st.old d →
+        IsGuarded st.old following.guard following.rest (seq_of ps) k
+        → IsGuarded st.new b.guard b.rest (seq_of (part p ps)) k) }
 {
     let guard = both(st, d, following.guard)?;
     Ok(Behind {

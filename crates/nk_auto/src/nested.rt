@@ -76,7 +76,9 @@ pub fn put_before(
     requires after_silent { IsId st.old following.silent }
     requires after_records { IsId st.old following.records }
     ensures grows { Grows st.old st.new }
-    ensures ok { IfOk result (λ b. (p : Policy) (ps : Policies) (nothing : ℕ) → AreWays st.old first.silent first.records nothing p →
+    ensures ok { IfOk result
+        (λ b. (p : Policy) (ps : Policies) (nothing : ℕ)
+        → AreWays st.old first.silent first.records nothing p →
         AreWays st.old following.silent following.records nothing (seq_of ps) →
         AreWays st.new b.silent b.records nothing (seq_of (part p ps))) }
 {
@@ -96,8 +98,10 @@ pub fn around(st: &mut Store, body: BothWays, next: Id) -> Result<BothWays, Allo
     requires records { IsId st.old body.records }
     requires next { IsId st.old next }
     ensures grows { Grows st.old st.new }
-    ensures silent { IfOk result (λ b. (p : Policy) → IsSilent st.old body.silent p → IsSilent st.new b.silent (star_of p)) }
-    ensures records { IfOk result (λ b. (p : Policy) (nothing : ℕ) → AreWays st.old body.silent body.records nothing p →
+    ensures silent { IfOk result
+        (λ b. (p : Policy) → IsSilent st.old body.silent p → IsSilent st.new b.silent (star_of p)) }
+    ensures records { IfOk result
+        (λ b. (p : Policy) (nothing : ℕ) → AreWays st.old body.silent body.records nothing p →
         IsContinued st.new b.records (star_of p) next) }
 {
     let silent = star(st, body.silent)?;

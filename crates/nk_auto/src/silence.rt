@@ -156,7 +156,8 @@ fn choice_of(st: &mut Store, ps: &[Pol]) -> Result<Option<Id>, AllocError>
 #[cycle(silent)]
 fn arms_of(st: &mut Store, f: Fid, ps: &[Pol]) -> Result<Option<List<((u64, u64), Id)>>, AllocError>
     ensures grows { Grows st.old st.new }
-    ensures ok { IfOk result (λ o. IfSome o (λ arms. AreArms st.new f arms (sum_of (trees_of ps.now)))) }
+    ensures ok { IfOk result
+        (λ o. IfSome o (λ arms. AreArms st.new f arms (sum_of (trees_of ps.now)))) }
 {
     let mut found = List::with_capacity(st.alloc(), ps.len())?;
     let mut drawn = List::new(st.alloc());
@@ -332,7 +333,8 @@ pub(crate) fn ended_then(st: &mut Store, d: Id, next: Id) -> Result<Id, AllocErr
     requires ends { HasOnlyFinals (look st.old d) }
     requires next { IsId st.old next }
     ensures grows { Grows st.old st.new }
-    ensures ok { IfOk result (λ r. HasLeaves st.new r (λ pk. seq_leaf (look st.old d pk) (look st.old next) pk)) }
+    ensures ok { IfOk result
+        (λ r. HasLeaves st.new r (λ pk. seq_leaf (look st.old d pk) (look st.old next) pk)) }
 {
     let passing = identity(st)?;
     if next == passing {

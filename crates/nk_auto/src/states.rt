@@ -21,7 +21,9 @@ pub fn policy_automaton(st: &mut Store, p: &Pol, first: u32) -> Result<List<Id>,
     requires numbered { marked_from (tree_of p.now) first ≡ tree_of p.now }
     requires few { first + dups_of (tree_of p.now) ≤ 2 ^ 32 }
     ensures grows { Grows st.old st.new }
-    ensures ok { IfOk result (λ states. IsFit st.old.maxes (tree_of p.now) → IsAutomaton st.new states first (tree_of p.now)) }
+    ensures ok { IfOk result
+        (λ states. IsFit st.old.maxes (tree_of p.now)
+        → IsAutomaton st.new states first (tree_of p.now)) }
 {
     let count = dups(p) as usize;
     let end = identity(st)?;

@@ -59,7 +59,8 @@ fn tests_of(st: &mut Store, f: Fid, ps: &[Pol]) -> Result<Option<Id>, AllocError
 
 /// The intervals of the values of tests and ranges of the field, by their ends, ascending; those of no value are left out.
 fn tested_values(alloc: Global, f: Fid, ps: &[Pol]) -> Result<Option<List<(u64, u64)>>, AllocError>
-    ensures { IfOk result (λ o. IfSome o (λ intervals. KeepsWhere f intervals (sum_of (trees_of ps.now)))) }
+    ensures { IfOk result (λ o.
+        IfSome o (λ intervals. KeepsWhere f intervals (sum_of (trees_of ps.now)))) }
 {
     let mut found = List::with_capacity(alloc, ps.len())?;
     let mut i = ps.len();
@@ -127,7 +128,8 @@ fn value_parts(
     requires inside { IsConstant st.now inside (no_out ∷ []) }
     requires outside { IsConstant st.now outside [] }
     ensures { IfOk result (λ o. IfSome o
-        (HaveParts st.now f (λ v pk. value_leaf intervals.now (min v (slice_index st.now.maxes f))))) }
+        (HaveParts st.now f (λ v pk.
+        value_leaf intervals.now (min v (slice_index st.now.maxes f))))) }
 {
     let max = st.max(f);
     let most = intervals.len().saturating_mul(2).saturating_add(1);

@@ -50,7 +50,8 @@ pub fn continued_with_states(
     requires { IsId st.old next }
     ensures grows { Grows st.old st.new }
     ensures ok { IfOk result (λ d. IsContinued st.new d (tree_of p.now) next) }
-    ensures written { OnOk result (AreWritten st.new states.old states.new base (tree_of p.now) next) }
+    ensures written { OnOk result
+        (AreWritten st.new states.old states.new base (tree_of p.now) next) }
 {
     if is_predicate_sum(p) {
         return after_predicate(st, p, next);
@@ -91,7 +92,8 @@ fn star_with_states(
     requires { IsId st.old next }
     ensures grows { Grows st.old st.new }
     ensures ok { IfOk result (λ d. IsContinued st.new d (star_of (tree_of q.now)) next) }
-    ensures written { OnOk result (AreWritten st.new states.old states.new base (star_of (tree_of q.now)) next) }
+    ensures written { OnOk result
+        (AreWritten st.new states.old states.new base (star_of (tree_of q.now)) next) }
 {
     let again = continued_star(st, q, next)?;
     write_states(st, q, again, base, states)?;
@@ -172,7 +174,8 @@ fn each_way(st: &mut Store, p: &Pol, nothing: Id) -> Result<BothWays, AllocError
 fn both_any(st: &mut Store, ps: &[Pol], nothing: Id) -> Result<BothWays, AllocError>
     requires { HasLeaves st.old nothing (λ pk. []) }
     ensures grows { Grows st.old st.new }
-    ensures ok { IfOk result (λ b. AreWays st.new b.silent b.records nothing (sum_of (trees_of ps.now))) }
+    ensures ok { IfOk result
+        (λ b. AreWays st.new b.silent b.records nothing (sum_of (trees_of ps.now))) }
 {
     let mut silents = List::new(st.alloc());
     let mut records = List::new(st.alloc());
@@ -196,7 +199,8 @@ fn both_any(st: &mut Store, ps: &[Pol], nothing: Id) -> Result<BothWays, AllocEr
 fn both_all(st: &mut Store, ps: &[Pol], nothing: Id) -> Result<BothWays, AllocError>
     requires { HasLeaves st.old nothing (λ pk. []) }
     ensures grows { Grows st.old st.new }
-    ensures ok { IfOk result (λ b. AreWays st.new b.silent b.records nothing (seq_of (trees_of ps.now))) }
+    ensures ok { IfOk result
+        (λ b. AreWays st.new b.silent b.records nothing (seq_of (trees_of ps.now))) }
 {
     let passing = identity(st)?;
     let mut following = BothWays {
@@ -226,7 +230,8 @@ fn write_states(
 ) -> Result<(), AllocError>
     requires { IsId st.old next }
     ensures grows { Grows st.old st.new }
-    ensures written { OnOk result (AreWritten st.new states.old states.new base (tree_of p.now) next) }
+    ensures written { OnOk result
+        (AreWritten st.new states.old states.new base (tree_of p.now) next) }
 {
     if states.len() == 0 {
         return Ok(());
@@ -267,7 +272,8 @@ fn write_any(
 ) -> Result<(), AllocError>
     requires { IsId st.old next }
     ensures grows { Grows st.old st.new }
-    ensures written { OnOk result (AreWritten st.new states.old states.new base (sum_of (trees_of ps.now)) next) }
+    ensures written { OnOk result
+        (AreWritten st.new states.old states.new base (sum_of (trees_of ps.now)) next) }
 {
     let mut i = ps.len();
     while i > 0 {
@@ -288,7 +294,8 @@ fn write_all(
 ) -> Result<(), AllocError>
     requires { IsId st.old next }
     ensures grows { Grows st.old st.new }
-    ensures written { OnOk result (AreWritten st.new states.old states.new base (seq_of (trees_of ps.now)) next) }
+    ensures written { OnOk result
+        (AreWritten st.new states.old states.new base (seq_of (trees_of ps.now)) next) }
 {
     let mut later = unguarded(st, next)?;
     let mut i = ps.len();
@@ -315,7 +322,8 @@ fn write_first(
     requires rest { IsId st.old following.rest }
     ensures grows { Grows st.old st.new }
     ensures written { OnOk result ((before : Items ℕ) (ps : Policies) (k : ℕ) →
-        IsGuarded st.old following.guard following.rest (seq_of ps) k → AreWritten st.old before states.old base (seq_of ps) k →
+        IsGuarded st.old following.guard following.rest (seq_of ps) k
+        → AreWritten st.old before states.old base (seq_of ps) k →
         AreWritten st.new before states.new base (seq_of (part (tree_of p.now) ps)) k) }
 {
     if !may_record(p) {
@@ -355,8 +363,11 @@ fn link_with_states(
 ) -> Result<Id, AllocError>
     requires { IsId st.old next }
     ensures grows { Grows st.old st.new }
-    ensures ok { IfOk result (λ d. IsContinued st.new d (link source.0 source.1 target.0 target.1 l) next) }
-    ensures written { OnOk result (AreWritten st.new states.old states.new base (link source.0 source.1 target.0 target.1 l) next) }
+    ensures ok { IfOk result
+        (λ d. IsContinued st.new d (link source.0 source.1 target.0 target.1 l) next) }
+    ensures written { OnOk result
+        (AreWritten st.new states.old states.new base
+        (link source.0 source.1 target.0 target.1 l) next) }
 {
     let d = link_start(st, source.0, source.1, l)?;
     if states.len() == 0 {
@@ -396,7 +407,8 @@ fn any_with_states(
     requires { IsId st.old next }
     ensures grows { Grows st.old st.new }
     ensures ok { IfOk result (λ d. IsContinued st.new d (sum_of (trees_of ps.now)) next) }
-    ensures written { OnOk result (AreWritten st.new states.old states.new base (sum_of (trees_of ps.now)) next) }
+    ensures written { OnOk result
+        (AreWritten st.new states.old states.new base (sum_of (trees_of ps.now)) next) }
 {
     let mut ids = List::new(st.alloc());
     let mut i = ps.len();
@@ -420,7 +432,8 @@ fn all_with_states(
     requires { IsId st.old next }
     ensures grows { Grows st.old st.new }
     ensures ok { IfOk result (λ d. IsContinued st.new d (seq_of (trees_of ps.now)) next) }
-    ensures written { OnOk result (AreWritten st.new states.old states.new base (seq_of (trees_of ps.now)) next) }
+    ensures written { OnOk result
+        (AreWritten st.new states.old states.new base (seq_of (trees_of ps.now)) next) }
 {
     let mut following = unguarded(st, next)?;
     let mut i = ps.len();
@@ -443,10 +456,13 @@ fn part_with_states(
     requires guard { IsId st.old following.guard }
     requires rest { IsId st.old following.rest }
     ensures grows { Grows st.old st.new }
-    ensures ok { IfOk result (λ b. (ps : Policies) (k : ℕ) → IsGuarded st.old following.guard following.rest (seq_of ps) k →
+    ensures ok { IfOk result
+        (λ b. (ps : Policies) (k : ℕ)
+        → IsGuarded st.old following.guard following.rest (seq_of ps) k →
         IsGuarded st.new b.guard b.rest (seq_of (part (tree_of p.now) ps)) k) }
     ensures written { OnOk result ((before : Items ℕ) (ps : Policies) (k : ℕ) →
-        IsGuarded st.old following.guard following.rest (seq_of ps) k → AreWritten st.old before states.old base (seq_of ps) k →
+        IsGuarded st.old following.guard following.rest (seq_of ps) k
+        → AreWritten st.old before states.old base (seq_of ps) k →
         AreWritten st.new before states.new base (seq_of (part (tree_of p.now) ps)) k) }
 {
     if let Some(d) = guard_of(st, p)? {

@@ -39,7 +39,8 @@ pub(crate) fn close_back(
     requires goal { HaveSets st.old goal }
     ensures grows { Grows st.old st.new }
     ensures ok { IfOk result (λ back. IsClosure st.old ts.now goal st.new back) }
-    ensures pre { OnOk result (IfSome pre.new (λ p. ArePredecessors st.new ts.now p.places p.into.entries)) }
+    ensures pre { OnOk result
+        (IfSome pre.new (λ p. ArePredecessors st.new ts.now p.places p.into.entries)) }
 {
     let mut back = IndexMap::new(st.alloc());
     add_level(st, &mut back, &goal)?;
@@ -60,7 +61,8 @@ fn close_all(
     requires once { Once back.old.entries }
     ensures grows { Grows st.old st.new }
     ensures ok { OnOk result (IsClosure st.old ts.now back.old.entries st.new back.new.entries) }
-    ensures pre { OnOk result (IfSome pre.new (λ p. ArePredecessors st.new ts.now p.places p.into.entries)) }
+    ensures pre { OnOk result
+        (IfSome pre.new (λ p. ArePredecessors st.new ts.now p.places p.into.entries)) }
 {
     let closed = sweep_some(st, ts, back)?;
     if closed {
@@ -83,7 +85,8 @@ fn close_rest(
     requires once { Once back.old.entries }
     ensures grows { Grows st.old st.new }
     ensures ok { OnOk result (IsClosure st.old ts.now back.old.entries st.new back.new.entries) }
-    ensures pre { OnOk result (IfSome pre.new (λ p. ArePredecessors st.new ts.now p.places p.into.entries)) }
+    ensures pre { OnOk result
+        (IfSome pre.new (λ p. ArePredecessors st.new ts.now p.places p.into.entries)) }
 {
     if let Some(known) = &*pre {
         close_by(st, ts, known, back)?;
@@ -165,7 +168,9 @@ fn pass_back(
     requires back { HaveSets st.old back.old.entries }
     requires once { Once back.old.entries }
     ensures grows { Grows st.old st.new }
-    ensures ok { IfOk result (λ next. IsGained st.old (IsLedInto st.old ts.now frontier.now) back.old.entries [] st.new back.new.entries next) }
+    ensures ok { IfOk result
+        (λ next. IsGained st.old
+        (IsLedInto st.old ts.now frontier.now) back.old.entries [] st.new back.new.entries next) }
 {
     let found = led_into(st, ts, pre, frontier)?;
     let ordered = in_order(found);
@@ -184,7 +189,8 @@ fn led_into(
     requires pre { ArePredecessors st.old ts.now pre.now.places pre.now.into.entries }
     requires frontier { HaveSets st.old frontier.now }
     ensures grows { Grows st.old st.new }
-    ensures ok { IfOk result (λ found. AreFound st.old (IsLedInto st.old ts.now frontier.now) [] st.new found) }
+    ensures ok { IfOk result
+        (λ found. AreFound st.old (IsLedInto st.old ts.now frontier.now) [] st.new found) }
 {
     let mut found = List::new(st.alloc());
     let count = frontier.len();
@@ -209,7 +215,8 @@ fn take_back(
     requires packets { IsSet st.old x }
     requires found { HaveSets st.old found.old }
     ensures grows { Grows st.old st.new }
-    ensures ok { OnOk result (AreFound st.old (LeadsToSet st.old ts.now t x) found.old st.new found.new) }
+    ensures ok { OnOk result
+        (AreFound st.old (LeadsToSet st.old ts.now t x) found.old st.new found.new) }
 {
     let outs = outs_into(st, pre, t, x)?;
     take_outs(st, ts, &pre.places, &outs, found)?;
@@ -229,7 +236,9 @@ fn take_outs(
     requires outs { AreGiven st.old outs.now }
     requires found { HaveSets st.old found.old }
     ensures grows { Grows st.old st.new }
-    ensures ok { OnOk result (AreFound st.old (IsTakenBelow st.old ts.now places.now outs.now (length outs.now)) found.old st.new found.new) }
+    ensures ok { OnOk result
+        (AreFound st.old (IsTakenBelow st.old ts.now places.now outs.now
+        (length outs.now)) found.old st.new found.new) }
 {
     for i in 0..outs.len() {
         take_out(st, ts, places, outs.at(i), found)?;
@@ -250,7 +259,8 @@ fn take_out(
     requires packets { IsSet st.old q.now.packets }
     requires found { HaveSets st.old found.old }
     ensures grows { Grows st.old st.new }
-    ensures ok { OnOk result (AreFound st.old (IsTakenOut st.old ts.now places.now q.now) found.old st.new found.new) }
+    ensures ok { OnOk result
+        (AreFound st.old (IsTakenOut st.old ts.now places.now q.now) found.old st.new found.new) }
 {
     let Some(place) = place_of(places, q.out.target) else {
         return Ok(());
@@ -267,7 +277,9 @@ pub(crate) fn led_to(st: &mut Store, o: &Given, x: Id) -> Result<Id, AllocError>
     requires from { IsSet st.old o.now.packets }
     requires to { IsSet st.old x }
     ensures grows { Grows st.old st.new }
-    ensures ok { IfOk result (λ r. IsPacketSetOf st.new r (λ pk. is_in st.old x (applied o.now.out.act pk) && is_in st.old o.now.packets pk)) }
+    ensures ok { IfOk result
+        (λ r. IsPacketSetOf st.new r
+        (λ pk. is_in st.old x (applied o.now.out.act pk) && is_in st.old o.now.packets pk)) }
 {
     let before = preimage(st, &o.out.act, x)?;
     let led = both(st, before, o.packets)?;
@@ -285,7 +297,9 @@ pub(crate) fn put_all_new(
     requires back { HaveSets st.old back.old.entries }
     requires once { Once back.old.entries }
     ensures grows { Grows st.old st.new }
-    ensures ok { IfOk result (λ next. IsGained st.old (Under st.old found.now) back.old.entries [] st.new back.new.entries next) }
+    ensures ok { IfOk result
+        (λ next. IsGained st.old
+        (Under st.old found.now) back.old.entries [] st.new back.new.entries next) }
 {
     let mut next = IndexMap::new(st.alloc());
     let mut from = 0;
@@ -313,7 +327,10 @@ fn put_new(
     requires next { HaveSets st.old next.old.entries }
     requires next_once { Once next.old.entries }
     ensures grows { Grows st.old st.new }
-    ensures ok { OnOk result (IsGained st.old (λ i z. (i ≡ s) × (is_in st.old y z ≡ true)) back.old.entries next.old.entries st.new back.new.entries next.new.entries) }
+    ensures ok { OnOk result
+        (IsGained st.old (λ i z. (i ≡ s)
+        × (is_in st.old y z ≡ true)) back.old.entries next.old.entries st.new back.new.entries
+        next.new.entries) }
 {
     let rest = unmet(st, back, s, y)?;
     if is_empty(st, rest) {

@@ -54,7 +54,8 @@ pub fn explored(
     requires packets { IsSet st.old start }
     ensures grows { Grows st.old st.new }
     ensures sets { SetsGrow ss.old ss.new }
-    ensures ok { IfOk result (λ l. AreLevels st.old st.new ss.new states.now s start (λ set pk. []) l.levels false) }
+    ensures ok { IfOk result
+        (λ l. AreLevels st.old st.new ss.new states.now s start (λ set pk. []) l.levels false) }
 {
     let mut g = NoViolation {
         labels: states.len(),

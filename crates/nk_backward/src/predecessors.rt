@@ -60,7 +60,8 @@ fn all_places(alloc: Global, ts: &List<Transitions>) -> Result<List<(usize, usiz
 
 /// Puts the places of the first transitions of one set after others.
 fn push_places(all: &mut List<(usize, usize)>, k: usize, count: usize) -> Result<(), AllocError>
-    ensures { OnOk result ((p : ℕ × ℕ) → Contains all.new p ↔ (Contains all.old p ⊎ ((p.0 ≡ k) × (p.1 < count)))) }
+    ensures { OnOk result ((p : ℕ × ℕ)
+        → Contains all.new p ↔ (Contains all.old p ⊎ ((p.0 ≡ k) × (p.1 < count)))) }
 {
     for j in 0..count {
         all.push((k, j))?;
@@ -77,7 +78,8 @@ fn marked_all(
     requires given { AreAllGiven st.old ts.now }
     requires places { ArePlacesBelow ts.now (length ts.now) places.now }
     ensures grows { Grows st.old st.new }
-    ensures ok { IfOk result (λ ds. AreMarked st.old ts.now places.now (length places.now) st.new ds) }
+    ensures ok { IfOk result
+        (λ ds. AreMarked st.old ts.now places.now (length places.now) st.new ds) }
 {
     let mut all = List::new(st.alloc());
     for n in 0..places.len() {
@@ -140,7 +142,8 @@ pub(crate) fn in_order(ds: List<(SetId, Id)>) -> List<(SetId, Id)>
 fn joined_all(st: &mut Store, ds: &[(SetId, Id)]) -> Result<HashMap<SetId, Id>, AllocError>
     requires ids { HaveDiagrams st.old ds.now }
     ensures grows { Grows st.old st.new }
-    ensures ok { IfOk result (λ into. AreSetsJoined st.old ds.now (length ds.now) st.new into.entries) }
+    ensures ok { IfOk result
+        (λ into. AreSetsJoined st.old ds.now (length ds.now) st.new into.entries) }
 {
     let mut into = HashMap::new(st.alloc());
     let mut from = 0;
@@ -245,7 +248,8 @@ pub(crate) fn outs_into(
 
 /// The place of the transition that a target stands for, if it stands for one.
 pub(crate) fn place_of(places: &List<(usize, usize)>, target: u64) -> Option<(usize, usize)>
-    ensures some { IfSome result (λ p. (n : ℕ) × (n < length places.now) × (target ≡ n + 1) × (p ≡ place_at places.now n)) }
+    ensures some { IfSome result
+        (λ p. (n : ℕ) × (n < length places.now) × (target ≡ n + 1) × (p ≡ place_at places.now n)) }
     ensures none { result ≡ None → (n : ℕ) → n < length places.now → target ≡ n + 1 → ⊥ }
 {
     if target == 0 {

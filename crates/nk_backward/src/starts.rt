@@ -43,11 +43,16 @@ pub fn break_starts<G: Goal>(
     requires fits { G.fits g.old st.old }
     requires labels { length states.now ≤ G.labels g.old }
     requires states { AreStates st.old states.now }
-    requires levels { AreLevels st.old st.old ss.old states.now (first_set l.now.levels) (first_packets l.now.levels) (λ set pk. []) l.now.levels false }
+    requires levels { AreLevels st.old st.old ss.old states.now (first_set l.now.levels)
+        (first_packets l.now.levels) (λ set pk. []) l.now.levels false }
     ensures grows { Grows st.old st.new }
     ensures sets { SetsGrow ss.old ss.new }
-    ensures left { IfOk result (λ r. AreStarts st.old states.now (slice_index_or ss.old (first_set l.now.levels) []) (first_packets l.now.levels) (G.violations_of g.old st.old) 0 st.new r.left) }
-    ensures right { IfOk result (λ r. AreStarts st.old states.now (slice_index_or ss.old (first_set l.now.levels) []) (first_packets l.now.levels) (G.violations_of g.old st.old) 1 st.new r.right) }
+    ensures left { IfOk result
+        (λ r. AreStarts st.old states.now (slice_index_or ss.old (first_set l.now.levels) [])
+        (first_packets l.now.levels) (G.violations_of g.old st.old) 0 st.new r.left) }
+    ensures right { IfOk result
+        (λ r. AreStarts st.old states.now (slice_index_or ss.old (first_set l.now.levels) [])
+        (first_packets l.now.levels) (G.violations_of g.old st.old) 1 st.new r.right) }
 {
     let graph = graph_of(st, ss, states, l)?;
     let (s, x) = first_entry(l);
@@ -81,14 +86,21 @@ fn starts_of<G: Goal>(
     requires fits { G.fits g.old st.old }
     requires entries { EachPair (IsPair st.old ss.now (G.labels g.old)) graph.now.entries }
     requires given { AreAllGiven st.old graph.now.transitions }
-    requires pre { IfSome pre.old (λ p. ArePredecessors st.old graph.now.transitions p.places p.into.entries) }
+    requires pre { IfSome pre.old
+        (λ p. ArePredecessors st.old graph.now.transitions p.places p.into.entries) }
     requires packets { IsSet st.old x }
     ensures grows { Grows st.old st.new }
-    ensures pre { OnOk result (IfSome pre.new (λ p. ArePredecessors st.new graph.now.transitions p.places p.into.entries)) }
-    ensures ok { IfOk result (λ r. LeadToSide st.old ss.now graph.now.transitions graph.now.entries (G.violations_of g.old st.old) side s x st.new r) }
+    ensures pre { OnOk result
+        (IfSome pre.new (λ p.
+        ArePredecessors st.new graph.now.transitions p.places p.into.entries)) }
+    ensures ok { IfOk result
+        (λ r. LeadToSide st.old ss.now graph.now.transitions graph.now.entries
+        (G.violations_of g.old st.old) side s x st.new r) }
     ensures fits { OnOk result (G.fits g.new st.new) }
     ensures labels { OnOk result (G.labels g.new ≡ G.labels g.old) }
-    ensures same { OnOk result ((st : StoreState) (set pk : Items ℕ) → G.violations_of g.new st set pk ≡ G.violations_of g.old st set pk) }
+    ensures same { OnOk result
+        ((st : StoreState) (set pk : Items ℕ)
+        → G.violations_of g.new st set pk ≡ G.violations_of g.old st set pk) }
 {
     let goal = violations(st, ss, &graph.entries, g, side)?;
     let back = close_back(st, &graph.transitions, pre, goal)?;

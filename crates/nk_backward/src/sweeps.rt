@@ -35,7 +35,8 @@ pub(crate) fn sweep_some(
     requires back { HaveSets st.old back.old.entries }
     requires once { Once back.old.entries }
     ensures grows { Grows st.old st.new }
-    ensures ok { IfOk result (λ closed. IsSwept st.old ts.now back.old.entries st.new back.new.entries closed) }
+    ensures ok { IfOk result
+        (λ closed. IsSwept st.old ts.now back.old.entries st.new back.new.entries closed) }
 {
     let order = in_postorder(st.alloc(), ts)?;
     'sweeps: for _ in 0..SWEEPS {
@@ -59,7 +60,8 @@ fn sweep(
     requires back { HaveSets st.old back.old.entries }
     requires once { Once back.old.entries }
     ensures grows { Grows st.old st.new }
-    ensures ok { IfOk result (λ closed. IsSwept st.old ts.now back.old.entries st.new back.new.entries closed) }
+    ensures ok { IfOk result
+        (λ closed. IsSwept st.old ts.now back.old.entries st.new back.new.entries closed) }
 {
     let mut closed = true;
     for k in 0..order.len() {
@@ -88,7 +90,8 @@ fn sweep_one(
     requires back { HaveSets st.old back.old.entries }
     requires once { Once back.old.entries }
     ensures grows { Grows st.old st.new }
-    ensures ok { IfOk result (λ none. IsTakenBack st.old t.now back.old.entries st.new back.new.entries none) }
+    ensures ok { IfOk result
+        (λ none. IsTakenBack st.old t.now back.old.entries st.new back.new.entries none) }
 {
     let found = led_from(st, t, back)?;
     let next = put_all_new(st, found.as_slice(), back)?;
@@ -112,7 +115,9 @@ fn led_from(
     requires back { HaveSets st.old back.now.entries }
     requires once { Once back.now.entries }
     ensures grows { Grows st.old st.new }
-    ensures ok { IfOk result (λ found. AreFound st.old (IsLedBy st.old t.now (length t.now.outs) back.now.entries) [] st.new found) }
+    ensures ok { IfOk result
+        (λ found. AreFound st.old
+        (IsLedBy st.old t.now (length t.now.outs) back.now.entries) [] st.new found) }
 {
     let mut found = List::new(st.alloc());
     for i in 0..t.outs.len() {
@@ -134,7 +139,8 @@ fn push_led(
     requires once { Once back.now.entries }
     requires found { HaveSets st.old found.old }
     ensures grows { Grows st.old st.new }
-    ensures ok { OnOk result (AreFound st.old (IsLedOut st.old s o.now back.now.entries) found.old st.new found.new) }
+    ensures ok { OnOk result
+        (AreFound st.old (IsLedOut st.old s o.now back.now.entries) found.old st.new found.new) }
 {
     if o.out.target == 0 {
         return Ok(());

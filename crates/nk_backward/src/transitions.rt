@@ -53,12 +53,14 @@ pub(crate) fn graph_of(
     l: &Levels,
 ) -> Result<Graph, AllocError>
     requires states { AreStates st.old states.now }
-    requires entries { EachPair (IsPair st.old ss.old (length states.now)) (explored_entries l.now.levels) }
+    requires entries { EachPair (IsPair st.old ss.old (length states.now))
+        (explored_entries l.now.levels) }
     ensures grows { Grows st.old st.new }
     ensures sets { SetsGrow ss.old ss.new }
     ensures differ { OnOk result (HasEachSetOnce ss.new) }
     ensures entries { IfOk result (λ gr. gr.entries ≡ explored_entries l.now.levels) }
-    ensures ok { IfOk result (λ gr. AreTransitions st.old ss.old states.now gr.entries st.new ss.new gr.transitions) }
+    ensures ok { IfOk result
+        (λ gr. AreTransitions st.old ss.old states.now gr.entries st.new ss.new gr.transitions) }
 {
     let entries = all_entries(st.alloc(), l)?;
     let transitions = transitions_of(st, ss, states, &entries)?;
@@ -80,7 +82,8 @@ fn transitions_of(
     ensures grows { Grows st.old st.new }
     ensures sets { SetsGrow ss.old ss.new }
     ensures differ { OnOk result (HasEachSetOnce ss.new) }
-    ensures ok { IfOk result (λ ts. AreTransitions st.old ss.old states.now entries.now st.new ss.new ts) }
+    ensures ok { IfOk result
+        (λ ts. AreTransitions st.old ss.old states.now entries.now st.new ss.new ts) }
 {
     let mut all = List::new(st.alloc());
     for k in 0..entries.len() {
@@ -106,7 +109,8 @@ fn outs_from(
     requires packets { IsSet st.old x }
     ensures grows { Grows st.old st.new }
     ensures sets { SetsGrow ss.old ss.new }
-    ensures ok { IfOk result (λ es. AreStepsFrom st.old states.now (slice_index_or ss.old s []) x st.new ss.new es) }
+    ensures ok { IfOk result
+        (λ es. AreStepsFrom st.old states.now (slice_index_or ss.old s []) x st.new ss.new es) }
 {
     let d = local_state(st, ss, states, s, x)?;
     let outs = by_out(st, d)?;

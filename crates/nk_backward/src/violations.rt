@@ -28,10 +28,14 @@ pub(crate) fn violations<G: Goal>(
     requires fits { G.fits g.old st.old }
     requires entries { EachPair (IsPair st.old ss.now (G.labels g.old)) entries.now }
     ensures grows { Grows st.old st.new }
-    ensures ok { IfOk result (λ back. AreViolationsSoFar st.old ss.now (λ set pk. of_side side (G.violations_of g.old st.old set pk)) entries.now st.new back) }
+    ensures ok { IfOk result
+        (λ back. AreViolationsSoFar st.old ss.now
+        (λ set pk. of_side side (G.violations_of g.old st.old set pk)) entries.now st.new back) }
     ensures fits { OnOk result (G.fits g.new st.new) }
     ensures labels { OnOk result (G.labels g.new ≡ G.labels g.old) }
-    ensures same { OnOk result ((st : StoreState) (set pk : Items ℕ) → G.violations_of g.new st set pk ≡ G.violations_of g.old st set pk) }
+    ensures same { OnOk result
+        ((st : StoreState) (set pk : Items ℕ)
+        → G.violations_of g.new st set pk ≡ G.violations_of g.old st set pk) }
 {
     let mut back = IndexMap::new(st.alloc());
     for k in 0..entries.len() {
@@ -75,10 +79,14 @@ fn side_violations<G: Goal>(
     requires set { s < length ss.now }
     requires places { AreLabelsBelow (G.labels g.old) (slice_index_or ss.now s []) }
     ensures grows { Grows st.old st.new }
-    ensures ok { IfOk result (λ d. HasLeaves st.new d (λ pk. of_side side (G.violations_of g.old st.old (slice_index_or ss.now s []) pk))) }
+    ensures ok { IfOk result
+        (λ d. HasLeaves st.new d
+        (λ pk. of_side side (G.violations_of g.old st.old (slice_index_or ss.now s []) pk))) }
     ensures fits { OnOk result (G.fits g.new st.new) }
     ensures labels { OnOk result (G.labels g.new ≡ G.labels g.old) }
-    ensures same { OnOk result ((st : StoreState) (set pk : Items ℕ) → G.violations_of g.new st set pk ≡ G.violations_of g.old st set pk) }
+    ensures same { OnOk result
+        ((st : StoreState) (set pk : Items ℕ)
+        → G.violations_of g.new st set pk ≡ G.violations_of g.old st set pk) }
 {
     let all = g.bad(st, ss, s)?;
     let own = only_side(st, all, side)?;

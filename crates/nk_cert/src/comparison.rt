@@ -57,7 +57,8 @@ pub fn compare_owned(alloc: Global, fields: &Fields, p: Pol, q: Pol) -> Result<C
     requires right_complements { NegatesPredicates (tree_of q) }
     requires left_over { IsOverFields fields.now (tree_of p) }
     requires right_over { IsOverFields fields.now (tree_of q) }
-    ensures { IfOk result (λ c. (r : Policy) → marked_from r (1 + dups_of (tree_of p)) ≡ tree_of q → IsComparison fields.now (tree_of p) r c) }
+    ensures { IfOk result (λ c. (r : Policy) → marked_from r (1 + dups_of (tree_of p)) ≡ tree_of q
+        → IsComparison fields.now (tree_of p) r c) }
 {
     let bound = number_after(&p);
     let mut st = Store::new(alloc, fields)?;
@@ -88,7 +89,8 @@ fn numbered_automaton(st: &mut Store, p: &Pol, q: &Pol, bound: u32) -> Result<Bo
     requires left_fit { IsFit st.old.maxes (tree_of p.now) }
     requires right_fit { IsFit st.old.maxes (marked_from (tree_of q.now) bound) }
     ensures { IfOk result (λ b. (fields : FieldTable) → IsOver fields st.old
-        → IsAutomatonOfBoth fields st.new b.states b.left b.right (tree_of p.now) (marked_from (tree_of q.now) bound)) }
+        → IsAutomatonOfBoth fields st.new b.states b.left b.right (tree_of p.now)
+        (marked_from (tree_of q.now) bound)) }
 {
     let q = marked(st.alloc(), q, bound)?;
     automaton_of_both(st, p, &q)
@@ -97,9 +99,11 @@ fn numbered_automaton(st: &mut Store, p: &Pol, q: &Pol, bound: u32) -> Result<Bo
 /// Two policies compared by their automaton; labels below `bound` are the left one's.
 fn compare_by_levels(st: &mut Store, both: &Both, bound: usize) -> Result<Compared, AllocError>
     requires automaton { (fields : FieldTable) × (p : Policy) × (q : Policy)
-        × IsAutomatonOfBoth fields st.old both.now.states both.now.left both.now.right p q × (bound ≡ 1 + dups_of p) }
+        × IsAutomatonOfBoth fields st.old both.now.states both.now.left both.now.right p q
+        × (bound ≡ 1 + dups_of p) }
     ensures { IfOk result (λ r. (fields : FieldTable) (p q : Policy)
-        → IsAutomatonOfBoth fields st.old both.now.states both.now.left both.now.right p q → bound ≡ 1 + dups_of p
+        → IsAutomatonOfBoth fields st.old both.now.states both.now.left both.now.right p q
+        → bound ≡ 1 + dups_of p
         → IsInRange p fields → IsInRange q fields → IsComparison fields p q r) }
 {
     let mut ss = Sets::new(st.alloc());

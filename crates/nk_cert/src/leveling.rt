@@ -42,7 +42,9 @@ pub fn levels_of_both(
     requires right { IsId st.old both.now.right }
     ensures grows { Grows st.old st.new }
     ensures sets { SetsGrow ss.old ss.new }
-    ensures ok { IfOk result (λ l. AreSideLevels st.old both.now.states both.now.left both.now.right bound st.new ss.new l.goal.ends l.levels.levels l.levels.broken) }
+    ensures ok { IfOk result
+        (λ l. AreSideLevels st.old both.now.states both.now.left both.now.right bound st.new ss.new
+        l.goal.ends l.levels.levels l.levels.broken) }
     ensures goal { IfOk result (λ l. IsPropertyOfEnds st.new l.goal.ends l.goal.seen.entries) }
 {
     levels_of_states(st, ss, both.states.as_slice(), both.left, both.right, bound)
@@ -63,7 +65,9 @@ fn levels_of_states(
     requires right { IsId st.old right }
     ensures grows { Grows st.old st.new }
     ensures sets { SetsGrow ss.old ss.new }
-    ensures ok { IfOk result (λ l. AreSideLevels st.old states.now left right bound st.new ss.new l.goal.ends l.levels.levels l.levels.broken) }
+    ensures ok { IfOk result
+        (λ l. AreSideLevels st.old states.now left right bound st.new ss.new l.goal.ends
+        l.levels.levels l.levels.broken) }
     ensures goal { IfOk result (λ l. IsPropertyOfEnds st.new l.goal.ends l.goal.seen.entries) }
 {
     let mut goal = OneSide::new(st, states, left, right, bound)?;

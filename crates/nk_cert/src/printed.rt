@@ -28,9 +28,11 @@ use std::alloc::{AllocError, Global};
 /// of one of them alone, this is the printed certificate. The only error is that memory ran out.
 pub fn certificate_of(st: &mut Store, ss: &Sets, lv: &Levels) -> Result<Certificate, AllocError>
     requires entries { AreEntries ss.now lv.now.levels }
-    requires packets { (i : ℕ) → i < length lv.now.levels → HaveSets st.old (slice_index_or lv.now.levels i []) }
+    requires packets { (i : ℕ) → i < length lv.now.levels
+        → HaveSets st.old (slice_index_or lv.now.levels i []) }
     ensures grows { Grows st.old st.new }
-    ensures ok { IfOk result (λ c. IsCertificateOf st.old st.new ss.now lv.now.levels (certificate_value c)) }
+    ensures ok { IfOk result
+        (λ c. IsCertificateOf st.old st.new ss.now lv.now.levels (certificate_value c)) }
 {
     let sets = later_sets(ss, lv)?;
     let none = empty(st)?;
@@ -44,9 +46,12 @@ pub fn certificate_of(st: &mut Store, ss: &Sets, lv: &Levels) -> Result<Certific
 
 /// All packets under sets of the levels after the first one.
 fn later_packets(st: &mut Store, lv: &Levels) -> Result<IndexMap<SetId, Id>, AllocError>
-    requires { (i : ℕ) → i < length lv.now.levels → HaveSets st.old (slice_index_or lv.now.levels i []) }
+    requires { (i : ℕ) → i < length lv.now.levels
+        → HaveSets st.old (slice_index_or lv.now.levels i []) }
     ensures grows { Grows st.old st.new }
-    ensures ok { IfOk result (λ met. AreLaterPackets st.old lv.now.levels (length lv.now.levels - 1) st.new met.entries) }
+    ensures ok { IfOk result
+        (λ met. AreLaterPackets st.old lv.now.levels
+        (length lv.now.levels - 1) st.new met.entries) }
 {
     let mut met = IndexMap::new(st.alloc());
     for i in 1..lv.levels.len() {
@@ -67,7 +72,8 @@ fn set_rows(
     requires sets { All (λ s. s < length ss.now) sets.now }
     requires packets { HaveSets st.now met.now.entries }
     requires none { IsSet st.now none }
-    ensures { IfOk result (λ rs. HaveRows (IsRowBy st.now ss.now met.now.entries none) sets.now (row_values rs)) }
+    ensures { IfOk result (λ rs.
+        HaveRows (IsRowBy st.now ss.now met.now.entries none) sets.now (row_values rs)) }
 {
     let mut rows = List::new(st.alloc());
     for set in sets {

@@ -43,7 +43,8 @@ impl Drop for Parts {
 impl Parts {
     /// One more row. Where memory ran out, nothing changed, here and below.
     fn put_row(&mut self, alloc: Global, row: &CertRow) -> Result<(), AllocError>
-        ensures ok { OnOk result (parts_in self.new ≡ with_row_part (parts_in self.old) (row_value row.now)) }
+        ensures ok { OnOk result
+            (parts_in self.new ≡ with_row_part (parts_in self.old) (row_value row.now)) }
         ensures kept { OnErr result (parts_in self.new ≡ parts_in self.old) }
     {
         let predicate = self.program.predicate(alloc, &row.pred, row.line);
@@ -78,9 +79,11 @@ impl Parts {
         alloc: Global,
         pending: &mut Option<Completed>,
     ) -> Result<(), AllocError>
-        ensures ok { OnOk result (parts_in self.new ≡ with_completed (parts_in self.old) pending.old) }
+        ensures ok { OnOk result
+            (parts_in self.new ≡ with_completed (parts_in self.old) pending.old) }
         ensures put { OnOk result (pending.new ≡ None) }
-        ensures kept { OnErr result ((parts_in self.new ≡ parts_in self.old) × (pending.new ≡ pending.old)) }
+        ensures kept { OnErr result
+            ((parts_in self.new ≡ parts_in self.old) × (pending.new ≡ pending.old)) }
     {
         let Some(part) = &*pending else {
             return Ok(());
@@ -115,7 +118,8 @@ impl Parts {
     /// The program and the certificate, or their first fault.
     fn finish(self, alloc: Global) -> Result<(Program, Certificate), TextError>
         requires written { (ds : List Declaration) × IsDeclared ds self.program × All IsWritten ds }
-        ensures { ReturnsText (λ r. (program_by r.0, certificate_value r.1)) result (text_at_end (parts_in self)) }
+        ensures { ReturnsText (λ r. (program_by r.0, certificate_value r.1)) result
+            (text_at_end (parts_in self)) }
     {
         let Parts { program, rows } = self;
         let program = program.finish()?;
@@ -204,8 +208,10 @@ impl CertReader {
     /// `AllocError` says that memory ran out, and then nothing changed, so the token can be taken again. Where the grammar has a
     /// fault, nothing changes any more and no memory is taken.
     pub fn take(&mut self, alloc: Global, token: &Token) -> Result<(), AllocError>
-        ensures tokens { (ts : List Token) → IsTaken ts self.old → OnOk result (IsTaken (ts ++ token.now ∷ []) self.new) }
-        ensures unmended { (ts : List Token) → IsTaken ts self.old → (CertifiedGoesOn (terminals ts) → ⊥) → IsOk result × (self.new ≡ self.old) }
+        ensures tokens { (ts : List Token) → IsTaken ts self.old
+            → OnOk result (IsTaken (ts ++ token.now ∷ []) self.new) }
+        ensures unmended { (ts : List Token) → IsTaken ts self.old
+            → (CertifiedGoesOn (terminals ts) → ⊥) → IsOk result × (self.new ≡ self.old) }
         ensures stopped { HasStopped self.old → IsOk result × (self.new ≡ self.old) }
         ensures err { OnErr result (self.new ≡ self.old) }
     {
@@ -220,7 +226,8 @@ impl CertReader {
     pub fn end(self, alloc: Global) -> Result<(Program, Certificate), TextError>
         requires small { (ts : List Token) × IsTaken ts self × All (λ t. t.value ≤ largest) ts }
         ensures read { (ts : List Token) → IsTaken ts self
-            → ReturnsText (λ r. (program_by r.0, certificate_value r.1)) result (text_of_tokens ts) }
+            → ReturnsText (λ r. (program_by r.0, certificate_value r.1)) result
+            (text_of_tokens ts) }
         ensures predicates { IfOk result (λ r. HasPredicates (certificate_value r.1)) }
     {
         // This is a law: what is complete has numbers of a text.

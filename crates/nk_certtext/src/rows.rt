@@ -73,7 +73,8 @@ fn add_row(
     row: &CertRow,
     predicate: Result<Pol, NamesError>,
 ) -> Result<(), CertError>
-    ensures row { (wanted : Result Policy NamesError) → program.NamesReturns tree_of predicate wanted
+    ensures row { (wanted : Result Policy NamesError)
+        → program.NamesReturns tree_of predicate wanted
         → CertReturns (λ _. row_values rows.new.entries) result
         (placed_row (row_values rows.old.entries) row.now.positions row.now.line wanted) }
     ensures kept { OnErr result (rows.new.entries ≡ rows.old.entries) }
@@ -147,7 +148,8 @@ impl RowsRead {
         row: &CertRow,
         predicate: Result<Pol, NamesError>,
     ) -> Result<Option<RowsRead>, AllocError>
-        ensures told { (wanted : Result Policy NamesError) → program.NamesReturns tree_of predicate wanted
+        ensures told { (wanted : Result Policy NamesError)
+            → program.NamesReturns tree_of predicate wanted
             → IfOk result (λ next. becomes next (rows_in self.new)
             ≡ with_next_row (rows_in self.old) row.now.positions row.now.line wanted) }
         ensures kept { OnErr result (rows_in self.new ≡ rows_in self.old) }
@@ -177,8 +179,10 @@ impl RowsRead {
         row: &CertRow,
         predicate: Result<Pol, NamesError>,
     ) -> Result<(), AllocError>
-        ensures ok { (wanted : Result Policy NamesError) → program.NamesReturns tree_of predicate wanted
-            → OnOk result (rows_in self.new ≡ with_next_row (rows_in self.old) row.now.positions row.now.line wanted) }
+        ensures ok { (wanted : Result Policy NamesError)
+            → program.NamesReturns tree_of predicate wanted
+            → OnOk result (rows_in self.new
+            ≡ with_next_row (rows_in self.old) row.now.positions row.now.line wanted) }
         ensures kept { OnErr result (rows_in self.new ≡ rows_in self.old) }
     {
         let next = self.tell(alloc, row, predicate)?;

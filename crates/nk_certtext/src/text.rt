@@ -16,7 +16,8 @@ use std::alloc::{AllocError, Global};
 /// predicate of each later row, one per line. Fields have their names in the program, and positions stand in the order of
 /// the row. The only error is that memory ran out.
 pub fn cert_text(alloc: Global, program: &Program, c: &Certificate) -> Result<Vec<u8>, AllocError>
-    ensures { IfOk result (λ text. text.items ≡ cert_bytes program.now.fields (certificate_value c.now)) }
+    ensures { IfOk result (λ text. text.items
+        ≡ cert_bytes program.now.fields (certificate_value c.now)) }
 {
     certificate_text(alloc, &program.fields, c)
 }
@@ -59,7 +60,8 @@ fn push_row(
     fields: &Fields,
     row: &(List<u64>, Pol),
 ) -> Result<(), AllocError>
-    ensures { OnOk result (out.new.items ≡ out.old.items ++ row_bytes fields.now (held_row_value row.now)) }
+    ensures { OnOk result (out.new.items
+        ≡ out.old.items ++ row_bytes fields.now (held_row_value row.now)) }
 {
     out.extend_from_slice(b"row")?;
     push_positions(out, row.0.as_slice())?;

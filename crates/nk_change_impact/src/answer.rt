@@ -39,7 +39,8 @@ fn answer_to_program(
     program: Program,
 ) -> Result<CommandAnswer, AllocError>
     requires is { IsProgram program.fields program.topo program.lets }
-    ensures { IfOk result (λ s. ToImpactProgram (program_by program) left.now right.now (outcome_of s)) }
+    ensures { IfOk result (λ s.
+        ToImpactProgram (program_by program) left.now right.now (outcome_of s)) }
 {
     match named_difference(alloc, program, left, right) {
         Ok(answer) => {

@@ -14,7 +14,8 @@ pub(crate) fn impact_message(
     left: &Pol,
     right: &Pol,
 ) -> Result<Vec<u8>, AllocError>
-    ensures { IfOk result (λ v. v.items ≡ impact_lines fields.now (tree_of left.now) (tree_of right.now)) }
+    ensures { IfOk result (λ v. v.items
+        ≡ impact_lines fields.now (tree_of left.now) (tree_of right.now)) }
 {
     let on_left = pol_text(alloc, fields, left)?;
     let on_right = pol_text(alloc, fields, right)?;

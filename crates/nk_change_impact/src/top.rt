@@ -53,12 +53,14 @@ pub fn impact<S: Source, O: Sink, E: Sink>(
         (use_of O.taken O.faults out.old out.new)
         (use_of E.taken E.faults err.old err.new) result }
     // A failed write is told by the status.
-    ensures write_faults { (O.faults out.old < O.faults out.new) ⊎ (E.faults err.old < E.faults err.new)
+    ensures write_faults { (O.faults out.old < O.faults out.new) ⊎
+        (E.faults err.old < E.faults err.new)
         → result ≡ Status.WriteFault }
     // The status `Usage` comes for words that are not two, where the sink takes it, and for no others.
     ensures usage { TellsUsage (map (λ w. string_bytes w) words.now) result }
     // No call was made on the source where the words are not two.
-    ensures unread { names_in (map (λ w. string_bytes w) words.now) ≡ None → source.new ≡ source.old }
+    ensures unread { names_in (map (λ w. string_bytes w) words.now) ≡ None
+        → source.new ≡ source.old }
     // No call was made on the sink that the answer doesn't go to.
     ensures alone { LeavesAlone result (out.new ≡ out.old) (err.new ≡ err.old) }
 {
@@ -77,7 +79,8 @@ fn answer_words<S: Source, O: Sink, E: Sink>(
         (use_of S.left S.faults source.old source.new)
         (use_of O.taken O.faults out.old out.new)
         (use_of E.taken E.faults err.old err.new) result }
-    ensures unread { names_in (map (λ w. string_bytes w) words.now) ≡ None → source.new ≡ source.old }
+    ensures unread { names_in (map (λ w. string_bytes w) words.now) ≡ None
+        → source.new ≡ source.old }
     ensures alone { LeavesAlone result (out.new ≡ out.old) (err.new ≡ err.old) }
 {
     match words {

@@ -44,7 +44,9 @@ pub fn check_policies(
     requires right_complements { NegatesPredicates (tree_of right.now) }
     requires right_range { IsInRange (tree_of right.now) fields.now }
     requires predicates { HasPredicates (certificate_value certificate.now) }
-    ensures { IfOk result (λ v. IsFinding fields.now (tree_of left.now) (tree_of right.now) (certificate_value certificate.now) (finding_of v)) }
+    ensures { IfOk result (λ v.
+        IsFinding fields.now (tree_of left.now) (tree_of right.now)
+        (certificate_value certificate.now) (finding_of v)) }
 {
     let mut st = Store::new(alloc, fields)?;
     let mut ss = Sets::new(alloc);
@@ -66,7 +68,9 @@ fn verdict_in(
     requires left_fit { IsFit st.old.maxes (tree_of left.now) }
     requires right_fit { IsFit st.old.maxes (tree_of right.now) }
     requires predicates { HasPredicates (certificate_value certificate.now) }
-    ensures { IfOk result (λ v. IsFinding fields.now (tree_of left.now) (tree_of right.now) (certificate_value certificate.now) (finding_of v)) }
+    ensures { IfOk result (λ v.
+        IsFinding fields.now (tree_of left.now) (tree_of right.now)
+        (certificate_value certificate.now) (finding_of v)) }
 {
     let both = automaton_of_both(st, left, right)?;
     let bound = number_after(left) as usize;
@@ -82,10 +86,12 @@ pub(crate) fn verdict_by(
     certificate: &Certificate,
 ) -> Result<Verdict, AllocError>
     requires automaton { (fields : FieldTable) × (p : Policy) × (q : Policy)
-        × IsAutomatonOfBoth fields st.old both.states both.left both.right p q × (bound ≡ 1 + dups_of p) }
+        × IsAutomatonOfBoth fields st.old both.states both.left both.right p q
+        × (bound ≡ 1 + dups_of p) }
     requires predicates { HasPredicates (certificate_value certificate.now) }
     ensures { IfOk result (λ v. (fields : FieldTable) (p q : Policy)
-        → IsAutomatonOfBoth fields st.old both.states both.left both.right p q → bound ≡ 1 + dups_of p
+        → IsAutomatonOfBoth fields st.old both.states both.left both.right p q
+        → bound ≡ 1 + dups_of p
         → IsFinding fields p q (certificate_value certificate.now) (finding_of v)) }
 {
     let mut goal = OneSide::new(st, both.states.as_slice(), both.left, both.right, bound)?;
@@ -108,7 +114,9 @@ fn judge_of(
     ensures grows { Grows st.old st.new }
     ensures sets { SetsGrow ss.old ss.new }
     ensures states { IfOk result (λ j. j.states ≡ both.states) }
-    ensures ok { IfOk result (λ j. IsJudge st.new ss.new (length j.states) (certificate_value certificate.now) j.start j.entries j.told.entries) }
+    ensures ok { IfOk result
+        (λ j. IsJudge st.new ss.new (length j.states)
+        (certificate_value certificate.now) j.start j.entries j.told.entries) }
 {
     let Both { states, .. } = both;
     let start = start_entry(st, ss, &certificate.start, states.len())?;

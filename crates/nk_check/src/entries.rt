@@ -67,7 +67,9 @@ fn row_entry(
     requires { is_predicate (tree_of predicate.now) ≡ true }
     ensures grows { Grows st.old st.new }
     ensures sets { SetsGrow ss.old ss.new }
-    ensures ok { IfOk result (λ e. IsEntryOf st.new ss.new count (record { positions = positions.now; predicate = tree_of predicate.now }) e) }
+    ensures ok { IfOk result
+        (λ e. IsEntryOf st.new ss.new count
+        (record { positions = positions.now; predicate = tree_of predicate.now }) e) }
 {
     let alloc = st.alloc();
     if !are_labels(positions, count) {

@@ -50,11 +50,16 @@ pub(crate) fn judge_rows(
     goal: &mut OneSide,
     later: &[(List<u64>, Pol)],
 ) -> Result<Verdict, AllocError>
-    requires can { CanJudge st.old ss.old judge.now.states judge.now.told.entries goal.old.ends goal.old.seen.entries }
+    requires can { CanJudge st.old ss.old judge.now.states judge.now.told.entries goal.old.ends
+        goal.old.seen.entries }
     requires start { IsPair st.old ss.old (length judge.now.states) judge.now.start }
-    requires entries { AreEntriesOf st.old ss.old (length judge.now.states) (row_values later.now) judge.now.entries }
+    requires entries { AreEntriesOf st.old ss.old (length judge.now.states)
+        (row_values later.now) judge.now.entries }
     ensures grows { Grows st.old st.new }
-    ensures ok { IfOk result (λ v. IsJudged st.old ss.old judge.now.states (λ set pk. alone (ends_of st.old goal.old.ends set pk)) judge.now.told.entries judge.now.start (row_values later.now) judge.now.entries v) }
+    ensures ok { IfOk result
+        (λ v. IsJudged st.old ss.old judge.now.states
+        (λ set pk. alone (ends_of st.old goal.old.ends set pk)) judge.now.told.entries
+        judge.now.start (row_values later.now) judge.now.entries v) }
 {
     let first = judge_start(st, ss, judge, goal)?;
     if let Some(part) = first {
@@ -79,13 +84,21 @@ fn judge_start(
     judge: &Judge,
     goal: &mut OneSide,
 ) -> Result<Option<CertPart>, AllocError>
-    requires can { CanJudge st.old ss.old judge.now.states judge.now.told.entries goal.old.ends goal.old.seen.entries }
+    requires can { CanJudge st.old ss.old judge.now.states judge.now.told.entries goal.old.ends
+        goal.old.seen.entries }
     requires start { IsPair st.old ss.old (length judge.now.states) judge.now.start }
     ensures grows { Grows st.old st.new }
     ensures sets { SetsGrow ss.old ss.new }
-    ensures can { OnOk result (CanJudge st.new ss.new judge.now.states judge.now.told.entries goal.new.ends goal.new.seen.entries) }
-    ensures same { OnOk result ((st : StoreState) (set pk : Items ℕ) → alone (ends_of st goal.new.ends set pk) ≡ alone (ends_of st goal.old.ends set pk)) }
-    ensures ok { IfOk result (λ o. IsStartJudged st.old ss.old judge.now.states (λ set pk. alone (ends_of st.old goal.old.ends set pk)) judge.now.told.entries judge.now.start o) }
+    ensures can { OnOk result
+        (CanJudge st.new ss.new judge.now.states judge.now.told.entries goal.new.ends
+        goal.new.seen.entries) }
+    ensures same { OnOk result
+        ((st : StoreState) (set pk : Items ℕ)
+        → alone (ends_of st goal.new.ends set pk) ≡ alone (ends_of st goal.old.ends set pk)) }
+    ensures ok { IfOk result
+        (λ o. IsStartJudged st.old ss.old judge.now.states
+        (λ set pk. alone (ends_of st.old goal.old.ends set pk)) judge.now.told.entries
+        judge.now.start o) }
 {
     if !has_each(st, judge.start.1)? {
         return Ok(Some(CertPart::Start));
@@ -102,14 +115,23 @@ fn judge_row(
     later: &[(List<u64>, Pol)],
     i: usize,
 ) -> Result<Option<CertPart>, AllocError>
-    requires can { CanJudge st.old ss.old judge.now.states judge.now.told.entries goal.old.ends goal.old.seen.entries }
-    requires entries { AreEntriesOf st.old ss.old (length judge.now.states) (row_values later.now) judge.now.entries }
+    requires can { CanJudge st.old ss.old judge.now.states judge.now.told.entries goal.old.ends
+        goal.old.seen.entries }
+    requires entries { AreEntriesOf st.old ss.old (length judge.now.states)
+        (row_values later.now) judge.now.entries }
     requires place { i < length later.now }
     ensures grows { Grows st.old st.new }
     ensures sets { SetsGrow ss.old ss.new }
-    ensures can { OnOk result (CanJudge st.new ss.new judge.now.states judge.now.told.entries goal.new.ends goal.new.seen.entries) }
-    ensures same { OnOk result ((st : StoreState) (set pk : Items ℕ) → alone (ends_of st goal.new.ends set pk) ≡ alone (ends_of st goal.old.ends set pk)) }
-    ensures ok { IfOk result (λ o. IsRowJudged st.old ss.old judge.now.states (λ set pk. alone (ends_of st.old goal.old.ends set pk)) judge.now.told.entries (row_at (row_values later.now) i).positions (entry_at judge.now.entries i) o) }
+    ensures can { OnOk result
+        (CanJudge st.new ss.new judge.now.states judge.now.told.entries goal.new.ends
+        goal.new.seen.entries) }
+    ensures same { OnOk result
+        ((st : StoreState) (set pk : Items ℕ)
+        → alone (ends_of st goal.new.ends set pk) ≡ alone (ends_of st goal.old.ends set pk)) }
+    ensures ok { IfOk result
+        (λ o. IsRowJudged st.old ss.old judge.now.states
+        (λ set pk. alone (ends_of st.old goal.old.ends set pk)) judge.now.told.entries
+        (row_at (row_values later.now) i).positions (entry_at judge.now.entries i) o) }
 {
     if !has_labels(later, i, judge.states.len()) {
         return Ok(Some(CertPart::Position));
@@ -143,13 +165,20 @@ fn judge_set(
     goal: &mut OneSide,
     entry: (SetId, Id),
 ) -> Result<Option<CertPart>, AllocError>
-    requires can { CanJudge st.old ss.old judge.now.states judge.now.told.entries goal.old.ends goal.old.seen.entries }
+    requires can { CanJudge st.old ss.old judge.now.states judge.now.told.entries goal.old.ends
+        goal.old.seen.entries }
     requires entry { IsPair st.old ss.old (length judge.now.states) entry }
     ensures grows { Grows st.old st.new }
     ensures sets { SetsGrow ss.old ss.new }
-    ensures can { OnOk result (CanJudge st.new ss.new judge.now.states judge.now.told.entries goal.new.ends goal.new.seen.entries) }
-    ensures same { OnOk result ((st : StoreState) (set pk : Items ℕ) → alone (ends_of st goal.new.ends set pk) ≡ alone (ends_of st goal.old.ends set pk)) }
-    ensures ok { IfOk result (λ o. IsSetJudged st.old ss.old judge.now.states (λ set pk. alone (ends_of st.old goal.old.ends set pk)) judge.now.told.entries entry o) }
+    ensures can { OnOk result
+        (CanJudge st.new ss.new judge.now.states judge.now.told.entries goal.new.ends
+        goal.new.seen.entries) }
+    ensures same { OnOk result
+        ((st : StoreState) (set pk : Items ℕ)
+        → alone (ends_of st goal.new.ends set pk) ≡ alone (ends_of st goal.old.ends set pk)) }
+    ensures ok { IfOk result
+        (λ o. IsSetJudged st.old ss.old judge.now.states
+        (λ set pk. alone (ends_of st.old goal.old.ends set pk)) judge.now.told.entries entry o) }
 {
     let level = level_of(st.alloc(), entry)?;
     if any_violation(st, ss, &level, goal)? {

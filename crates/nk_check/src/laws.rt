@@ -58,7 +58,8 @@ pub fn one_certificate_is_printed()
 pub fn the_printed_certificate_tells()
     ensures { (fields : FieldTable) (p q : Policy) → AreSides p q
         → IsInRange p fields → IsInRange q fields
-        → (c : CertificateValue) → IsPrinted fields p q c → IsCertificate fields p q c ↔ AreSame fields p q }
+        → (c : CertificateValue) → IsPrinted fields p q c
+        → IsCertificate fields p q c ↔ AreSame fields p q }
 {}
 
 /// At most one thing is found of a certificate: that it is one, or that a certain row fails first, in a certain part. It
@@ -70,9 +71,11 @@ pub fn one_thing_is_found()
     ensures not_nothing { (fields : FieldTable) (p q : Policy) (c : CertificateValue)
         → ((v : Finding) → IsFinding fields p q c v → ⊥) → ⊥ }
     ensures decided { (fields : FieldTable) (p q : Policy) (c : CertificateValue)
-        → ((row : CertRow) → Contains (certificate_rows c) row → ArePartsDecided fields p q (certificate_rows c) row)
+        → ((row : CertRow) → Contains (certificate_rows c) row
+        → ArePartsDecided fields p q (certificate_rows c) row)
         → (v : Finding) × IsFinding fields p q c v }
-    ensures automaton { (fields : FieldTable) (st : StoreState) (states : List ℕ) (left right : ℕ) (p q : Policy)
+    ensures automaton { (fields : FieldTable) (st : StoreState) (states : List ℕ) (left right : ℕ)
+        (p q : Policy)
         → IsAutomatonOfBoth fields st states left right p q
         → (c : CertificateValue) → HasPredicates c → (v : Finding) × IsFinding fields p q c v }
 {}
@@ -88,34 +91,46 @@ pub fn worked_certificates()
 /// Both policies give the same histories exactly where, for every start packet and all records, the left and the right
 /// members of the set of their positions end alike. That all records have such a set is known where an automaton of both is.
 pub fn equality_is_by_sets()
-    ensures members { (fields : FieldTable) (p q : Policy) → AreSides p q → AreSame fields p q → AgreeBySets fields p q }
+    ensures members { (fields : FieldTable) (p q : Policy) → AreSides p q → AreSame fields p q
+        → AgreeBySets fields p q }
     ensures histories { (fields : FieldTable) (p q : Policy) → AreSides p q
         → HavePositionSets fields p q → AgreeBySets fields p q → AreSame fields p q }
-    ensures sets { (fields : FieldTable) (st : StoreState) (states : List ℕ) (left right : ℕ) (p q : Policy)
+    ensures sets { (fields : FieldTable) (st : StoreState) (states : List ℕ) (left right : ℕ)
+        (p q : Policy)
         → IsAutomatonOfBoth fields st states left right p q → HavePositionSets fields p q }
-    ensures exactly { (fields : FieldTable) (st : StoreState) (states : List ℕ) (left right : ℕ) (p q : Policy)
-        → IsAutomatonOfBoth fields st states left right p q → AreSame fields p q ↔ AgreeBySets fields p q }
+    ensures exactly { (fields : FieldTable) (st : StoreState) (states : List ℕ) (left right : ℕ)
+        (p q : Policy)
+        → IsAutomatonOfBoth fields st states left right p q
+        → AreSame fields p q ↔ AgreeBySets fields p q }
 {}
 
 /// Levels of both policies from all packets, up to an end of one side alone: without one the policies give the same histories
 /// on every packet in range, and with one some history is of one of them alone.
 pub fn levels_tell_equality()
-    ensures same { (fields : FieldTable) (p q : Policy) (states : List ℕ) (left right : ℕ) (first old new : StoreState)
-        (ss : List (List ℕ)) (set start : ℕ) (bad : List ℕ → List ℕ → List Out) (ls : List (List (ℕ × ℕ)))
-        → AreLevelsOfBoth fields p q states left right first old new ss set start bad ls false → AreSame fields p q }
-    ensures differ { (fields : FieldTable) (p q : Policy) (states : List ℕ) (left right : ℕ) (first old new : StoreState)
-        (ss : List (List ℕ)) (set start : ℕ) (bad : List ℕ → List ℕ → List Out) (ls : List (List (ℕ × ℕ)))
-        → AreLevelsOfBoth fields p q states left right first old new ss set start bad ls true → HasOneAlone fields p q }
+    ensures same { (fields : FieldTable) (p q : Policy) (states : List ℕ) (left right : ℕ)
+        (first old new : StoreState)
+        (ss : List (List ℕ)) (set start : ℕ) (bad : List ℕ → List ℕ → List Out)
+        (ls : List (List (ℕ × ℕ)))
+        → AreLevelsOfBoth fields p q states left right first old new ss set start bad ls false
+        → AreSame fields p q }
+    ensures differ { (fields : FieldTable) (p q : Policy) (states : List ℕ) (left right : ℕ)
+        (first old new : StoreState)
+        (ss : List (List ℕ)) (set start : ℕ) (bad : List ℕ → List ℕ → List Out)
+        (ls : List (List (ℕ × ℕ)))
+        → AreLevelsOfBoth fields p q states left right first old new ss set start bad ls true
+        → HasOneAlone fields p q }
 {}
 
 /// The automata of two policies that are numbered one after the other, with a start that sends where either start does, are the
 /// automaton of both as one.
 pub fn automata_are_joined()
-    ensures start { (st : StoreState) (left right d : ℕ) (p q : Policy) → IsState st left p → IsState st right q → IsId st d
+    ensures start { (st : StoreState) (left right d : ℕ) (p q : Policy) → IsState st left p
+        → IsState st right q → IsId st d
         → ((pk y : List ℕ) (t : ℕ) → IsStorePacket st pk
         → Sends st d pk y t ↔ (Sends st left pk y t ⊎ Sends st right pk y t))
         → IsState st d (either_of p q) }
-    ensures states { (st : StoreState) (of_left of_right states : List ℕ) (p q : Policy) → AreNumbered p q
+    ensures states { (st : StoreState) (of_left of_right states : List ℕ) (p q : Policy)
+        → AreNumbered p q
         → IsAutomaton st of_left 1 p → IsAutomaton st of_right (1 + dups_of p) q
         → IsState st (slice_index states 0) (either_of p q) → AreJoined of_left of_right states p q
         → IsAutomaton st states 1 (either_of p q) }
@@ -123,10 +138,12 @@ pub fn automata_are_joined()
 
 /// An automaton of both policies stands while the store grows, and what the goal of sides finds bad is one-sided.
 pub fn automata_of_both_stand()
-    ensures stands { (fields : FieldTable) (st new : StoreState) (states : List ℕ) (left right : ℕ) (p q : Policy)
+    ensures stands { (fields : FieldTable) (st new : StoreState) (states : List ℕ) (left right : ℕ)
+        (p q : Policy)
         → IsAutomatonOfBoth fields st states left right p q → Grows st new → AreTidy new
         → IsAutomatonOfBoth fields new states left right p q }
-    ensures goal { (first made old : StoreState) (states : List ℕ) (left right bound : ℕ) (ends : List ℕ)
+    ensures goal { (first made old : StoreState) (states : List ℕ) (left right bound : ℕ)
+        (ends : List ℕ)
         → AreIds made ends → length ends ≡ length states → Grows first made → Grows made old
         → ((set pk : List ℕ) → AreLabelsBelow (length states) set → IsStorePacket first pk
         → AreOneSided first states left right bound set pk (alone (ends_of made ends set pk)))
@@ -137,16 +154,20 @@ pub fn automata_of_both_stand()
 /// packet of the row the set of its labels has an end of one side alone. Hop: each step of that set from a packet of the row
 /// leads to a set that some row has, and to a packet of that row.
 pub fn rows_are_checked_by_sets()
-    ensures position { (fields : FieldTable) (st : StoreState) (states : List ℕ) (left right : ℕ) (p q : Policy)
+    ensures position { (fields : FieldTable) (st : StoreState) (states : List ℕ) (left right : ℕ)
+        (p q : Policy)
         → IsAutomatonOfBoth fields st states left right p q → (positions : List ℕ)
         → IsRowPositionOf p q (at_dups positions)
         ↔ ((l : ℕ) → Contains positions l → (1 ≤ l) × (l ≤ dups_of p + dups_of q)) }
-    ensures finals { (fields : FieldTable) (st : StoreState) (states : List ℕ) (left right : ℕ) (p q : Policy)
+    ensures finals { (fields : FieldTable) (st : StoreState) (states : List ℕ) (left right : ℕ)
+        (p q : Policy)
         → IsAutomatonOfBoth fields st states left right p q
         → (bad : List ℕ → List ℕ → List Out) → IsOneSided st states left right (1 + dups_of p) bad
-        → (row : CertRow) → MeetsPosition fields p q row → (set : List ℕ) → IsSetAt row.row_position set
+        → (row : CertRow) → MeetsPosition fields p q row → (set : List ℕ)
+        → IsSetAt row.row_position set
         → MeetsFinals fields p q row ↔ HasNoViolation st bad row set }
-    ensures hop { (fields : FieldTable) (st : StoreState) (states : List ℕ) (left right : ℕ) (p q : Policy)
+    ensures hop { (fields : FieldTable) (st : StoreState) (states : List ℕ) (left right : ℕ)
+        (p q : Policy)
         → IsAutomatonOfBoth fields st states left right p q
         → (all : List CertRow) (row : CertRow) → MeetsPosition fields p q row
         → (set : List ℕ) → IsSetAt row.row_position set
@@ -155,46 +176,60 @@ pub fn rows_are_checked_by_sets()
 
 /// The certificate that is made of levels of both policies without a violation is the printed one, and it is a certificate.
 pub fn levels_give_the_printed_certificate()
-    ensures printed { (fields : FieldTable) (p q : Policy) (states : List ℕ) (left right : ℕ) (first old new final : StoreState)
-        (ss : List (List ℕ)) (set start : ℕ) (bad : List ℕ → List ℕ → List Out) (ls : List (List (ℕ × ℕ)))
+    ensures printed { (fields : FieldTable) (p q : Policy) (states : List ℕ) (left right : ℕ)
+        (first old new final : StoreState)
+        (ss : List (List ℕ)) (set start : ℕ) (bad : List ℕ → List ℕ → List Out)
+        (ls : List (List (ℕ × ℕ)))
         → AreLevelsOfBoth fields p q states left right first old new ss set start bad ls false
         → HasEachSetOnce ss → Grows old new → Grows new final
         → (c : CertificateValue) → IsCertificateOf new final ss ls c → IsPrinted fields p q c }
-    ensures is_one { (fields : FieldTable) (p q : Policy) (states : List ℕ) (left right : ℕ) (first old new final : StoreState)
-        (ss : List (List ℕ)) (set start : ℕ) (bad : List ℕ → List ℕ → List Out) (ls : List (List (ℕ × ℕ)))
+    ensures is_one { (fields : FieldTable) (p q : Policy) (states : List ℕ) (left right : ℕ)
+        (first old new final : StoreState)
+        (ss : List (List ℕ)) (set start : ℕ) (bad : List ℕ → List ℕ → List Out)
+        (ls : List (List (ℕ × ℕ)))
         → AreLevelsOfBoth fields p q states left right first old new ss set start bad ls false
-        → HasEachSetOnce ss → Grows old new → Grows new final → IsInRange p fields → IsInRange q fields
+        → HasEachSetOnce ss → Grows old new → Grows new final → IsInRange p fields
+        → IsInRange q fields
         → (c : CertificateValue) → IsCertificateOf new final ss ls c → IsCertificate fields p q c }
 {}
 
 /// Histories that break the goal of sides: from any start packets, with target 0 those of the left policy alone, with target 1
 /// those of the right one alone, and no others. So from all packets the least that breaks is the least difference.
 pub fn histories_of_one_side_break()
-    ensures left { (fields : FieldTable) (st : StoreState) (states : List ℕ) (left right : ℕ) (p q : Policy)
+    ensures left { (fields : FieldTable) (st : StoreState) (states : List ℕ) (left right : ℕ)
+        (p q : Policy)
         → IsAutomatonOfBoth fields st states left right p q
         → (bad : List ℕ → List ℕ → List Out) → IsOneSided st states left right (1 + dups_of p) bad
-        → (start : ℕ) (f : Found) → IsBreak st states (0 ∷ []) start bad 0 f ↔ IsAloneFrom (IsAmong st start) p q f }
-    ensures right { (fields : FieldTable) (st : StoreState) (states : List ℕ) (left right : ℕ) (p q : Policy)
+        → (start : ℕ) (f : Found)
+        → IsBreak st states (0 ∷ []) start bad 0 f ↔ IsAloneFrom (IsAmong st start) p q f }
+    ensures right { (fields : FieldTable) (st : StoreState) (states : List ℕ) (left right : ℕ)
+        (p q : Policy)
         → IsAutomatonOfBoth fields st states left right p q
         → (bad : List ℕ → List ℕ → List Out) → IsOneSided st states left right (1 + dups_of p) bad
-        → (start : ℕ) (f : Found) → IsBreak st states (0 ∷ []) start bad 1 f ↔ IsAloneFrom (IsAmong st start) q p f }
-    ensures no_other { (fields : FieldTable) (st : StoreState) (states : List ℕ) (left right : ℕ) (p q : Policy)
+        → (start : ℕ) (f : Found)
+        → IsBreak st states (0 ∷ []) start bad 1 f ↔ IsAloneFrom (IsAmong st start) q p f }
+    ensures no_other { (fields : FieldTable) (st : StoreState) (states : List ℕ) (left right : ℕ)
+        (p q : Policy)
         → IsAutomatonOfBoth fields st states left right p q
         → (bad : List ℕ → List ℕ → List Out) → IsOneSided st states left right (1 + dups_of p) bad
         → (start t : ℕ) (f : Found) → IsBreak st states (0 ∷ []) start bad t f → (t ≡ 0) ⊎ (t ≡ 1) }
-    ensures least { (fields : FieldTable) (st : StoreState) (states : List ℕ) (left right : ℕ) (p q : Policy)
+    ensures least { (fields : FieldTable) (st : StoreState) (states : List ℕ) (left right : ℕ)
+        (p q : Policy)
         → IsAutomatonOfBoth fields st states left right p q
         → (bad : List ℕ → List ℕ → List Out) → IsOneSided st states left right (1 + dups_of p) bad
         → (start : ℕ) → HasEach st start → (side : Side) (f : Found)
         → IsBreak st states (0 ∷ []) start bad (target_of_side side) f
-        → IsLeast (λ g. Breaks st states (0 ∷ []) start bad g) f → IsLeastDifference fields p q side f }
+        → IsLeast (λ g. Breaks st states (0 ∷ []) start bad g) f
+        → IsLeastDifference fields p q side f }
 {}
 
 /// Levels up to ends of one side alone, over the automaton of two policies, are the levels of both.
 pub fn side_levels_are_of_both()
-    ensures { (fields : FieldTable) (p q : Policy) (states : List ℕ) (left right bound : ℕ) (first new : StoreState)
+    ensures { (fields : FieldTable) (p q : Policy) (states : List ℕ) (left right bound : ℕ)
+        (first new : StoreState)
         (ss : List (List ℕ)) (ends : List ℕ) (ls : List (List (ℕ × ℕ))) (broken : Bool)
         → IsAutomatonOfBoth fields first states left right p q → bound ≡ 1 + dups_of p
         → (l : AreSideLevels first states left right bound new ss ends ls broken)
-        → AreLevelsOfBoth fields p q states left right first l.old new ss l.set l.start l.bad ls broken }
+        → AreLevelsOfBoth fields p q states left right first l.old new ss l.set l.start l.bad ls
+        broken }
 {}

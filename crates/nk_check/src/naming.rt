@@ -81,8 +81,11 @@ fn check_both(
     requires right_complements { NegatesPredicates (tree_of q) }
     requires right_over { IsOverFields fields.now (tree_of q) }
     requires predicates { HasPredicates (certificate_value certificate.now) }
-    ensures found { IfOk result (λ v. IsFinding fields.now (tree_of p) (tree_of q) (certificate_value certificate.now) (finding_of v)) }
-    ensures same { IfOk result (λ v. finding_of v ≡ valid → AreSame fields.now (tree_of p) (tree_of q)) }
+    ensures found { IfOk result
+        (λ v. IsFinding fields.now (tree_of p) (tree_of q) (certificate_value certificate.now)
+        (finding_of v)) }
+    ensures same { IfOk result
+        (λ v. finding_of v ≡ valid → AreSame fields.now (tree_of p) (tree_of q)) }
 {
     // This is a law: policies with a certificate give the same histories.
     a_certificate_shows_equality();

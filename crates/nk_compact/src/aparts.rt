@@ -27,10 +27,13 @@ pub fn aparts(
     requires disjoint { IsDisjointCopy st.old states.now disjoint.old }
     requires base { IsBase st.old ss.old st.old ss.old states.now tags.now firsts.now }
     requires different { (i j : ℕ) → i < j → j < length firsts.now
-        → AreAlike st.old states.now (first_member_set ss.old tags.now firsts.now i) (first_member_set ss.old tags.now firsts.now j) → ⊥ }
+        → AreAlike st.old states.now (first_member_set ss.old tags.now firsts.now i)
+        (first_member_set ss.old tags.now firsts.now j) → ⊥ }
     ensures grows { Grows st.old st.new }
     ensures sets { SetsGrow ss.old ss.new }
-    ensures told { IfOk result (λ r. AreDistinguished st.old states.now ss.old tags.now firsts.now (first_pairs (length firsts.now) (length firsts.now)) r) }
+    ensures told { IfOk result
+        (λ r. AreDistinguished st.old states.now ss.old tags.now firsts.now
+        (first_pairs (length firsts.now) (length firsts.now)) r) }
 {
     let mut all = List::new(st.alloc());
     for i in 0..firsts.len() {
@@ -54,13 +57,17 @@ fn apart_row(
     requires base { IsBase st.old ss.old st.old ss.old states.now tags.now firsts.now }
     requires within { i < length firsts.now }
     requires different { (j : ℕ) → i < j → j < length firsts.now
-        → AreAlike st.old states.now (first_member_set ss.old tags.now firsts.now i) (first_member_set ss.old tags.now firsts.now j) → ⊥ }
+        → AreAlike st.old states.now (first_member_set ss.old tags.now firsts.now i)
+        (first_member_set ss.old tags.now firsts.now j) → ⊥ }
     ensures grows { Grows st.old st.new }
     ensures sets { SetsGrow ss.old ss.new }
     ensures disjoint { OnOk result (IsDisjointCopy st.new states.now disjoint.new) }
-    ensures told { OnOk result ((base : StoreState) (first : Items (Items ℕ)) (pairs : Items (ℕ × ℕ)) → IsBase base first st.old ss.old states.now tags.now firsts.now
+    ensures told { OnOk result
+        ((base : StoreState) (first : Items (Items ℕ)) (pairs : Items (ℕ × ℕ))
+        → IsBase base first st.old ss.old states.now tags.now firsts.now
         → AreDistinguished base states.now first tags.now firsts.now pairs all.old
-        → AreDistinguished base states.now first tags.now firsts.now (pairs ++ pairs_after i (length firsts.now)) all.new) }
+        → AreDistinguished base states.now first tags.now firsts.now
+        (pairs ++ pairs_after i (length firsts.now)) all.new) }
 {
     for j in i + 1..firsts.len() {
         let a = apart_of(st, ss, states, disjoint, tags, firsts, i, j)?;
@@ -84,11 +91,13 @@ fn apart_of(
     requires base { IsBase st.old ss.old st.old ss.old states.now tags.now firsts.now }
     requires first { i < length firsts.now }
     requires second { j < length firsts.now }
-    requires different { AreAlike st.old states.now (first_member_set ss.old tags.now firsts.now i) (first_member_set ss.old tags.now firsts.now j) → ⊥ }
+    requires different { AreAlike st.old states.now (first_member_set ss.old tags.now firsts.now i)
+        (first_member_set ss.old tags.now firsts.now j) → ⊥ }
     ensures grows { Grows st.old st.new }
     ensures sets { SetsGrow ss.old ss.new }
     ensures disjoint { OnOk result (IsDisjointCopy st.new states.now disjoint.new) }
-    ensures told { IfOk result (λ a. IsDistinguished st.old states.now ss.old tags.now firsts.now i j a) }
+    ensures told { IfOk result
+        (λ a. IsDistinguished st.old states.now ss.old tags.now firsts.now i j a) }
 {
     let s = set_of_first(tags, firsts, i);
     let t = set_of_first(tags, firsts, j);
@@ -109,7 +118,13 @@ fn set_of_first(tags: &[SetId], firsts: &[usize], c: usize) -> SetId
 
 /// The history that tells two classes apart, with their numbers.
 fn told(found: Found, first: u64, second: u64) -> Apart
-    ensures { result ≡ record { first = first; second = second; alone = number_on_side found.side first second; start = found.start; history = found.history } }
+    ensures { result ≡ record {
+      first = first;
+      second = second;
+      alone = number_on_side found.side first second;
+      start = found.start;
+      history = found.history;
+    } }
 {
     let alone = match found.side {
         Side::Left => first,

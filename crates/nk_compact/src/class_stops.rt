@@ -44,7 +44,8 @@ fn classes_at(
     requires tags { All (λ t. t ≤ length classes.now) tags.now }
     requires met { length met.now ≡ length classes.now }
     requires firsts { All (λ i. i < length classes.now) firsts.now }
-    ensures { IfOk result (λ r. r ≡ classes_among classes.now met.now firsts.now tags.now (length firsts.now)) }
+    ensures { IfOk result (λ r. r
+        ≡ classes_among classes.now met.now firsts.now tags.now (length firsts.now)) }
 {
     let mut here = List::new(alloc);
     here.push(start_class(alloc))?;
@@ -115,7 +116,8 @@ fn push_acting(
 ) -> Result<(), AllocError>
     requires tag { t ≤ length classes.now }
     requires met { length met.now ≡ length classes.now }
-    ensures { OnOk result (acting.new ≡ acting.old ++ acting_of classes.now met.now class (t ∷ [])) }
+    ensures { OnOk result (acting.new
+        ≡ acting.old ++ acting_of classes.now met.now class (t ∷ [])) }
 {
     if t == 0 || classes[t as usize - 1] != class {
         return Ok(());

@@ -91,7 +91,8 @@ fn policy_compact(
 
 /// The numbers of all of a prepared policy's sets at odd levels in order, as many as there are.
 fn all_numbers(b: &Prepared) -> Result<List<SetId>, AllocError>
-    requires prepared { (fields : FieldTable) × (topo : Topology) × (tag : ℕ) × (p : Policy) × IsPrepared fields topo tag p b.now }
+    requires prepared { (fields : FieldTable) × (topo : Topology) × (tag : ℕ) × (p : Policy)
+        × IsPrepared fields topo tag p b.now }
     ensures ok { IfOk result (λ r. AreNumbers b.now.sets b.now.levels.levels r) }
 {
     odd_sets(&b.sets, &b.levels)
@@ -107,7 +108,8 @@ fn compact_of(
     tags: &[SetId],
     max: u64,
 ) -> Result<Compact, CompileError>
-    requires prepared { (tag : ℕ) × (max ≡ slice_index fields.now.maxima tag) × IsPrepared fields.now topo.now tag (tree_of p.now) prepared }
+    requires prepared { (tag : ℕ) × (max ≡ slice_index fields.now.maxima tag)
+        × IsPrepared fields.now topo.now tag (tree_of p.now) prepared }
     requires held { IsWellFormed fields.now (tree_of p.now) }
     requires numbers { AreNumbers prepared.sets prepared.levels.levels tags.now }
     requires room { max + 1 < 2 ^ 64 }
@@ -143,7 +145,8 @@ fn compact_tables(
     max: u64,
 ) -> Result<Compact, CompileError>
     requires prepared { (tag : ℕ) × (max ≡ slice_index fields.now.maxima tag)
-        × IsPrepared fields.now topo.now tag (tree_of p.now) (record { store = st.old; states = states.now; sets = ss.old; levels = lv.now }) }
+        × IsPrepared fields.now topo.now tag (tree_of p.now)
+        (record { store = st.old; states = states.now; sets = ss.old; levels = lv.now }) }
     requires held { IsWellFormed fields.now (tree_of p.now) }
     requires numbers { AreNumbers ss.old lv.now.levels tags.now }
     requires room { max + 1 < 2 ^ 64 }

@@ -15,14 +15,18 @@ ghost use Rattle.nk_compact.specs.MergedTable.{IsMergedTable};
 
 /// The merged table of a compilable policy, where alike tag sets share a tag, carries it too.
 pub fn the_merged_table_carries()
-    ensures compilable { (program : Program) (p : Policy) (tags : List (List ℕ)) (classes : List ℕ) (t : Tables)
+    ensures compilable { (program : Program) (p : Policy) (tags : List (List ℕ)) (classes : List ℕ)
+        (t : Tables)
         → IsFieldTable program.fields → AreLinks program.topo
         → HasDistinct p → IsInRange p program.fields → IsCompilable program.fields program.topo p
-        → IsMergedTable program.fields program.topo (IsStartPacket program.fields program.topo) p tags classes t
+        → IsMergedTable program.fields program.topo
+        (IsStartPacket program.fields program.topo) p tags classes t
         → Carries program p t }
-    ensures named { (program : Program) (name : List ℕ) (p : Policy) (tags : List (List ℕ)) (classes : List ℕ) (t : Tables)
+    ensures named { (program : Program) (name : List ℕ) (p : Policy) (tags : List (List ℕ))
+        (classes : List ℕ) (t : Tables)
         → IsProgram program.fields program.topo program.lets
         → policy_named program name ≡ Some p → IsCompilable program.fields program.topo p
-        → IsMergedTable program.fields program.topo (IsStartPacket program.fields program.topo) p tags classes t
+        → IsMergedTable program.fields program.topo
+        (IsStartPacket program.fields program.topo) p tags classes t
         → Carries program p t }
 {}

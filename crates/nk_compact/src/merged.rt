@@ -33,11 +33,16 @@ pub fn merged_tables(
     met: &[Id],
 ) -> Result<List<Table>, AllocError>
     requires mergeable { (fields : FieldTable) × (tag : ℕ)
-        × IsMergeable fields topo.now tag (tree_of p.now) st.old ss.old states.now tags.now classes.now.numbers classes.now.firsts met.now }
+        × IsMergeable fields topo.now tag
+        (tree_of p.now) st.old ss.old states.now tags.now classes.now.numbers classes.now.firsts
+        met.now }
     ensures { IfOk result (λ ts. (fields : FieldTable) (tag : ℕ)
-        → IsMergeable fields topo.now tag (tree_of p.now) st.old ss.old states.now tags.now classes.now.numbers classes.now.firsts met.now
+        → IsMergeable fields topo.now tag
+        (tree_of p.now) st.old ss.old states.now tags.now classes.now.numbers classes.now.firsts
+        met.now
         → (t : Tables) → t.fields ≡ fields → t.topo ≡ topo.now → t.tables ≡ ts
-        → IsMergedTable fields topo.now (IsStartPacket fields topo.now) (tree_of p.now) (sets_of ss.old tags.now) classes.now.numbers t) }
+        → IsMergedTable fields topo.now (IsStartPacket fields topo.now) (tree_of p.now)
+        (sets_of ss.old tags.now) classes.now.numbers t) }
 {
     let ends = link_ends(st.alloc(), p, states.len())?;
     let stops = tag_stops(st.alloc(), topo, ends.as_slice(), ss, tags)?;

@@ -27,7 +27,8 @@ pub fn met_packets(
     ensures sets { SetsGrow ss.old ss.new }
     ensures len { IfOk result (λ r. length r ≡ length tags.now) }
     ensures met { IfOk result (λ r. (i : ℕ) → i < length tags.now →
-        AreMet st.old ss.old lv.now.levels (labels_after (set_of_tag ss.old tags.now i)) st.new (slice_index r i)) }
+        AreMet st.old ss.old lv.now.levels (labels_after (set_of_tag ss.old tags.now i)) st.new
+        (slice_index r i)) }
 {
     let sets = sets_after(st.alloc(), ss, tags)?;
     ss.differ();
@@ -41,7 +42,9 @@ fn sets_after(alloc: Global, ss: &mut Sets, tags: &[SetId]) -> Result<List<SetId
     requires room { All (λ s. All (λ l. l + 1 < 2 ^ 64) (slice_index_or ss.old s [])) tags.now }
     ensures sets { SetsGrow ss.old ss.new }
     ensures len { IfOk result (λ r. length r ≡ length tags.now) }
-    ensures following { IfOk result (λ r. (i : ℕ) → i < length tags.now → IsSetOf ss.new (slice_index r i) (labels_after (set_of_tag ss.old tags.now i))) }
+    ensures following { IfOk result
+        (λ r. (i : ℕ) → i < length tags.now
+        → IsSetOf ss.new (slice_index r i) (labels_after (set_of_tag ss.old tags.now i))) }
 {
     let mut all = List::new(alloc);
     for s in tags {
@@ -56,7 +59,8 @@ fn set_after(alloc: Global, ss: &mut Sets, s: SetId) -> Result<SetId, AllocError
     requires known { s < length ss.old }
     requires room { All (λ l. l + 1 < 2 ^ 64) (slice_index_or ss.old s []) }
     ensures sets { SetsGrow ss.old ss.new }
-    ensures following { IfOk result (λ b. IsSetOf ss.new b (labels_after (slice_index_or ss.old s []))) }
+    ensures following { IfOk result
+        (λ b. IsSetOf ss.new b (labels_after (slice_index_or ss.old s []))) }
 {
     let labels = labels_after(alloc, ss.members(s))?;
     ss.intern(labels)
@@ -110,8 +114,10 @@ fn put_level(st: &mut Store, all: &mut List<Id>, level: &[(SetId, Id)]) -> Resul
     requires sets { All (λ e. e.0 < length all.old) level.now }
     ensures grows { Grows st.old st.new }
     ensures len { OnOk result (length all.new ≡ length all.old) }
-    ensures under { OnOk result ((base : StoreState) (before : Items (ℕ × ℕ)) → Grows base st.old → HaveIds base level.now
-        → AreUnder base st.old before all.old → AreUnder base st.new (before ++ level.now) all.new) }
+    ensures under { OnOk result
+        ((base : StoreState) (before : Items (ℕ × ℕ)) → Grows base st.old → HaveIds base level.now
+        → AreUnder base st.old before all.old
+        → AreUnder base st.new (before ++ level.now) all.new) }
 {
     for (s, packets) in level {
         put_entry(st, all, *s, *packets)?;
@@ -127,8 +133,10 @@ fn put_entry(st: &mut Store, all: &mut List<Id>, s: SetId, packets: Id) -> Resul
     ensures grows { Grows st.old st.new }
     ensures len { OnOk result (length all.new ≡ length all.old) }
     ensures ids { OnOk result ((k : ℕ) → k < length all.new → IsId st.new (slice_index all.new k)) }
-    ensures under { OnOk result ((base : StoreState) (before : Items (ℕ × ℕ)) → Grows base st.old → IsId base packets
-        → AreUnder base st.old before all.old → AreUnder base st.new (before ++ (s, packets) ∷ []) all.new) }
+    ensures under { OnOk result
+        ((base : StoreState) (before : Items (ℕ × ℕ)) → Grows base st.old → IsId base packets
+        → AreUnder base st.old before all.old
+        → AreUnder base st.new (before ++ (s, packets) ∷ []) all.new) }
 {
     let place = s.place();
     let d = union(st, id_at(all, place), packets)?;

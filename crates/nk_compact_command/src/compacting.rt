@@ -75,7 +75,8 @@ fn push_aparts(
     fields: &Fields,
     aparts: &[Apart],
 ) -> Result<(), AllocError>
-    ensures { OnOk result (out.new.items ≡ out.old.items ++ flat_map (apart_line fields.now) aparts.now) }
+    ensures { OnOk result (out.new.items
+        ≡ out.old.items ++ flat_map (apart_line fields.now) aparts.now) }
 {
     for apart in aparts {
         push_apart(alloc, out, fields, apart)?;
@@ -99,7 +100,9 @@ fn push_apart(
 
 /// Appends two tags, and which of them has the history.
 fn push_tags(out: &mut Vec<u8>, apart: &Apart) -> Result<(), AllocError>
-    ensures { OnOk result (out.new.items ≡ out.old.items ++ decimal apart.now.first ++ codes " " ++ decimal apart.now.second ++ codes " : " ++ decimal apart.now.alone) }
+    ensures { OnOk result (out.new.items
+        ≡ out.old.items ++ decimal apart.now.first ++ codes " " ++ decimal apart.now.second
+        ++ codes " : " ++ decimal apart.now.alone) }
 {
     push_number(out, apart.first)?;
     out.extend_from_slice(b" ")?;
@@ -115,7 +118,8 @@ fn push_alone(
     fields: &Fields,
     apart: &Apart,
 ) -> Result<(), AllocError>
-    ensures { OnOk result (out.new.items ≡ out.old.items ++ codes " alone : start " ++ packet_bytes fields.now true apart.now.start
+    ensures { OnOk result (out.new.items
+        ≡ out.old.items ++ codes " alone : start " ++ packet_bytes fields.now true apart.now.start
         ++ codes " : history " ++ history_bytes fields.now true apart.now.history ++ codes "\n") }
 {
     let start = packet_text(alloc, fields, &apart.start, true)?;

@@ -90,8 +90,10 @@ pub fn hand_tables<S: TableSink>(
     topo: &Topo,
     sink: &mut S,
 ) -> Result<u64, AllocError>
-    requires { (program : Program) × (name : Items ℕ) × (program.topo ≡ topo.now) × IsNumberedByName program name numbered }
-    ensures { (program : Program) (name : Items ℕ) → program.topo ≡ topo.now → IsNumberedByName program name numbered
+    requires { (program : Program) × (name : Items ℕ) × (program.topo ≡ topo.now)
+        × IsNumberedByName program name numbered }
+    ensures { (program : Program) (name : Items ℕ) → program.topo ≡ topo.now
+        → IsNumberedByName program name numbered
         → IfOk result (IsHanded program name (λ ts. S.takes sink.old ts sink.new)) }
 {
     tables_to(numbered, topo, sink)

@@ -13,7 +13,8 @@ use std::alloc::{AllocError, Global};
 /// The only error is that memory ran out.
 pub fn link_ends(alloc: Global, p: &Pol, count: usize) -> Result<List<Option<u16>>, AllocError>
     ensures len { IfOk result (λ ends. length ends ≡ count) }
-    ensures each { IfOk result (λ ends. (l : ℕ) → l < count → slice_index_or ends l None ≡ link_end (tree_of p.now) l) }
+    ensures each { IfOk result
+        (λ ends. (l : ℕ) → l < count → slice_index_or ends l None ≡ link_end (tree_of p.now) l) }
 {
     let mut ends = no_ends(alloc, count)?;
     put_ends(&mut ends, p);

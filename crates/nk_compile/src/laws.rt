@@ -45,37 +45,47 @@ pub fn the_tables_after_carry()
     ensures compilable { (program : Program) (first : ℕ) (p : Policy) (t : Tables)
         → IsFieldTable program.fields → AreLinks program.topo
         → HasDistinct p → IsInRange p program.fields → IsCompilable program.fields program.topo p
-        → IsTableAfter first program.fields program.topo (IsStartPacket program.fields program.topo) p t
+        → IsTableAfter first program.fields program.topo
+        (IsStartPacket program.fields program.topo) p t
         → Carries program p t }
     ensures accepted { (program : Program) (name : List ℕ) (first : ℕ) (p : Policy) (t : Tables)
         → IsProgram program.fields program.topo program.lets
         → policy_named program name ≡ Some p → IsAccepted program p
-        → IsTableAfter first program.fields program.topo (IsStartPacket program.fields program.topo) p t
+        → IsTableAfter first program.fields program.topo
+        (IsStartPacket program.fields program.topo) p t
         → Carries program p t }
 {}
 
 /// Tables of an old and a new policy, the new one's tags numbered after the old one's, can be planned; and the copies that
 /// cross links have the tags of their own policy.
 pub fn the_numbered_pair_can_be_planned()
-    ensures plannable { (fields : FieldTable) (topo : Topology) (p q : Policy) (old new : Tables) (old_tags : ℕ)
+    ensures plannable { (fields : FieldTable) (topo : Topology) (p q : Policy) (old new : Tables)
+        (old_tags : ℕ)
         → HasTagSets fields topo p old_tags
-        → IsTableOf fields topo (IsStartPacket fields topo) p old → IsTableAfter old_tags fields topo (IsStartPacket fields topo) q new
+        → IsTableOf fields topo (IsStartPacket fields topo) p old
+        → IsTableAfter old_tags fields topo (IsStartPacket fields topo) q new
         → IsPlannable (pair_of old new old_tags) }
-    ensures tags { (fields : FieldTable) (topo : Topology) (p q : Policy) (old new : Tables) (old_tags : ℕ)
+    ensures tags { (fields : FieldTable) (topo : Topology) (p q : Policy) (old new : Tables)
+        (old_tags : ℕ)
         → IsFieldTable fields → AreLinks topo
         → HasDistinct p → IsInRange p fields → IsCompilable fields topo p
         → HasDistinct q → IsInRange q fields → IsCompilable fields topo q
         → HasTagSets fields topo p old_tags
-        → IsTableOf fields topo (IsStartPacket fields topo) p old → IsTableAfter old_tags fields topo (IsStartPacket fields topo) q new
+        → IsTableOf fields topo (IsStartPacket fields topo) p old
+        → IsTableAfter old_tags fields topo (IsStartPacket fields topo) q new
         → HaveTheirTags (pair_of old new old_tags) }
 {}
 
 /// There is no reason to refuse two accepted policies whose tags fit together. So two such names of one program are refused
 /// by no program that says the same.
 pub fn fitting_policies_are_not_refused()
-    ensures policies { (program : Program) (p q : Policy) (r : Refusal) → IsAccepted program p → IsAccepted program q
-        → FitTogether program.fields program.topo p q → IsPairReason program.fields program.topo p q r → ⊥ }
-    ensures names { (program other : Program) (old new : List ℕ) (p q : Policy) (r : Refusal) → program_by program ≡ program_by other
-        → policy_named program old ≡ Some p → policy_named program new ≡ Some q → IsAccepted program p → IsAccepted program q
+    ensures policies { (program : Program) (p q : Policy) (r : Refusal) → IsAccepted program p
+        → IsAccepted program q
+        → FitTogether program.fields program.topo p q
+        → IsPairReason program.fields program.topo p q r → ⊥ }
+    ensures names { (program other : Program) (old new : List ℕ) (p q : Policy) (r : Refusal)
+        → program_by program ≡ program_by other
+        → policy_named program old ≡ Some p → policy_named program new ≡ Some q
+        → IsAccepted program p → IsAccepted program q
         → FitTogether program.fields program.topo p q → IsPairRefused other old new r → ⊥ }
 {}

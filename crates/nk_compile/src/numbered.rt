@@ -65,10 +65,14 @@ pub fn tables_to<S: TableSink>(
     topo: &Topo,
     sink: &mut S,
 ) -> Result<u64, AllocError>
-    requires numbered { (fields : FieldTable) × (p : Policy) × IsNumberedPolicy fields topo.now p numbered }
-    ensures made { (fields : FieldTable) (p : Policy) → IsNumberedPolicy fields topo.now p numbered → OnOk result ((ts : Items Table)
-        × S.takes sink.old ts sink.new × IsMade fields topo.now p (record { fields = fields; topo = topo.now; tables = ts })) }
-    ensures counted { (fields : FieldTable) (p : Policy) → IsNumberedPolicy fields topo.now p numbered → IfOk result (HasTagSets fields topo.now p) }
+    requires numbered { (fields : FieldTable) × (p : Policy)
+        × IsNumberedPolicy fields topo.now p numbered }
+    ensures made { (fields : FieldTable) (p : Policy) → IsNumberedPolicy fields topo.now p numbered
+        → OnOk result ((ts : Items Table)
+        × S.takes sink.old ts sink.new
+        × IsMade fields topo.now p (record { fields = fields; topo = topo.now; tables = ts })) }
+    ensures counted { (fields : FieldTable) (p : Policy)
+        → IsNumberedPolicy fields topo.now p numbered → IfOk result (HasTagSets fields topo.now p) }
 {
     let ends = numbered.ends;
     let tags = numbered.tags;

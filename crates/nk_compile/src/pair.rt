@@ -97,7 +97,8 @@ fn pair_tables(
     max: u64,
 ) -> Result<TablePair, CompileError>
     requires prepared { (tag : ℕ) × (max ≡ slice_index fields.now.maxima tag)
-        × IsPrepared fields.now topo.now tag (tree_of p.now) old × IsPrepared fields.now topo.now tag (tree_of q.now) new }
+        × IsPrepared fields.now topo.now tag (tree_of p.now) old
+        × IsPrepared fields.now topo.now tag (tree_of q.now) new }
     requires room { max + 1 < 2 ^ 64 }
     ensures made { IfOk result (IsMadePair fields.now topo.now (tree_of p.now) (tree_of q.now)) }
     ensures error { IfErr result (IsPairError fields.now topo.now (tree_of p.now) (tree_of q.now)) }

@@ -21,7 +21,8 @@ pub fn tag_stops(
 ) -> Result<Vec<Stop>, AllocError>
     requires known { All (λ s. s < length ss.now) tags.now }
     ensures switches { IfOk result (λ v. map (λ s. s.switch) v.items ≡ numbers_of topo.now) }
-    ensures coming { IfOk result (λ v. All (HasComing ends.now ss.now tags.now (length tags.now)) v.items) }
+    ensures coming { IfOk result
+        (λ v. All (HasComing ends.now ss.now tags.now (length tags.now)) v.items) }
 {
     let switches = topo.switches();
     let mut all = bare_stops(alloc, switches)?;
@@ -101,7 +102,9 @@ fn add_at(all: &mut Vec<Stop>, switches: &[u16], sw: u16, tag: u64) -> Result<()
 /// Puts the tag at the end of the tags at a place.
 fn push_tag(all: &mut Vec<Stop>, place: usize, tag: u64) -> Result<(), AllocError>
     requires { place < length all.old.items }
-    ensures { OnOk result ((s : Stop) → all.new.items ≡ slice_set all.old.items place (longer (slice_index_or all.old.items place s) tag)) }
+    ensures { OnOk result ((s : Stop)
+        → all.new.items ≡ slice_set all.old.items place
+        (longer (slice_index_or all.old.items place s) tag)) }
 {
     all[place].tags.push(tag)?;
     Ok(())
@@ -119,8 +122,10 @@ fn count_below(numbers: &[u16], n: u16) -> usize
 /// The place of `n` among the ascending numbers.
 fn place_of(numbers: &[u16], n: u16) -> Option<usize>
     requires { AllPairs (λ p q. p < q) numbers.now }
-    ensures found { IfSome result (λ i. (i < length numbers.now) × (slice_index numbers.now i ≡ n)) }
-    ensures none { IfNone result ((k : ℕ) → k < length numbers.now → slice_index numbers.now k ≡ n → ⊥) }
+    ensures found { IfSome result
+        (λ i. (i < length numbers.now) × (slice_index numbers.now i ≡ n)) }
+    ensures none { IfNone result
+        ((k : ℕ) → k < length numbers.now → slice_index numbers.now k ≡ n → ⊥) }
 {
     let place = count_below(numbers, n);
     if place < numbers.len() && numbers[place] == n {

@@ -46,7 +46,8 @@ fn levels_from(
     requires start { 0 < length states.now }
     ensures grows { Grows st.old st.new }
     ensures sets { SetsGrow ss.old ss.new }
-    ensures ok { IfOk result (λ l. IsLevelled topo.now tag st.old states.now st.new ss.new l.levels l.broken) }
+    ensures ok { IfOk result
+        (λ l. IsLevelled topo.now tag st.old states.now st.new ss.new l.levels l.broken) }
     ensures whole { IfOk result (λ l. l.broken ≡ false) }
     ensures err { IfErr result (IsOffFault topo.now tag st.old states.now) }
 {
@@ -84,7 +85,8 @@ fn start_alone(alloc: Global) -> Result<List<u64>, AllocError>
 
 /// The numbers of a prepared policy's sets at odd levels in order, after so many tags; with them there are at most `max`.
 pub fn numbers(b: &Prepared, first: u64, max: u64) -> Result<List<SetId>, CompileError>
-    requires prepared { (fields : FieldTable) × (topo : Topology) × (tag : ℕ) × (p : Policy) × IsPrepared fields topo tag p b.now }
+    requires prepared { (fields : FieldTable) × (topo : Topology) × (tag : ℕ) × (p : Policy)
+        × IsPrepared fields topo tag p b.now }
     requires first { first ≤ max }
     requires room { max + 1 < 2 ^ 64 }
     ensures ok { IfOk result (λ r. AreNumbers b.now.sets b.now.levels.levels r) }

@@ -35,11 +35,14 @@ fn tag_tables<S: TableSink>(
     tags: &[SetId],
     sink: &mut S,
 ) -> Result<(), AllocError>
-    requires ready { (first : ℕ) × (fields : FieldTable) × (p : Policy) × (tag : ℕ) × IsClear fields topo.now tag p
-        × AreLinkEnds p (length states.now) ends.now × IsReady first fields topo.now p st.old ss.old states.now tags.now }
+    requires ready { (first : ℕ) × (fields : FieldTable) × (p : Policy) × (tag : ℕ)
+        × IsClear fields topo.now tag p
+        × AreLinkEnds p (length states.now) ends.now
+        × IsReady first fields topo.now p st.old ss.old states.now tags.now }
     ensures { OnOk result ((ts : Items Table) × S.takes sink.old ts sink.new
         × ((first : ℕ) (fields : FieldTable) (p : Policy) (tag : ℕ) → IsClear fields topo.now tag p
-        → AreLinkEnds p (length states.now) ends.now → IsReady first fields topo.now p st.old ss.old states.now tags.now
+        → AreLinkEnds p (length states.now) ends.now
+        → IsReady first fields topo.now p st.old ss.old states.now tags.now
         → (t : Tables) → t.fields ≡ fields → t.topo ≡ topo.now → t.tables ≡ ts
         → IsTableAfter first fields topo.now (IsStartPacket fields topo.now) p t)) }
 {
@@ -71,7 +74,8 @@ fn following(
     requires { All (λ s. s < length ss.old) tags.now }
     ensures grows { SetsGrow ss.old ss.new }
     ensures known { IfOk result (λ r. All (λ s. s < length ss.new) r) }
-    ensures sets { IfOk result (λ r. sets_of ss.new r ≡ tags_after first (sets_of ss.old tags.now)) }
+    ensures sets { IfOk result
+        (λ r. sets_of ss.new r ≡ tags_after first (sets_of ss.old tags.now)) }
 {
     let none = ss.intern(List::new(alloc))?;
     padded(alloc, none, first, tags)
@@ -87,12 +91,14 @@ pub fn print_to<S: TableSink>(
     tags: &[SetId],
     sink: &mut S,
 ) -> Result<(), AllocError>
-    requires prepared { (fields : FieldTable) × (p : Policy) × (tag : ℕ) × IsPrepared fields topo.now tag p prepared
+    requires prepared { (fields : FieldTable) × (p : Policy) × (tag : ℕ)
+        × IsPrepared fields topo.now tag p prepared
         × AreLinkEnds p (length prepared.states) ends.now }
     requires numbers { AreNumbers prepared.sets prepared.levels.levels tags.now }
     ensures { OnOk result ((ts : Items Table) × S.takes sink.old ts sink.new
         × ((fields : FieldTable) (p : Policy) (tag : ℕ) → IsPrepared fields topo.now tag p prepared
-        → AreLinkEnds p (length prepared.states) ends.now → (t : Tables) → t.fields ≡ fields → t.topo ≡ topo.now → t.tables ≡ ts
+        → AreLinkEnds p (length prepared.states) ends.now → (t : Tables) → t.fields ≡ fields
+        → t.topo ≡ topo.now → t.tables ≡ ts
         → IsTableAfter first fields topo.now (IsStartPacket fields topo.now) p t)) }
 {
     let mut st = prepared.store;
@@ -106,7 +112,8 @@ pub fn print_to<S: TableSink>(
 
 /// Tables over copies of these fields and of this topology.
 pub fn tables_over(fields: &Fields, topo: &Topo, tables: List<Table>) -> Result<Tables, AllocError>
-    ensures { IfOk result (λ t. t ≡ record { fields = fields.now; topo = topo.now; tables = tables }) }
+    ensures { IfOk result (λ t. t
+        ≡ record { fields = fields.now; topo = topo.now; tables = tables }) }
 {
     let fields = fields.copy()?;
     let topo = topo.copy()?;
@@ -128,7 +135,8 @@ pub fn printed(
 ) -> Result<Tables, AllocError>
     requires prepared { (tag : ℕ) × IsPrepared fields.now topo.now tag (tree_of p.now) prepared }
     requires numbers { AreNumbers prepared.sets prepared.levels.levels tags.now }
-    ensures { IfOk result (IsTableAfter first fields.now topo.now (IsStartPacket fields.now topo.now) (tree_of p.now)) }
+    ensures { IfOk result (IsTableAfter first fields.now topo.now
+        (IsStartPacket fields.now topo.now) (tree_of p.now)) }
 {
     let alloc = prepared.store.alloc();
     let ends = link_ends(alloc, p, prepared.states.len())?;

@@ -145,7 +145,8 @@ fn end_in(st: &mut Store, state: Id, set: Id) -> Result<Id, AllocError>
 fn finals_of(st: &mut Store, state: Id) -> Result<Id, AllocError>
     requires state { IsId st.old state }
     ensures grows { Grows st.old st.new }
-    ensures ok { IfOk result (λ r. HasLeaves st.new r (λ pk. retargeted (Some 0 ∷ []) (look st.old state pk))) }
+    ensures ok { IfOk result
+        (λ r. HasLeaves st.new r (λ pk. retargeted (Some 0 ∷ []) (look st.old state pk))) }
 {
     retarget(st, state, &[Some(0)])
 }

@@ -63,7 +63,8 @@ fn answer_to_program(
 fn printed(alloc: Global, numbered: Numbered, program: Program) -> Result<Vec<u8>, AllocError>
     requires { (name : List ℕ) × IsNumberedByName program name numbered }
     ensures { (name : List ℕ) → IsNumberedByName program name numbered
-        → IfOk result (λ text. (t : Tables) × IsCompiled program name t × (text.items ≡ table_bytes t)) }
+        → IfOk result (λ text. (t : Tables) × IsCompiled program name t
+        × (text.items ≡ table_bytes t)) }
 {
     let (fields, topo) = declarations(program);
     text_of(alloc, numbered, &fields, &topo)
@@ -84,11 +85,14 @@ fn text_of(
     fields: &Fields,
     topo: &Topo,
 ) -> Result<Vec<u8>, AllocError>
-    requires { (program : Program) × (name : List ℕ) × (program.fields ≡ fields.now) × (program.topo ≡ topo.now)
+    requires { (program : Program) × (name : List ℕ) × (program.fields ≡ fields.now)
+        × (program.topo ≡ topo.now)
         × IsNumberedByName program name numbered }
-    ensures { (program : Program) (name : List ℕ) → program.fields ≡ fields.now → program.topo ≡ topo.now
+    ensures { (program : Program) (name : List ℕ) → program.fields ≡ fields.now
+        → program.topo ≡ topo.now
         → IsNumberedByName program name numbered
-        → IfOk result (λ text. (t : Tables) × IsCompiled program name t × (text.items ≡ table_bytes t)) }
+        → IfOk result (λ text. (t : Tables) × IsCompiled program name t
+        × (text.items ≡ table_bytes t)) }
 {
     let mut sink = TextSink::new(alloc, fields, topo)?;
     hand_tables(numbered, topo, &mut sink)?;

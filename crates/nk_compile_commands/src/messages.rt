@@ -10,7 +10,8 @@ use std::alloc::{AllocError, Global};
 
 /// The message for a policy that needs too many tags.
 fn tags_message(alloc: Global, found: u64) -> Result<Vec<u8>, AllocError>
-    ensures { IfOk result (λ v. v.items ≡ codes "refused C8: too many tags, found " ++ decimal found ++ codes "\n") }
+    ensures { IfOk result (λ v. v.items
+        ≡ codes "refused C8: too many tags, found " ++ decimal found ++ codes "\n") }
 {
     let mut buffer = Buffer::new();
     let mut message = Vec::new(alloc);

@@ -70,7 +70,8 @@ pub fn update_answer(
     word: &str,
     bytes: Vec<u8>,
 ) -> Result<CommandAnswer, AllocError>
-    ensures { IfOk result (λ s. IsUpdateAnswer old.now new.now seed steps word.now bytes.items (outcome_of s)) }
+    ensures { IfOk result (λ s.
+        IsUpdateAnswer old.now new.now seed steps word.now bytes.items (outcome_of s)) }
 {
     match read_program(alloc, bytes)? {
         ReadText::Program(program) => {
@@ -90,7 +91,8 @@ fn answer_to_program(
     steps: u64,
     word: &str,
 ) -> Result<CommandAnswer, AllocError>
-    ensures { IfOk result (λ s. ToPair (program_by program.now) old.now new.now seed steps word.now (outcome_of s)) }
+    ensures { IfOk result (λ s.
+        ToPair (program_by program.now) old.now new.now seed steps word.now (outcome_of s)) }
 {
     match compile_pair(alloc, program, old, new) {
         Ok(pair) => answer_to_pair(alloc, &pair, seed, steps, word),
@@ -110,7 +112,9 @@ fn answer_to_pair(
     word: &str,
 ) -> Result<CommandAnswer, AllocError>
     requires { IsPlannable (pair_of pair.now.old pair.now.new pair.now.old_tags) }
-    ensures { IfOk result (λ s. ToPacket (ToTurned (plan_for pair.now) seed steps) pair.now.old (packet_of pair.now.old.fields word.now) (outcome_of s)) }
+    ensures { IfOk result (λ s.
+        ToPacket (ToTurned (plan_for pair.now) seed steps) pair.now.old
+        (packet_of pair.now.old.fields word.now) (outcome_of s)) }
 {
     let turns = Turns {
         plan: plan(alloc, &pair.old, &pair.new, pair.old_tags)?,
@@ -129,7 +133,8 @@ fn updated_text(
 ) -> Result<Vec<u8>, AllocError>
     requires topo { topo.now ≡ flight.now.stages.before.topo }
     requires versions { HaveVersions (state_in flight.now) }
-    ensures { IfOk result (λ text. text.items ≡ told.updated_text fields.now flight.now.stages (state_in flight.now)) }
+    ensures { IfOk result (λ text. text.items
+        ≡ told.updated_text fields.now flight.now.stages (state_in flight.now)) }
 {
     let mut out = Vec::new(alloc);
     push_left(alloc, &mut out, fields, flight)?;
@@ -147,7 +152,8 @@ fn push_left(
 ) -> Result<(), AllocError>
     requires { HaveVersions (state_in flight.now) }
     ensures { OnOk result (out.new.items
-        ≡ out.old.items ++ flat_map (versioned_line fields.now (state_in flight.now).versions) flight.now.flight.left) }
+        ≡ out.old.items ++ flat_map
+        (versioned_line fields.now (state_in flight.now).versions) flight.now.flight.left) }
 {
     let left = flight.left();
     for gone in left {
@@ -162,7 +168,9 @@ fn push_left(
 
 /// Appends the number of an injection and the word for its version, each with a space after it.
 fn push_injection(out: &mut Vec<u8>, number: u64, version: Version) -> Result<(), AllocError>
-    ensures { OnOk result (out.new.items ≡ out.old.items ++ (decimal number ++ codes " " ++ version_word (Some version) ++ codes " ")) }
+    ensures { OnOk result (out.new.items
+        ≡ out.old.items ++ (decimal number ++ codes " " ++ version_word (Some version)
+        ++ codes " ")) }
 {
     let mut buffer = Buffer::new();
     out.extend_from_slice(buffer.format(number).as_bytes())?;
@@ -183,7 +191,8 @@ fn word_for(version: Version) -> &'static [u8]
 
 /// Appends how many plan steps are done, of three for each of these switches.
 fn push_progress(out: &mut Vec<u8>, done: u64, switches: &[u16]) -> Result<(), AllocError>
-    ensures { OnOk result (out.new.items ≡ out.old.items ++ progress_line done (3 * length switches.now)) }
+    ensures { OnOk result (out.new.items
+        ≡ out.old.items ++ progress_line done (3 * length switches.now)) }
 {
     let all = 3 * switches.len() as u64;
     let mut buffer = Buffer::new();

@@ -14,7 +14,8 @@ const LARGEST_PLACE: u64 = 65_535;
 
 /// Ends with the fault, where something is wrong.
 pub(crate) fn refuse_if(wrong: bool, kind: DeclareFault, line: u64) -> Result<(), DeclareError>
-    ensures { MatchResult result (λ _. fault_if wrong kind line ≡ None) (λ e. fault_if wrong kind line ≡ Some e) }
+    ensures { MatchResult result (λ _. fault_if wrong kind line ≡ None)
+        (λ e. fault_if wrong kind line ≡ Some e) }
 {
     if wrong {
         Err(DeclareError::Fault { kind, line })
@@ -44,7 +45,8 @@ pub(crate) fn ends_of(
     n: Number,
 ) -> Result<(u16, u16, u16, u16), DeclareError>
     ensures values { IfOk result (λ r. r ≡ (a.value, m.value, b.value, n.value)) }
-    ensures fault { MatchResult result (λ _. links_ends a m b n ≡ None) (λ e. links_ends a m b n ≡ Some e) }
+    ensures fault { MatchResult result (λ _. links_ends a m b n ≡ None)
+        (λ e. links_ends a m b n ≡ Some e) }
 {
     Ok((place_of(a)?, place_of(m)?, place_of(b)?, place_of(n)?))
 }
@@ -81,7 +83,8 @@ impl Ports {
     /// One more port: it is in range and new. An `Err` leaves the ports as they were.
     pub fn add(&mut self, p: Number) -> Result<(), DeclareError>
         ensures ok { OnOk result (self.new ≡ self.old ++ p.value ∷ []) }
-        ensures fault { MatchResult result (λ _. port_fault self.old p ≡ None) (λ e. IsFirstFault e (port_fault self.old p)) }
+        ensures fault { MatchResult result (λ _. port_fault self.old p ≡ None)
+            (λ e. IsFirstFault e (port_fault self.old p)) }
         ensures kept { OnErr result (self.new ≡ self.old) }
     {
         let number = place_of(p)?;
@@ -104,7 +107,8 @@ impl Ports {
 /// The numbers of ports, each in range and none twice.
 pub(crate) fn ports_of(alloc: Global, ports: &[Number]) -> Result<Ports, DeclareError>
     ensures numbers { IfOk result (λ v. v ≡ map (λ p. p.value) ports.now) }
-    ensures fault { MatchResult result (λ _. ports_fault [] ports.now ≡ None) (λ e. IsFirstFault e (ports_fault [] ports.now)) }
+    ensures fault { MatchResult result (λ _. ports_fault [] ports.now ≡ None)
+        (λ e. IsFirstFault e (ports_fault [] ports.now)) }
 {
     let mut all = Ports::new(alloc);
     for p in ports {

@@ -38,7 +38,8 @@ impl Declared {
     ///
     /// An `Err` leaves what is declared as it was, here and below.
     pub fn add_field(&mut self, w: &Ident, n: Number) -> Result<(), DeclareError>
-        ensures answer { DeclareReturns (λ _. declared_in self.new) result (declared_with (declared_in self.old) (field w.now n)) }
+        ensures answer { DeclareReturns (λ _. declared_in self.new) result
+            (declared_with (declared_in self.old) (field w.now n)) }
         ensures kept { OnErr result (declared_in self.new ≡ declared_in self.old) }
     {
         let kind = match self.fields.add(w.text.as_str(), n.value) {
@@ -75,7 +76,8 @@ impl Declared {
     /// declared already. It takes no memory.
     pub fn new_switch(&self, n: Number) -> Result<u16, DeclareError>
         ensures value { IfOk result (λ v. v ≡ n.value) }
-        ensures fault { MatchResult result (λ _. number_fault self.now.topo n ≡ None) (λ e. number_fault self.now.topo n ≡ Some e) }
+        ensures fault { MatchResult result (λ _. number_fault self.now.topo n ≡ None)
+            (λ e. number_fault self.now.topo n ≡ Some e) }
     {
         let number = place_of(n)?;
         refuse_if(
@@ -90,7 +92,9 @@ impl Declared {
     pub fn add_switch(&mut self, n: u16, ports: &[u16]) -> Result<(), AllocError>
         requires new { is_switch self.old.topo n ≡ false }
         requires once { has_double ports.now ≡ false }
-        ensures ok { OnOk result (declared_in self.new ≡ record (declared_in self.old) { topo = with_switch self.old.topo n ports.now }) }
+        ensures ok { OnOk result
+            (declared_in self.new
+            ≡ record (declared_in self.old) { topo = with_switch self.old.topo n ports.now }) }
         ensures kept { OnErr result (declared_in self.new ≡ declared_in self.old) }
     {
         match self.topo.add_switch(n, ports) {
@@ -114,7 +118,8 @@ impl Declared {
         n: Number,
         ports: &[Number],
     ) -> Result<(), DeclareError>
-        ensures answer { DeclareReturns (λ _. declared_in self.new) result (declared_with (declared_in self.old) (switch n ports.now)) }
+        ensures answer { DeclareReturns (λ _. declared_in self.new) result
+            (declared_with (declared_in self.old) (switch n ports.now)) }
         ensures kept { OnErr result (declared_in self.new ≡ declared_in self.old) }
     {
         let number = self.new_switch(n)?;
@@ -133,7 +138,8 @@ impl Declared {
         b: Number,
         n: Number,
     ) -> Result<(), DeclareError>
-        ensures answer { DeclareReturns (λ _. declared_in self.new) result (declared_with (declared_in self.old) (link a m b n)) }
+        ensures answer { DeclareReturns (λ _. declared_in self.new) result
+            (declared_with (declared_in self.old) (link a m b n)) }
         ensures kept { OnErr result (declared_in self.new ≡ declared_in self.old) }
     {
         let (from_switch, from_port, to_switch, to_port) = ends_of(a, m, b, n)?;

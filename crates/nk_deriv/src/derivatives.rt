@@ -22,7 +22,8 @@ pub fn parts(alloc: Global, p: &Pol) -> Result<Parts, AllocError>
     requires complements { NegatesPredicates (tree_of p.now) }
     ensures first { IfOk result (λ r. IsPartOfDerivative r.first (tree_of p.now)) }
     ensures labels { IfOk result (λ r. map (λ e. e.0) r.after ≡ numbers_of (tree_of p.now)) }
-    ensures after { IfOk result (λ r. All (λ e. IsPartOfDerivative e.1 (after (tree_of p.now) e.0)) r.after) }
+    ensures after { IfOk result
+        (λ r. All (λ e. IsPartOfDerivative e.1 (after (tree_of p.now) e.0)) r.after) }
     ensures within { IfOk result (λ r. All (λ e. IsWithin (tree_of p.now) e.1) r.after) }
 {
     let free = keeping(alloc);

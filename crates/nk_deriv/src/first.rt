@@ -75,7 +75,8 @@ fn collected(alloc: Global, p: &Pol, legs: &mut List<(Pol, u32)>) -> Result<Pol,
 #[cycle(first)]
 fn collected_any(alloc: Global, ps: &[Pol], legs: &mut List<(Pol, u32)>) -> Result<Pol, AllocError>
     requires complements { AllNegatePredicates (trees_of ps.now) }
-    ensures { IfOk result (λ r. IsCollected legs.old legs.new (tree_of r) (sum_of (trees_of ps.now))) }
+    ensures { IfOk result (λ r.
+        IsCollected legs.old legs.new (tree_of r) (sum_of (trees_of ps.now))) }
 {
     let mut frees = Vec::new(alloc);
     for q in ps {
@@ -103,7 +104,8 @@ pub fn parts_of_all(alloc: Global, ps: &[Pol]) -> Result<List<Part>, AllocError>
 
 /// Puts a policy at the end, but not the empty sum.
 fn push_term(terms: &mut Vec<Pol>, p: Pol) -> Result<(), AllocError>
-    ensures { OnOk result (IsEither (sum_of (trees_of terms.new.items)) (sum_of (trees_of terms.old.items)) (tree_of p)) }
+    ensures { OnOk result (IsEither (sum_of (trees_of terms.new.items))
+        (sum_of (trees_of terms.old.items)) (tree_of p)) }
 {
     let none = is_drop(&p);
     if none {
@@ -116,7 +118,8 @@ fn push_term(terms: &mut Vec<Pol>, p: Pol) -> Result<(), AllocError>
 /// The tests of a port.
 #[tactic(auto, using(nk_policy::proofs::Trees::tree_of_seq))]
 fn at_port(alloc: Global, switch: u16, port: u16) -> Result<Pol, AllocError>
-    ensures { IfOk result (λ r. tree_of r ≡ seq_of (part (test 0 switch) (part (test 1 port) no_part))) }
+    ensures { IfOk result (λ r. tree_of r
+        ≡ seq_of (part (test 0 switch) (part (test 1 port) no_part))) }
 {
     let tests = vec![in alloc;
         Pol::Test(Fid::SWITCH, u64::from(switch)),

@@ -30,7 +30,8 @@ pub fn rests(
     requires distinct { HasDistinct (tree_of p.now) }
     requires complements { NegatesPredicates (tree_of p.now) }
     requires fit { MarksBelow (tree_of p.now) (2 ^ 32 - 1) }
-    ensures { OnOk result (AreRests out.old out.new (after (tree_of p.now)) (numbers_of (tree_of p.now)) next.now) }
+    ensures { OnOk result (AreRests out.old out.new (after (tree_of p.now))
+        (numbers_of (tree_of p.now)) next.now) }
 {
     match p {
         Pol::Test(_, _) => Ok(()),
@@ -79,7 +80,8 @@ fn rests_of_any(
     requires distinct { AllDistinct (trees_of ps.now) }
     requires complements { AllNegatePredicates (trees_of ps.now) }
     requires fit { AllMarksBelow (trees_of ps.now) (2 ^ 32 - 1) }
-    ensures { OnOk result (AreRests out.old out.new (after_some (trees_of ps.now)) (numbers_of_all (trees_of ps.now)) next.now) }
+    ensures { OnOk result (AreRests out.old out.new (after_some (trees_of ps.now))
+        (numbers_of_all (trees_of ps.now)) next.now) }
 {
     for q in ps {
         rests(alloc, q, next, out)?;
@@ -100,7 +102,8 @@ fn rests_in_turn(
     requires complements { AllNegatePredicates (trees_of ps.now) }
     requires fit { AllMarksBelow (trees_of ps.now) (2 ^ 32 - 1) }
     requires states { ArePartsOf states.now (trees_of ps.now) }
-    ensures { OnOk result (AreRests out.old out.new (after_all (trees_of ps.now)) (numbers_of_all (trees_of ps.now)) next.now) }
+    ensures { OnOk result (AreRests out.old out.new (after_all (trees_of ps.now))
+        (numbers_of_all (trees_of ps.now)) next.now) }
 {
     for (i, q) in ps.iter().enumerate() {
         let count = dups(q);
@@ -128,7 +131,8 @@ fn push_next(
     next: &Part,
     out: &mut List<(u32, Part)>,
 ) -> Result<(), AllocError>
-    ensures { OnOk result ((rest : PartValue) × (out.new ≡ out.old ++ (label, rest) ∷ []) × IsSequencedBefore rest [] next.now) }
+    ensures { OnOk result ((rest : PartValue) × (out.new ≡ out.old ++ (label, rest) ∷ [])
+        × IsSequencedBefore rest [] next.now) }
 {
     let rest = continued(alloc, &[], next)?;
     out.push((label, rest))?;
@@ -151,7 +155,8 @@ fn arriving(alloc: Global, switch: u16, port: u16, label: u32) -> Result<Part, A
 /// The assignments of a port.
 #[tactic(auto, using(nk_policy::proofs::Trees::tree_of_seq))]
 fn set_port(alloc: Global, switch: u16, port: u16) -> Result<Pol, AllocError>
-    ensures { IfOk result (λ r. tree_of r ≡ seq_of (part (assign 0 switch) (part (assign 1 port) no_part))) }
+    ensures { IfOk result (λ r. tree_of r
+        ≡ seq_of (part (assign 0 switch) (part (assign 1 port) no_part))) }
 {
     let moves = vec![in alloc;
         Pol::Set(Fid::SWITCH, u64::from(switch)),

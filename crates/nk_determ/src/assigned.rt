@@ -245,7 +245,8 @@ pub(crate) fn next_cut(values: &[u64], from: u64, last: u64) -> (u64, bool)
 /// The place of the first of these values, which ascend, that is not below one.
 fn place_from(values: &[u64], from: u64) -> usize
     requires sorted { IsNonDecreasing values.now }
-    ensures below { (k e : ℕ) → k < length values.now → k < result → slice_index_or values.now k e < from }
+    ensures below { (k e : ℕ) → k < length values.now → k < result
+        → slice_index_or values.now k e < from }
     ensures on { result < length values.now → from ≤ slice_index_or values.now result 0 }
 {
     values.partition_point(|v| *v < from)

@@ -26,7 +26,8 @@ pub(crate) fn run_length(outs: &[Out]) -> usize
     requires { 0 < length outs.now }
     ensures some { 0 < result }
     ensures within { result ≤ length outs.now }
-    ensures is { branches_in outs.now ≡ branch_of (take result outs.now) ∷ branches_in (drop result outs.now) }
+    ensures is { branches_in outs.now
+        ≡ branch_of (take result outs.now) ∷ branches_in (drop result outs.now) }
 {
     let act = &outs[0].act;
     let mut end = 1;

@@ -98,7 +98,8 @@ pub(crate) fn drop_unchanged(st: &mut Store, f: Fid, d: Id) -> Result<Id, AllocE
     requires id { IsId st.old d }
     requires field { f < 18 }
     ensures grows { Grows st.old st.new }
-    ensures ok { IfOk result (λ r. HasLeaves st.new r (λ pk. leaf_changing st.old.maxes f pk (look st.old d pk))) }
+    ensures ok { IfOk result
+        (λ r. HasLeaves st.new r (λ pk. leaf_changing st.old.maxes f pk (look st.old d pk))) }
 {
     map_nodes(st, &Unchanged { field: f }, d)
 }
@@ -109,7 +110,8 @@ fn drop_here(st: &mut Store, f: Fid, d: Id) -> Result<Id, AllocError>
     requires field { f < 18 }
     requires first { f ≤ root_field st.old d }
     ensures grows { Grows st.old st.new }
-    ensures ok { IfOk result (λ r. HasLeaves st.new r (λ pk. leaf_changing st.old.maxes f pk (look st.old d pk))) }
+    ensures ok { IfOk result
+        (λ r. HasLeaves st.new r (λ pk. leaf_changing st.old.maxes f pk (look st.old d pk))) }
     ensures later { IfOk result (λ r. f ≤ root_field st.new r) }
 {
     st.laws();
@@ -131,7 +133,11 @@ fn pieces_of(st: &mut Store, f: Fid, values: &[u64], d: Id) -> Result<List<(u64,
     requires sorted { IsNonDecreasing values.now }
     ensures grows { Grows st.old st.new }
     ensures parts { IfOk result (λ ps. AreParts st.new f ps) }
-    ensures ok { IfOk result (λ ps. (v : ℕ) (pk : Items ℕ) → IsWhole pk → look st.new (child_at 0 ps v) pk ≡ leaf_without f (min v (slice_index st.old.maxes f)) (look st.old (cofactor st.old f v d) pk)) }
+    ensures ok { IfOk result
+        (λ ps. (v : ℕ) (pk : Items ℕ) → IsWhole pk
+        → look st.new (child_at 0 ps v) pk
+        ≡ leaf_without f (min v (slice_index st.old.maxes f))
+        (look st.old (cofactor st.old f v d) pk)) }
 {
     st.laws();
     let max = st.max(f);
@@ -154,7 +160,9 @@ fn pieces_of(st: &mut Store, f: Fid, values: &[u64], d: Id) -> Result<List<(u64,
 fn piece(st: &mut Store, f: Fid, n: u64, alone: bool, d: Id) -> Result<Id, AllocError>
     requires { IsId st.old d }
     ensures grows { Grows st.old st.new }
-    ensures ok { IfOk result (λ r. HasLeaves st.new r (λ pk. cond alone (leaf_without f n (look st.old d pk)) (look st.old d pk))) }
+    ensures ok { IfOk result
+        (λ r. HasLeaves st.new r
+        (λ pk. cond alone (leaf_without f n (look st.old d pk)) (look st.old d pk))) }
     ensures later { IfOk result (λ r. root_field st.old d ≤ root_field st.new r) }
 {
     if alone {

@@ -130,7 +130,8 @@ impl Sets {
     pub fn put(&mut self, labels: List<u64>) -> Result<SetId, AllocError>
         requires { IsStrictlyIncreasing labels }
         ensures grows { SetsGrow self.old self.new }
-        ensures is { IfOk result (λ i. (later : Items (Items ℕ)) → SetsGrow self.new later → i ≡ place_in later labels) }
+        ensures is { IfOk result
+            (λ i. (later : Items (Items ℕ)) → SetsGrow self.new later → i ≡ place_in later labels) }
         ensures small { IfOk result (λ i. i + 1 < 2 ^ 64) }
         ensures there { OnOk result (holds self.new labels ≡ true) }
     {

@@ -18,9 +18,12 @@ use std::alloc::AllocError;
 pub fn split(st: &mut Store, d: Id) -> Result<Id, AllocError>
     requires { IsId st.old d }
     ensures grows { Grows st.old st.new }
-    ensures ok { IfOk result (λ r. HasLeaves st.new r (λ pk. split_leaf st.old.maxes pk (look st.old d pk))) }
+    ensures ok { IfOk result
+        (λ r. HasLeaves st.new r (λ pk. split_leaf st.old.maxes pk (look st.old d pk))) }
     ensures exact { IfOk result (λ r. AreExact st.new r) }
-    ensures means { IfOk result (λ r. (pk : Items ℕ) (y : Items ℕ) (t : ℕ) → IsStorePacket st.old pk → Sends st.new r pk y t ↔ Sends st.old d pk y t) }
+    ensures means { IfOk result
+        (λ r. (pk : Items ℕ) (y : Items ℕ) (t : ℕ) → IsStorePacket st.old pk
+        → Sends st.new r pk y t ↔ Sends st.old d pk y t) }
     ensures kept { IfOk result (λ r. recalled st.new operations.Split d d ≡ Some r) }
     ensures again { GivesKept st.old st.new operations.Split d d result }
 {
@@ -32,7 +35,8 @@ pub fn split(st: &mut Store, d: Id) -> Result<Id, AllocError>
 fn divide(st: &mut Store, d: Id) -> Result<Id, AllocError>
     requires { IsId st.old d }
     ensures grows { Grows st.old st.new }
-    ensures ok { IfOk result (λ r. HasLeaves st.new r (λ pk. split_leaf st.old.maxes pk (look st.old d pk))) }
+    ensures ok { IfOk result
+        (λ r. HasLeaves st.new r (λ pk. split_leaf st.old.maxes pk (look st.old d pk))) }
     ensures kept { IfOk result (λ r. recalled st.new operations.Split d d ≡ Some r) }
     ensures again { GivesKept st.old st.new operations.Split d d result }
 {
@@ -48,7 +52,8 @@ fn divide(st: &mut Store, d: Id) -> Result<Id, AllocError>
 fn divide_fields(st: &mut Store, d: Id) -> Result<Id, AllocError>
     requires { IsId st.old d }
     ensures grows { Grows st.old st.new }
-    ensures ok { IfOk result (λ r. HasLeaves st.new r (λ pk. split_leaf st.old.maxes pk (look st.old d pk))) }
+    ensures ok { IfOk result
+        (λ r. HasLeaves st.new r (λ pk. split_leaf st.old.maxes pk (look st.old d pk))) }
 {
     st.laws();
     let fields = assigned_fields(st, d)?;
@@ -64,7 +69,10 @@ fn drop_among(st: &mut Store, fields: &List<u64>, f: Fid, d: Id) -> Result<Id, A
     requires id { IsId st.old d }
     requires field { f < 18 }
     ensures grows { Grows st.old st.new }
-    ensures ok { IfOk result (λ r. HasLeaves st.new r (λ pk. cond (list_any (λ m. eqb m f) fields.now) (leaf_changing st.old.maxes f pk (look st.old d pk)) (look st.old d pk))) }
+    ensures ok { IfOk result
+        (λ r. HasLeaves st.new r
+        (λ pk. cond (list_any (λ m. eqb m f) fields.now)
+        (leaf_changing st.old.maxes f pk (look st.old d pk)) (look st.old d pk))) }
 {
     if is_among(fields, f.place() as u64) {
         return drop_unchanged(st, f, d);
@@ -79,7 +87,8 @@ pub fn mean_same(st: &Store, d: Id, e: Id) -> bool
     requires left_exact { AreExact st.now d }
     requires right_exact { AreExact st.now e }
     ensures yes { result ≡ true → d ≡ e }
-    ensures means { ((pk : Items ℕ) (y : Items ℕ) (t : ℕ) → IsStorePacket st.now pk → Sends st.now d pk y t ↔ Sends st.now e pk y t) → result ≡ true }
+    ensures means { ((pk : Items ℕ) (y : Items ℕ) (t : ℕ) → IsStorePacket st.now pk
+        → Sends st.now d pk y t ↔ Sends st.now e pk y t) → result ≡ true }
 {
     let _tidy = st.view(d);
     st.same(d, e)

@@ -41,7 +41,8 @@ pub fn state(st: &mut Store, ss: &mut Sets, states: &[Id], s: SetId) -> Result<I
     ensures next { IfOk result (λ r. (pk : Items ℕ) (g : Items (ℕ × ℕ)) (i : ℕ) → IsWhole pk →
         Contains (look st.new r pk) (record { act = g; target = i + 1 }) →
         IsLedByAct ss.new st.old states.now (slice_index_or ss.old s []) pk g i) }
-    ensures recorded { IfOk result (λ r. (pk : Items ℕ) (g : Items (ℕ × ℕ)) (l : ℕ) → IsWhole pk → 0 < l →
+    ensures recorded { IfOk result
+        (λ r. (pk : Items ℕ) (g : Items (ℕ × ℕ)) (l : ℕ) → IsWhole pk → 0 < l →
         StateSends st.old states.now (slice_index_or ss.old s []) pk g l →
         (i : ℕ) × Contains (look st.new r pk) (record { act = g; target = i + 1 })) }
     ensures once { IfOk result (λ r. (pk : Items ℕ) (g : Items (ℕ × ℕ)) (i j : ℕ) → IsWhole pk →
@@ -49,10 +50,12 @@ pub fn state(st: &mut Store, ss: &mut Sets, states: &[Id], s: SetId) -> Result<I
         Contains (look st.new r pk) (record { act = g; target = j + 1 }) → i ≡ j) }
     ensures ends { IfOk result (λ r. (pk y : Items ℕ) → IsStorePacket st.old pk →
         Sends st.new r pk y 0 ↔ StateLeads st.old states.now (slice_index_or ss.old s []) pk y 0) }
-    ensures leads { IfOk result (λ r. (pk y : Items ℕ) (i : ℕ) → IsStorePacket st.old pk → Sends st.new r pk y (i + 1) →
+    ensures leads { IfOk result
+        (λ r. (pk y : Items ℕ) (i : ℕ) → IsStorePacket st.old pk → Sends st.new r pk y (i + 1) →
         IsLedTo ss.new st.old states.now (slice_index_or ss.old s []) pk y i) }
     ensures led { IfOk result (λ r. (pk y : Items ℕ) (l : ℕ) → IsStorePacket st.old pk → 0 < l →
-        StateLeads st.old states.now (slice_index_or ss.old s []) pk y l → (i : ℕ) × Sends st.new r pk y (i + 1)) }
+        StateLeads st.old states.now (slice_index_or ss.old s []) pk y l → (i : ℕ)
+        × Sends st.new r pk y (i + 1)) }
 {
     let diagrams = states_at(st.alloc(), states, ss.members(s))?;
     let r = state_of(st, ss, diagrams.as_slice())?;
@@ -94,7 +97,8 @@ pub fn state_of(st: &mut Store, ss: &mut Sets, diagrams: &[Id]) -> Result<Id, Al
     ensures next { IfOk result (λ r. (pk : Items ℕ) (g : Items (ℕ × ℕ)) (i : ℕ) → IsWhole pk →
         Contains (look st.new r pk) (record { act = g; target = i + 1 }) →
         AreFollowed ss.new st.old diagrams.now pk g i) }
-    ensures recorded { IfOk result (λ r. (pk : Items ℕ) (g : Items (ℕ × ℕ)) (l : ℕ) → IsWhole pk → 0 < l →
+    ensures recorded { IfOk result
+        (λ r. (pk : Items ℕ) (g : Items (ℕ × ℕ)) (l : ℕ) → IsWhole pk → 0 < l →
         SomeSends st.old diagrams.now pk g l →
         (i : ℕ) × Contains (look st.new r pk) (record { act = g; target = i + 1 })) }
     ensures once { IfOk result (λ r. (pk : Items ℕ) (g : Items (ℕ × ℕ)) (i j : ℕ) → IsWhole pk →
@@ -102,7 +106,8 @@ pub fn state_of(st: &mut Store, ss: &mut Sets, diagrams: &[Id]) -> Result<Id, Al
         Contains (look st.new r pk) (record { act = g; target = j + 1 }) → i ≡ j) }
     ensures ends { IfOk result (λ r. (pk y : Items ℕ) → IsStorePacket st.old pk →
         Sends st.new r pk y 0 ↔ SomeLeads st.old diagrams.now pk y 0) }
-    ensures leads { IfOk result (λ r. (pk y : Items ℕ) (i : ℕ) → IsStorePacket st.old pk → Sends st.new r pk y (i + 1) →
+    ensures leads { IfOk result
+        (λ r. (pk y : Items ℕ) (i : ℕ) → IsStorePacket st.old pk → Sends st.new r pk y (i + 1) →
         AreLedTo ss.new st.old diagrams.now pk y i) }
     ensures led { IfOk result (λ r. (pk y : Items ℕ) (l : ℕ) → IsStorePacket st.old pk → 0 < l →
         SomeLeads st.old diagrams.now pk y l → (i : ℕ) × Sends st.new r pk y (i + 1)) }
@@ -117,7 +122,8 @@ fn regrouped_union(st: &mut Store, ss: &mut Sets, diagrams: &[Id]) -> Result<Id,
     requires { AreIds st.old diagrams.now }
     ensures grows { Grows st.old st.new }
     ensures sets { SetsGrow ss.old ss.new }
-    ensures made { IfOk result (λ r. (mid : StoreState) × (d : ℕ) × IsStateOf st.old mid st.new ss.new diagrams.now d r) }
+    ensures made { IfOk result
+        (λ r. (mid : StoreState) × (d : ℕ) × IsStateOf st.old mid st.new ss.new diagrams.now d r) }
 {
     let d = together(st, diagrams)?;
     st.laws();
@@ -140,7 +146,8 @@ fn split_all(st: &mut Store, diagrams: &[Id]) -> Result<List<Id>, AllocError>
     ensures grows { Grows st.old st.new }
     ensures len { IfOk result (λ ds. length ds ≡ length diagrams.now) }
     ensures ok { IfOk result (λ ds. HaveEach st.new ds
-        (λ k pk. split_leaf st.old.maxes pk (look st.old (slice_index diagrams.now k) pk)) (length ds)) }
+        (λ k pk. split_leaf st.old.maxes pk (look st.old (slice_index diagrams.now k) pk))
+        (length ds)) }
 {
     let mut ds = List::with_capacity(st.alloc(), diagrams.len())?;
     for whole in diagrams {
@@ -227,8 +234,11 @@ fn regroup_parts(
     ensures grows { Grows st.old st.new }
     ensures sets { SetsGrow ss.old ss.new }
     ensures parts { IfOk result (λ ps. AreParts st.new f ps) }
-    ensures ok { IfOk result (λ ps. (later : Items (Items ℕ)) → SetsGrow ss.new later → (v : ℕ) (pk : Items ℕ) → IsWhole pk →
-        look st.new (child_at 0 ps v) pk ≡ regrouped later (look st.old (cofactor st.old f v d) pk)) }
+    ensures ok { IfOk result
+        (λ ps. (later : Items (Items ℕ)) → SetsGrow ss.new later → (v : ℕ) (pk : Items ℕ)
+        → IsWhole pk →
+        look st.new (child_at 0 ps v) pk
+        ≡ regrouped later (look st.old (cofactor st.old f v d) pk)) }
     ensures held { OnOk result (HasSets ss.new st.old d) }
     ensures seen { OnOk result (AreRegrouped st.new ss.new seen.new.entries) }
 {

@@ -69,7 +69,8 @@ fn new_target(table: &[Option<u64>], target: u64) -> Option<u64>
 pub fn retarget(st: &mut Store, d: Id, table: &[Option<u64>]) -> Result<Id, AllocError>
     requires { IsId st.old d }
     ensures grows { Grows st.old st.new }
-    ensures ok { IfOk result (λ r. HasLeaves st.new r (λ pk. retargeted table.now (look st.old d pk))) }
+    ensures ok { IfOk result
+        (λ r. HasLeaves st.new r (λ pk. retargeted table.now (look st.old d pk))) }
     ensures later { IfOk result (λ r. root_field st.old d ≤ root_field st.new r) }
 {
     map_leaves(st, &ByTable { table }, d)

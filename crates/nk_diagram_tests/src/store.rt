@@ -17,7 +17,9 @@ fn leaf_to(st: &mut Store, a: u64, b: u64, c: u64) -> Result<Id, AllocError>
 
 /// The packet itself to three targets.
 fn outs_to(alloc: Global, a: u64, b: u64, c: u64) -> Result<List<Out>, AllocError>
-    ensures { IfOk result (λ os. os ≡ record { act = []; target = a } ∷ record { act = []; target = b } ∷ record { act = []; target = c } ∷ []) }
+    ensures { IfOk result (λ os. os
+        ≡ record { act = []; target = a } ∷ record { act = []; target = b }
+        ∷ record { act = []; target = c } ∷ []) }
 {
     let mut outs = List::new(alloc);
     outs.push(to(alloc, a))?;

@@ -8,6 +8,8 @@ ghost use Rattle.nk_difference.specs.Difference.{AreTheirPredicates};
 
 /// Where some packet is one on which two policies differ, they don't give the same histories, and one of them alone has some.
 pub fn policies_that_differ_are_not_the_same()
-    ensures unequal { (fields : FieldTable) (p q a b : Policy) → AreTheirPredicates fields p q a b → AreSame fields p q → ⊥ }
-    ensures one_alone { (fields : FieldTable) (p q a b : Policy) → AreTheirPredicates fields p q a b → HasOneAlone fields p q }
+    ensures unequal { (fields : FieldTable) (p q a b : Policy) → AreTheirPredicates fields p q a b
+        → AreSame fields p q → ⊥ }
+    ensures one_alone { (fields : FieldTable) (p q a b : Policy) → AreTheirPredicates fields p q a b
+        → HasOneAlone fields p q }
 {}

@@ -37,7 +37,8 @@ pub fn difference(alloc: Global, fields: &Fields, p: Pol, q: Pol) -> Result<Diff
     requires right_complements { NegatesPredicates (tree_of q) }
     requires left_over { IsOverFields fields.now (tree_of p) }
     requires right_over { IsOverFields fields.now (tree_of q) }
-    ensures { IfOk result (λ d. (r : Policy) → marked_from r (1 + dups_of (tree_of p)) ≡ tree_of q → IsDifferenceOf fields.now (tree_of p) r d) }
+    ensures { IfOk result (λ d. (r : Policy) → marked_from r (1 + dups_of (tree_of p)) ≡ tree_of q
+        → IsDifferenceOf fields.now (tree_of p) r d) }
 {
     let bound = number_after(&p);
     let mut st = Store::new(alloc, fields)?;
@@ -48,9 +49,11 @@ pub fn difference(alloc: Global, fields: &Fields, p: Pol, q: Pol) -> Result<Diff
 /// The difference of two policies by their automaton; labels below `bound` are the left one's.
 fn difference_in(st: &mut Store, both: &Both, bound: usize) -> Result<Difference, AllocError>
     requires automaton { (fields : FieldTable) × (p : Policy) × (q : Policy)
-        × IsAutomatonOfBoth fields st.old both.now.states both.now.left both.now.right p q × (bound ≡ 1 + dups_of p) }
+        × IsAutomatonOfBoth fields st.old both.now.states both.now.left both.now.right p q
+        × (bound ≡ 1 + dups_of p) }
     ensures { IfOk result (λ d. (fields : FieldTable) (p q : Policy)
-        → IsAutomatonOfBoth fields st.old both.now.states both.now.left both.now.right p q → bound ≡ 1 + dups_of p
+        → IsAutomatonOfBoth fields st.old both.now.states both.now.left both.now.right p q
+        → bound ≡ 1 + dups_of p
         → IsInRange p fields → IsInRange q fields → IsDifferenceOf fields p q d) }
 {
     let starts = starts_of_sides(st, both.states.as_slice(), both.left, both.right, bound)?;
@@ -70,7 +73,8 @@ fn starts_of_sides(
     requires left { IsId st.old left }
     requires right { IsId st.old right }
     ensures grows { Grows st.old st.new }
-    ensures ok { IfOk result (λ r. AreStartsOfSides st.old states.now left right bound st.new r.left r.right) }
+    ensures ok { IfOk result
+        (λ r. AreStartsOfSides st.old states.now left right bound st.new r.left r.right) }
 {
     let mut goal = OneSide::new(st, states, left, right, bound)?;
     let from = identity(st)?;

@@ -18,7 +18,9 @@ fn located(st: &mut Store, topo: &Topo) -> Result<Id, AllocError>
     requires switch { 65535 ≤ slice_index st.old.maxes 0 }
     requires port { 65535 ≤ slice_index st.old.maxes 1 }
     ensures grows { Grows st.old st.new }
-    ensures set { IfOk result (λ d. IsSetInRange st.new d (λ pk. is_port topo.now (slice_index pk 0) (slice_index pk 1))) }
+    ensures set { IfOk result
+        (λ d. IsSetInRange st.new d
+        (λ pk. is_port topo.now (slice_index pk 0) (slice_index pk 1))) }
 {
     let places = ports(st.alloc(), topo)?;
     at_places(st, places.as_slice())
@@ -29,7 +31,9 @@ fn at_links(st: &mut Store, topo: &Topo) -> Result<Id, AllocError>
     requires switch { 65535 ≤ slice_index st.old.maxes 0 }
     requires port { 65535 ≤ slice_index st.old.maxes 1 }
     ensures grows { Grows st.old st.new }
-    ensures set { IfOk result (λ d. IsSetInRange st.new d (λ pk. is_some (link_from topo.now (slice_index pk 0) (slice_index pk 1)))) }
+    ensures set { IfOk result
+        (λ d. IsSetInRange st.new d
+        (λ pk. is_some (link_from topo.now (slice_index pk 0) (slice_index pk 1)))) }
 {
     let places = sources(st.alloc(), topo)?;
     at_places(st, places.as_slice())

@@ -33,7 +33,8 @@ fn push_ports(places: &mut Vec<(u16, u16)>, topo: &Topo, sw: u16) -> Result<(), 
 /// The ports where links begin, each with its switch.
 pub(crate) fn sources(alloc: Global, topo: &Topo) -> Result<Vec<(u16, u16)>, AllocError>
     ensures { IfOk result (λ ps. (pk : Items ℕ) →
-        is_at_place ps.items pk ≡ is_some (link_from topo.now (slice_index pk 0) (slice_index pk 1))) }
+        is_at_place ps.items pk ≡ is_some
+        (link_from topo.now (slice_index pk 0) (slice_index pk 1))) }
 {
     let mut places = Vec::new(alloc);
     for link in topo.links() {

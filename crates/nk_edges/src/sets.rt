@@ -24,7 +24,9 @@ pub(crate) fn in_both(st: &mut Store, a: Id, b: Id) -> Result<Id, AllocError>
     requires left { IsId st.old a }
     requires right { IsId st.old b }
     ensures grows { Grows st.old st.new }
-    ensures set { IfOk result (λ d. IsSetInRange st.new d (λ pk. has_some_out (look st.old a pk) && has_some_out (look st.old b pk))) }
+    ensures set { IfOk result
+        (λ d. IsSetInRange st.new d
+        (λ pk. has_some_out (look st.old a pk) && has_some_out (look st.old b pk))) }
 {
     both(st, a, b)
 }
@@ -33,7 +35,8 @@ pub(crate) fn in_both(st: &mut Store, a: Id, b: Id) -> Result<Id, AllocError>
 pub(crate) fn outside(st: &mut Store, a: Id) -> Result<Id, AllocError>
     requires { IsId st.old a }
     ensures grows { Grows st.old st.new }
-    ensures set { IfOk result (λ d. IsSetInRange st.new d (λ pk. not (has_some_out (look st.old a pk)))) }
+    ensures set { IfOk result
+        (λ d. IsSetInRange st.new d (λ pk. not (has_some_out (look st.old a pk)))) }
     ensures predicate { IfOk result (λ d. IsPredicate st.new d) }
 {
     negate(st, a)

@@ -26,8 +26,10 @@ pub(crate) fn leaf_row<S: RowSink>(
     sink: &mut S,
 ) -> Result<(), AllocError>
     requires { AreBits frame.now.width frame.now.tag.0 frame.now.bits }
-    ensures { OnOk result (S.puts sink.old (rows_following frame.now.width frame.now.tag matches.now shown
-        (record { matches = []; buckets = bucket_list frame.now.tag.0 outs.now; shown = false } ∷ [])) sink.new) }
+    ensures { OnOk result (S.puts sink.old
+        (rows_following frame.now.width frame.now.tag matches.now shown
+        (record { matches = []; buckets = bucket_list frame.now.tag.0 outs.now; shown = false }
+        ∷ [])) sink.new) }
 {
     if outs.len() == 0 && !shown {
         return Ok(());

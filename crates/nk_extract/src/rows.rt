@@ -31,7 +31,8 @@ pub fn rows_to<S: RowSink>(
     requires frame { (tag : ℕ) × (st.now.tag ≡ Some tag)
         × IsFrame st.now st.now.width tag × IsPrintable st.now tag switch d }
     ensures { OnOk result ((rows : List Plain) × S.puts sink.old rows sink.new
-        × ((tag : ℕ) → st.now.tag ≡ Some tag → AreRowsOf st.now st.now.width tag switch to d rows)) }
+        × ((tag : ℕ) → st.now.tag ≡ Some tag
+        → AreRowsOf st.now st.now.width tag switch to d rows)) }
 {
     let Some(tag) = st.tag() else { unreachable!() };
     let frame = Frame {
@@ -52,7 +53,8 @@ fn rows_in<S: RowSink>(
 ) -> Result<(), AllocError>
     requires id { IsId st.now d }
     requires frame { IsFrame st.now frame.now.width frame.now.tag.0 }
-    requires digits { frame.now.tag.2 ≡ prefix.digits_of (slice_index st.now.maxes frame.now.tag.0) }
+    requires digits { frame.now.tag.2
+        ≡ prefix.digits_of (slice_index st.now.maxes frame.now.tag.0) }
     requires bits { AreBits frame.now.width frame.now.tag.0 frame.now.bits }
     requires printable { IsPrintable st.now frame.now.tag.0 switch d }
     ensures { OnOk result ((rows : List Plain) × S.puts sink.old rows sink.new

@@ -45,7 +45,8 @@ pub(crate) fn walk<S: RowSink>(
 ) -> Result<(), AllocError>
     requires id { IsId st.now d }
     requires bits { AreBits frame.now.width frame.now.tag.0 frame.now.bits }
-    ensures rows { OnOk result (S.puts sink.old (rows_following frame.now.width frame.now.tag matches.old.items shown
+    ensures rows { OnOk result
+        (S.puts sink.old (rows_following frame.now.width frame.now.tag matches.old.items shown
         (ways frame.now.tag.0 st.now d)) sink.new) }
     ensures matches { OnOk result (matches.new.items ≡ matches.old.items) }
 {
@@ -69,8 +70,10 @@ fn walk_case<S: RowSink>(
 ) -> Result<(), AllocError>
     requires case { IsCase st.now d f parts.now }
     requires bits { AreBits frame.now.width frame.now.tag.0 frame.now.bits }
-    ensures rows { OnOk result (S.puts sink.old (rows_following frame.now.width frame.now.tag matches.old.items shown
-        (node_ways st.now.maxes frame.now.tag.0 (Case f parts.now) (λ c. is_empty_leaf (node_of st.now c))
+    ensures rows { OnOk result
+        (S.puts sink.old (rows_following frame.now.width frame.now.tag matches.old.items shown
+        (node_ways st.now.maxes frame.now.tag.0 (Case f parts.now)
+        (λ c. is_empty_leaf (node_of st.now c))
         (ways frame.now.tag.0 st.now))) sink.new) }
     ensures matches { OnOk result (matches.new.items ≡ matches.old.items) }
 {
@@ -109,8 +112,11 @@ fn walk_span<S: RowSink>(
     requires id { IsId st.now span.child }
     requires bits { AreBits frame.now.width frame.now.tag.0 frame.now.bits }
     requires within { span.last ≤ choice.max }
-    ensures rows { OnOk result (S.puts sink.old (span_rows frame.now.width frame.now.tag matches.old.items choice.max choice.field choice.shown choice.other
-        (ways frame.now.tag.0 st.now) (record { first = span.first; last = span.last; child = span.child })) sink.new) }
+    ensures rows { OnOk result
+        (S.puts sink.old (span_rows frame.now.width frame.now.tag matches.old.items choice.max
+        choice.field choice.shown choice.other
+        (ways frame.now.tag.0 st.now)
+        (record { first = span.first; last = span.last; child = span.child })) sink.new) }
     ensures matches { OnOk result (matches.new.items ≡ matches.old.items) }
 {
     let Span { first, last, child } = span;
@@ -139,8 +145,10 @@ fn walk_blocks<S: RowSink>(
 ) -> Result<(), AllocError>
     requires id { IsId st.now child }
     requires bits { AreBits frame.now.width frame.now.tag.0 frame.now.bits }
-    ensures rows { OnOk result (S.puts sink.old (flat_map (λ b. rows_following frame.now.width frame.now.tag
-        (matches.old.items ++ (choice.now.field, b.0, b.1) ∷ []) choice.now.shown (ways frame.now.tag.0 st.now child)) blocks.now) sink.new) }
+    ensures rows { OnOk result
+        (S.puts sink.old (flat_map (λ b. rows_following frame.now.width frame.now.tag
+        (matches.old.items ++ (choice.now.field, b.0, b.1) ∷ []) choice.now.shown
+        (ways frame.now.tag.0 st.now child)) blocks.now) sink.new) }
     ensures matches { OnOk result (matches.new.items ≡ matches.old.items) }
 {
     for (value, len) in blocks {
@@ -163,7 +171,8 @@ fn walk_block<S: RowSink>(
     requires id { IsId st.now child }
     requires bits { AreBits frame.now.width frame.now.tag.0 frame.now.bits }
     ensures rows { OnOk result (S.puts sink.old (rows_following frame.now.width frame.now.tag
-        (matches.old.items ++ (choice.field, block.0, block.1) ∷ []) choice.shown (ways frame.now.tag.0 st.now child)) sink.new) }
+        (matches.old.items ++ (choice.field, block.0, block.1) ∷ []) choice.shown
+        (ways frame.now.tag.0 st.now child)) sink.new) }
     ensures matches { OnOk result (matches.new.items ≡ matches.old.items) }
 {
     let (value, len) = block;

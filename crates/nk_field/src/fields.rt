@@ -84,7 +84,8 @@ impl Fields {
         ensures place { IfOk result (λ f. f ≡ length self.old.maxima) }
         ensures added { OnOk result (self.new ≡ with_field self.old name.now max) }
 
-        ensures twice { (result ≡ Err FieldsError.FieldTwice) ↔ IsSome (field_named self.old name.now) }
+        ensures twice { (result ≡ Err FieldsError.FieldTwice) ↔ IsSome
+            (field_named self.old name.now) }
         ensures too_many { (result ≡ Err FieldsError.TooManyFields)
             ↔ (IsNone (field_named self.old name.now) × (length self.old.maxima ≡ 18)) }
         ensures kept { OnErr result (self.new ≡ self.old) }

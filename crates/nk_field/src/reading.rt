@@ -39,7 +39,8 @@ pub fn read_packet(alloc: Global, fields: &Fields, text: &str) -> Result<Packet,
 
 /// The items of a text.
 fn items_of<'a>(alloc: Global, text: &'a str) -> Result<Vec<&'a str>, AllocError>
-    ensures { IfOk result (λ items. map (λ i. i.now) items.items ≡ slice_split (λ b. b == 44) text.now) }
+    ensures { IfOk result (λ items. map (λ i. i.now) items.items
+        ≡ slice_split (λ b. b == 44) text.now) }
 {
     text.split(',').collect(alloc)
 }
@@ -53,7 +54,8 @@ struct Reading {
 
 /// The packet that the items give.
 fn packet_in(fields: &Fields, items: &[&str]) -> Result<Packet, PacketError>
-    ensures { result ≡ read_items fields.now (shown fields.now false) (map (λ i. i.now) items.now) 0 (replicate 18 0) }
+    ensures { result ≡ read_items fields.now (shown fields.now false) (map (λ i. i.now) items.now) 0
+        (replicate 18 0) }
 {
     let mut reading = Reading {
         packet: Packet::zero(),
@@ -128,7 +130,8 @@ fn value_in(fields: &Fields, f: Fid, item: &str) -> Option<u64>
 
 /// What stands after a name and `=`, if the item begins so.
 fn digits_in<'a>(name: &str, item: &'a str) -> Option<&'a str>
-    ensures { option_map (λ d. d.now) result ≡ texts.rest_after_prefix (name.now ++ codes "=") item.now }
+    ensures { option_map (λ d. d.now) result
+        ≡ texts.rest_after_prefix (name.now ++ codes "=") item.now }
 {
     match item.strip_prefix(name) {
         Some(rest) => rest.strip_prefix('='),

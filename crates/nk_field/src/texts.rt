@@ -49,7 +49,8 @@ fn push_packet(
     p: &Packet,
     with_tag: bool,
 ) -> Result<(), AllocError>
-    ensures { OnOk result (out.new.items ≡ out.old.items ++ packet_bytes fields.now with_tag p.now) }
+    ensures { OnOk result (out.new.items
+        ≡ out.old.items ++ packet_bytes fields.now with_tag p.now) }
 {
     push_item(out, fields, p, Fid::SWITCH)?;
     for place in 1..fields.declared() + 2 {
@@ -67,7 +68,8 @@ fn push_further(
     with_tag: bool,
 ) -> Result<(), AllocError>
     ensures { OnOk result (out.new.items ≡ out.old.items
-        ++ (if is_shown fields.now with_tag f then codes "," ++ item_text fields.now p.now f else [])) }
+        ++ (if is_shown fields.now with_tag f then codes ","
+        ++ item_text fields.now p.now f else [])) }
 {
     if with_tag || !is_the_tag(fields, f) {
         out.push(b',')?;

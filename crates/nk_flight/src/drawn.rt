@@ -18,7 +18,8 @@ pub fn fly(
     seed: u64,
     steps: u64,
 ) -> Result<Flight, AllocError>
-    ensures { IfOk result (λ flight. flight ≡ draws.after_draws seed steps (injected p.now (nothing_in_flight t.now))) }
+    ensures { IfOk result (λ flight. flight
+        ≡ draws.after_draws seed steps (injected p.now (nothing_in_flight t.now))) }
 {
     let mut flight = Flight::new(alloc, t)?;
     let _number = flight.inject(p)?;

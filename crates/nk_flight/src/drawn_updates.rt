@@ -24,7 +24,8 @@ pub fn update(
 ) -> Result<UpdateFlight, AllocError>
     ensures stages { IfOk result (λ flight. flight.stages ≡ stages_of plan.now) }
     ensures state { IfOk result (λ flight. state_in flight
-        ≡ after_turns (stages_of plan.now) seed turns packet.now (at_the_start (stages_of plan.now))) }
+        ≡ after_turns (stages_of plan.now) seed turns packet.now
+        (at_the_start (stages_of plan.now))) }
 {
     let switches = plan.topo.switches();
     let mut flight = UpdateFlight::new(alloc, plan)?;
@@ -49,7 +50,9 @@ fn turn(
     requires switches { switches.now ≡ switches_in flight.old.stages }
     requires distinct { IsWithoutDoubles switches.now }
     requires wait { Wait flight.old.stages (state_in flight.old) waiting.old }
-    ensures flight { OnOk result (Becomes flight.old flight.new (turned draw flight.old.stages packet.now (state_in flight.old))) }
+    ensures flight { OnOk result
+        (Becomes flight.old flight.new
+        (turned draw flight.old.stages packet.now (state_in flight.old))) }
     ensures wait { OnOk result (Wait flight.new.stages (state_in flight.new) waiting.new) }
 {
     let copies = flight.len();

@@ -157,7 +157,8 @@ pub(crate) fn put_after(
 ) -> Result<(), AllocError>
     requires { length flying.old ≤ length hops.old }
     ensures hops { OnOk result (hops.new ≡ hops.old ++ more.now) }
-    ensures flying { OnOk result (flying.new ≡ flying.old ++ range_with_len (length hops.old) (length more.now)) }
+    ensures flying { OnOk result
+        (flying.new ≡ flying.old ++ range_with_len (length hops.old) (length more.now)) }
     ensures err { OnErr result ((hops.new ≡ hops.old) × (flying.new ≡ flying.old)) }
 {
     let count = hops.len();

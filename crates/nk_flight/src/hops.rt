@@ -66,8 +66,11 @@ pub(crate) fn handle(
     requires hops { AreHops hops.now }
     requires there { place < length hops.now }
     ensures next { IfOk result (λ all. all.next.items
-        ≡ flat_map (hop_of t.now place (hop_at hops.now place)) (sent_for t.now (hop_at hops.now place).packet)) }
-    ensures left { IfOk result (λ all. all.left.items ≡ left_next t.now (copy_at t.now.fields hops.now (hop_at hops.now place))) }
+        ≡ flat_map (hop_of t.now place (hop_at hops.now place))
+        (sent_for t.now (hop_at hops.now place).packet)) }
+    ensures left { IfOk result
+        (λ all. all.left.items
+        ≡ left_next t.now (copy_at t.now.fields hops.now (hop_at hops.now place))) }
 {
     let hop = hops.at(place);
     let _held = hops.len();
@@ -148,7 +151,9 @@ fn leave(
 ) -> Result<Vec<Left>, AllocError>
     requires hops { AreHops hops.now }
     requires there { place < length hops.now }
-    ensures { IfOk result (λ left. left.items ≡ flat_map (left_leaving t.now (copy_at t.now.fields hops.now (hop_at hops.now place))) sent.now) }
+    ensures { IfOk result (λ left. left.items
+        ≡ flat_map (left_leaving t.now
+        (copy_at t.now.fields hops.now (hop_at hops.now place))) sent.now) }
 {
     let mut left = Vec::new(alloc);
     for packet in sent {
@@ -235,7 +240,9 @@ fn records(
 ) -> Result<List<Packet>, AllocError>
     requires hops { AreHops hops.now }
     requires there { place < length hops.now }
-    ensures { IfOk result (λ records. records ≡ records_at fields.now hops.now (hop_at hops.now place).crossings (hop_at hops.now place)) }
+    ensures { IfOk result (λ records. records
+        ≡ records_at fields.now hops.now (hop_at hops.now place).crossings
+        (hop_at hops.now place)) }
 {
     let crossings = hops.at(place).crossings;
     let mut backwards = Vec::new(alloc);
@@ -252,7 +259,8 @@ fn records(
 /// Appends the two records of a crossing, the later one first.
 fn push_crossing(backwards: &mut Vec<Packet>, fields: &Fields, hop: &Hop) -> Result<(), AllocError>
     ensures { OnOk result (backwards.new.items
-        ≡ (backwards.old.items ++ erased fields.now hop.now.packet ∷ []) ++ erased fields.now hop.now.before ∷ []) }
+        ≡ (backwards.old.items ++ erased fields.now hop.now.packet ∷ [])
+        ++ erased fields.now hop.now.before ∷ []) }
 {
     let mut before = hop.before;
     let mut after = hop.packet;

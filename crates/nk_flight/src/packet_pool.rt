@@ -78,7 +78,8 @@ impl PacketPool {
     /// The place of a packet, which is put after the others where it isn't held yet. The only error is that memory ran
     /// out.
     pub(crate) fn place_of(&mut self, p: &Packet) -> Result<usize, AllocError>
-        ensures place { IfOk result (λ place. (place < length self.new) × (packet_at self.new place ≡ p.now)) }
+        ensures place { IfOk result
+            (λ place. (place < length self.new) × (packet_at self.new place ≡ p.now)) }
         ensures more { (more : Items (Items ℕ)) × (self.new ≡ self.old ++ more) }
     {
         let (place, _) = self.packets.insert_full(HeldPacket { packet: *p })?;

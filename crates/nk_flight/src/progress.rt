@@ -90,7 +90,8 @@ impl Progress {
         requires there { Contains self.old.switches switch }
         requires few { done_by self.old.done switch < 3 }
         ensures switches { self.new.switches ≡ self.old.switches }
-        ensures counts { (sw : ℕ) → done_by self.new.done sw ≡ one_more_event switch (done_by self.old.done) sw }
+        ensures counts { (sw : ℕ)
+            → done_by self.new.done sw ≡ one_more_event switch (done_by self.old.done) sw }
     {
         let at = usize::from(switch);
         are_few(self.switches.as_slice());

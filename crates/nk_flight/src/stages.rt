@@ -66,8 +66,11 @@ impl Stage {
         requires hops { AreHops hops.now }
         requires there { place < length hops.now }
         ensures next { IfOk result (λ all. all.next.items
-            ≡ flat_map (hop_of self.now place (hop_at hops.now place)) (sent_for self.now (hop_at hops.now place).packet)) }
-        ensures left { IfOk result (λ all. all.left.items ≡ left_next self.now (copy_at self.now.fields hops.now (hop_at hops.now place))) }
+            ≡ flat_map (hop_of self.now place (hop_at hops.now place))
+            (sent_for self.now (hop_at hops.now place).packet)) }
+        ensures left { IfOk result
+            (λ all. all.left.items
+            ≡ left_next self.now (copy_at self.now.fields hops.now (hop_at hops.now place))) }
     {
         handle(alloc, &self.finder, &self.tables, hops, place)
     }
@@ -182,10 +185,13 @@ impl StageTables {
         requires hops { AreHops hops.now }
         requires there { place < length hops.now }
         ensures next { IfOk result (λ all. all.next.items
-            ≡ flat_map (hop_of (stage_after self.now steps) place (hop_at hops.now place)) (sent_for (stage_after self.now steps) (hop_at hops.now place).packet)) }
+            ≡ flat_map (hop_of (stage_after self.now steps) place (hop_at hops.now place))
+            (sent_for (stage_after self.now steps) (hop_at hops.now place).packet)) }
         ensures left { IfOk result (λ all. all.left.items
-            ≡ left_next (stage_after self.now steps) (copy_at self.now.before.fields hops.now (hop_at hops.now place))) }
-        ensures fields { IfOk result (λ all. (stage_after self.now steps).fields ≡ self.now.before.fields) }
+            ≡ left_next (stage_after self.now steps)
+            (copy_at self.now.before.fields hops.now (hop_at hops.now place))) }
+        ensures fields { IfOk result
+            (λ all. (stage_after self.now steps).fields ≡ self.now.before.fields) }
     {
         match steps {
             0 => self.before.handle(alloc, hops, place),

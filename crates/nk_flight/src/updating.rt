@@ -62,7 +62,8 @@ impl UpdateFlight {
     /// Before the first injection and the first plan step. The only error is that memory ran out.
     pub fn new(alloc: Global, plan: &Plan) -> Result<UpdateFlight, AllocError>
         ensures stages { IfOk result (λ flight. flight.stages ≡ stages_of plan.now) }
-        ensures state { IfOk result (λ flight. state_in flight ≡ at_the_start (stages_of plan.now)) }
+        ensures state { IfOk result
+            (λ flight. state_in flight ≡ at_the_start (stages_of plan.now)) }
     {
         let stages = StageTables::new(alloc, plan)?;
         let progress = Progress::new(alloc, stages.topo())?;
@@ -90,7 +91,9 @@ impl UpdateFlight {
     /// is that memory ran out; then all is as it was.
     pub fn inject(&mut self, p: &Packet) -> Result<u64, AllocError>
         ensures number { IfOk result (λ number. number ≡ length self.old.flight.packets + 1) }
-        ensures ok { OnOk result (Becomes self.old self.new (record (state_in self.old) { flight = injected p.now self.old.flight })) }
+        ensures ok { OnOk result
+            (Becomes self.old self.new
+            (record (state_in self.old) { flight = injected p.now self.old.flight })) }
         ensures err { OnErr result (self.new ≡ self.old) }
     {
         let alloc = *self.packets.allocator();
@@ -111,7 +114,8 @@ impl UpdateFlight {
     /// version is noted. The only error is that memory ran out; then all is as it was.
     pub fn step(&mut self, i: usize) -> Result<(), AllocError>
         requires { i < length self.old.flight.flying }
-        ensures ok { OnOk result (Becomes self.old self.new (moved self.old.stages i (state_in self.old))) }
+        ensures ok { OnOk result
+            (Becomes self.old self.new (moved self.old.stages i (state_in self.old))) }
         ensures err { OnErr result (self.new ≡ self.old) }
     {
         let alloc = *self.packets.allocator();
@@ -220,7 +224,9 @@ fn without(count: usize, less: bool) -> usize
 fn note(versions: &mut Vec<Option<Version>>, number: u64, steps: u8)
     requires given { 1 ≤ number }
     requires injected { number ≤ length versions.old.items }
-    ensures { versions.new.items ≡ slice_set versions.old.items (number - 1) (Some (noted (version_by versions.old.items number) steps)) }
+    ensures { versions.new.items
+        ≡ slice_set versions.old.items (number - 1)
+        (Some (noted (version_by versions.old.items number) steps)) }
 {
     let at = number as usize - 1;
     let version = match versions[at] {

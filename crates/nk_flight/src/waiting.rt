@@ -183,7 +183,9 @@ fn put_following(blocks: &mut Vec<Block>, places: Vec<usize>) -> Result<(), Allo
 fn take_out(blocks: &mut Vec<Block>, block: usize, within: usize)
     requires there { block < length blocks.old.items }
     requires within { within < length (slice_index_or blocks.old.items block []) }
-    ensures { concat blocks.new.items ≡ remove (concat blocks.old.items) (length (concat (take block blocks.old.items)) + within) }
+    ensures { concat blocks.new.items
+        ≡ remove (concat blocks.old.items)
+        (length (concat (take block blocks.old.items)) + within) }
 {
     blocks[block].take(within);
     if blocks[block].len() == 0 {

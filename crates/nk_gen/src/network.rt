@@ -92,7 +92,8 @@ fn add_chord(
 ) -> Result<(), AllocError>
     requires to { to < length ends.old.items }
     requires flags { AreEnds ends.old.items chords.old.items }
-    ensures chords { OnOk result (chords.new.items ≡ chords.old.items ++ specs.chord_from chords.old.items from to) }
+    ensures chords { OnOk result
+        (chords.new.items ≡ chords.old.items ++ specs.chord_from chords.old.items from to) }
     ensures flags { OnOk result (AreEnds ends.new.items chords.new.items) }
     ensures room { OnOk result (length ends.new.items ≡ length ends.old.items) }
 {
@@ -153,7 +154,8 @@ fn add_branch(
     source: (u64, u64),
     target: u64,
 ) -> Result<(), AllocError>
-    ensures { OnOk result (links.new.items ≡ links.old.items ++ specs.branch size source.0 source.1 target) }
+    ensures { OnOk result (links.new.items
+        ≡ links.old.items ++ specs.branch size source.0 source.1 target) }
 {
     if size < target {
         return Ok(());

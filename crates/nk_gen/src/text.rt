@@ -21,7 +21,8 @@ pub(crate) fn push_fields(out: &mut Vec<u8>) -> Result<(), AllocError>
 /// The lines of so many switches.
 pub(crate) fn push_switches(out: &mut Vec<u8>, size: u64) -> Result<(), AllocError>
     requires { size ≤ 1000 }
-    ensures { OnOk result (out.new.items ≡ out.old.items ++ flat_map specs.switch_line (switches size)) }
+    ensures { OnOk result (out.new.items
+        ≡ out.old.items ++ flat_map specs.switch_line (switches size)) }
 {
     for below in 0..size {
         push_switch(out, below + 1)?;
@@ -83,7 +84,8 @@ fn push_link(out: &mut Vec<u8>, link: Link) -> Result<(), AllocError>
 /// The line of the homes.
 pub(crate) fn push_homes(out: &mut Vec<u8>, homes: &[Home]) -> Result<(), AllocError>
     ensures { OnOk result (out.new.items
-        ≡ out.old.items ++ specs.let_line (codes "home") (join_by specs.home_test (codes " + ") homes.now)) }
+        ≡ out.old.items ++ specs.let_line (codes "home")
+        (join_by specs.home_test (codes " + ") homes.now)) }
 {
     push_name(out, b"home")?;
     push_tests(out, homes)?;
@@ -110,7 +112,8 @@ pub(crate) fn push_named(
 
 /// The line of a sum of links under a name.
 fn push_sum(out: &mut Vec<u8>, name: &[u8], links: &[Link]) -> Result<(), AllocError>
-    ensures { OnOk result (out.new.items ≡ out.old.items ++ specs.let_line name.now (specs.literals links.now)) }
+    ensures { OnOk result (out.new.items
+        ≡ out.old.items ++ specs.let_line name.now (specs.literals links.now)) }
 {
     push_name(out, name)?;
     push_literals(out, links)?;
@@ -120,7 +123,8 @@ fn push_sum(out: &mut Vec<u8>, name: &[u8], links: &[Link]) -> Result<(), AllocE
 
 /// The front of the line that names a policy.
 fn push_name(out: &mut Vec<u8>, name: &[u8]) -> Result<(), AllocError>
-    ensures { OnOk result (out.new.items ≡ out.old.items ++ (codes "let " ++ name.now ++ codes " = ")) }
+    ensures { OnOk result (out.new.items
+        ≡ out.old.items ++ (codes "let " ++ name.now ++ codes " = ")) }
 {
     out.extend_from_slice(b"let ")?;
     out.extend_from_slice(name)?;
@@ -130,7 +134,8 @@ fn push_name(out: &mut Vec<u8>, name: &[u8]) -> Result<(), AllocError>
 
 /// The tests of homes with ` + ` between them.
 fn push_tests(out: &mut Vec<u8>, homes: &[Home]) -> Result<(), AllocError>
-    ensures { OnOk result (out.new.items ≡ out.old.items ++ join_by specs.home_test (codes " + ") homes.now) }
+    ensures { OnOk result (out.new.items
+        ≡ out.old.items ++ join_by specs.home_test (codes " + ") homes.now) }
 {
     match homes.split_first() {
         Some((first, rest)) => {
@@ -227,7 +232,8 @@ pub(crate) fn push_policies(out: &mut Vec<u8>, key: u64) -> Result<(), AllocErro
 
 /// A number with one text before it and one after.
 fn push_around(out: &mut Vec<u8>, before: &[u8], n: u64, following: &[u8]) -> Result<(), AllocError>
-    ensures { OnOk result (out.new.items ≡ out.old.items ++ (before.now ++ decimal n ++ following.now)) }
+    ensures { OnOk result (out.new.items
+        ≡ out.old.items ++ (before.now ++ decimal n ++ following.now)) }
 {
     out.extend_from_slice(before)?;
     push_number(out, n)?;

@@ -69,7 +69,8 @@ pub fn add_level(
     requires level { HaveSets st.old level.now }
     ensures grows { Grows st.old st.new }
     ensures ok { OnOk result (IsMerged st.old met.old.entries level.now st.new met.new.entries) }
-    ensures err { OnErr result ((k : ℕ) × IsMerged st.old met.old.entries (take k level.now) st.new met.new.entries) }
+    ensures err { OnErr result
+        ((k : ℕ) × IsMerged st.old met.old.entries (take k level.now) st.new met.new.entries) }
 {
     for k in 0..level.len() {
         let (t, y) = *level.at(k);

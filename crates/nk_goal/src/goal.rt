@@ -32,10 +32,14 @@ pub trait Goal {
         requires set { s < length ss.now }
         requires places { AreLabelsBelow (labels self.old) (slice_index_or ss.now s []) }
         ensures grows { Grows st.old st.new }
-        ensures ok { IfOk result (λ d. HasLeaves st.new d (λ pk. violations_of self.old st.old (slice_index_or ss.now s []) pk)) }
+        ensures ok { IfOk result
+            (λ d. HasLeaves st.new d
+            (λ pk. violations_of self.old st.old (slice_index_or ss.now s []) pk)) }
         ensures fits { OnOk result (fits self.new st.new) }
         ensures labels { OnOk result (labels self.new ≡ labels self.old) }
-        ensures same { OnOk result ((st : StoreState) (set pk : Items ℕ) → violations_of self.new st set pk ≡ violations_of self.old st set pk) };
+        ensures same { OnOk result
+            ((st : StoreState) (set pk : Items ℕ)
+            → violations_of self.new st set pk ≡ violations_of self.old st set pk) };
 
     ghost fits_on: { (g : Self) (old new : StoreState) → fits g old → Grows old new → fits g new };
 
@@ -57,11 +61,15 @@ pub fn any_violation<G: Goal>(
     requires fits { G.fits g.old st.old }
     requires pairs { ArePairs st.old ss.now (G.labels g.old) level.now }
     ensures grows { Grows st.old st.new }
-    ensures yes { IfOk result (λ b. b ≡ true → MeetsViolation st.old ss.now level.now (G.violations_of g.old st.old)) }
-    ensures no { IfOk result (λ b. b ≡ false → MeetsNoViolation st.old ss.now level.now (G.violations_of g.old st.old)) }
+    ensures yes { IfOk result
+        (λ b. b ≡ true → MeetsViolation st.old ss.now level.now (G.violations_of g.old st.old)) }
+    ensures no { IfOk result
+        (λ b. b ≡ false → MeetsNoViolation st.old ss.now level.now (G.violations_of g.old st.old)) }
     ensures fits { OnOk result (G.fits g.new st.new) }
     ensures labels { OnOk result (G.labels g.new ≡ G.labels g.old) }
-    ensures same { OnOk result ((st : StoreState) (set pk : Items ℕ) → G.violations_of g.new st set pk ≡ G.violations_of g.old st set pk) }
+    ensures same { OnOk result
+        ((st : StoreState) (set pk : Items ℕ)
+        → G.violations_of g.new st set pk ≡ G.violations_of g.old st set pk) }
 {
     for i in 0..level.len() {
         let (s, x) = *level.at(i);
@@ -85,11 +93,17 @@ fn pair_violation<G: Goal>(
     requires places { AreLabelsBelow (G.labels g.old) (slice_index_or ss.now s []) }
     requires packets { IsSet st.old x }
     ensures grows { Grows st.old st.new }
-    ensures yes { IfOk result (λ b. b ≡ true → PairHasViolation st.old x (G.violations_of g.old st.old (slice_index_or ss.now s []))) }
-    ensures no { IfOk result (λ b. b ≡ false → PairHasNoViolation st.old x (G.violations_of g.old st.old (slice_index_or ss.now s []))) }
+    ensures yes { IfOk result
+        (λ b. b ≡ true → PairHasViolation st.old x
+        (G.violations_of g.old st.old (slice_index_or ss.now s []))) }
+    ensures no { IfOk result
+        (λ b. b ≡ false → PairHasNoViolation st.old x
+        (G.violations_of g.old st.old (slice_index_or ss.now s []))) }
     ensures fits { OnOk result (G.fits g.new st.new) }
     ensures labels { OnOk result (G.labels g.new ≡ G.labels g.old) }
-    ensures same { OnOk result ((st : StoreState) (set pk : Items ℕ) → G.violations_of g.new st set pk ≡ G.violations_of g.old st set pk) }
+    ensures same { OnOk result
+        ((st : StoreState) (set pk : Items ℕ)
+        → G.violations_of g.new st set pk ≡ G.violations_of g.old st set pk) }
 {
     let b = g.bad(st, ss, s)?;
     let met = at_packets(st, x, b)?;

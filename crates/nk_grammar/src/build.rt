@@ -23,7 +23,8 @@ use std::mem::replace;
 fn take_alone(items: &mut Vec<Ast>) -> Option<Ast>
     ensures one { IfSome result (λ t. (sum_from (trees_of items.old.items) ≡ tree_of t) ×
         (seq_from (trees_of items.old.items) ≡ tree_of t)) }
-    ensures others { result ≡ None → (sum_from (trees_of items.old.items) ≡ sum_of (trees_of items.old.items)) ×
+    ensures others { result ≡ None
+        → (sum_from (trees_of items.old.items) ≡ sum_of (trees_of items.old.items)) ×
         (seq_from (trees_of items.old.items) ≡ seq_of (trees_of items.old.items)) }
     ensures taken { OnSome result (items.new.items ≡ []) }
     ensures kept { result ≡ None → items.new.items ≡ items.old.items }
@@ -105,7 +106,8 @@ pub fn join(terms: Vec<Ast>, factors: Vec<Ast>) -> Ast
 #[tactic(auto, using(crate::proofs::Trees::tree_of_seq))]
 pub fn push_term(alloc: Global, terms: &mut Vec<Ast>, factors: &mut Vec<Ast>)
     requires room { vec_len terms.old < vec_capacity terms.old }
-    ensures terms { trees_of terms.new.items ≡ with_part (trees_of terms.old.items) (seq_from (trees_of factors.old.items)) }
+    ensures terms { trees_of terms.new.items
+        ≡ with_part (trees_of terms.old.items) (seq_from (trees_of factors.old.items)) }
     ensures factors { factors.new.items ≡ [] }
 {
     match take_alone(factors) {
@@ -136,7 +138,8 @@ pub fn negated(cell: Box<Ast>, atom: Ast, line: u64) -> Ast
 /// Takes the last of some factors, and gives it with a star over it, in a box that is made; nothing where there is none.
 #[tactic(auto, using(crate::proofs::Trees::trees_push, crate::proofs::Spelled::star_last))]
 pub fn star_last(cell: Box<Ast>, factors: &mut Vec<Ast>) -> Option<Ast>
-    ensures { with_last (trees_of factors.new.items) result ≡ with_star (trees_of factors.old.items) }
+    ensures { with_last (trees_of factors.new.items) result
+        ≡ with_star (trees_of factors.old.items) }
 {
     match factors.pop() {
         Some(factor) => Some(Ast::Star(filled(cell, factor))),

@@ -118,7 +118,8 @@ impl CertificateParser {
     /// A fault is kept, and nothing is completed; where memory ran out nothing changes.
     #[inline(never)]
     fn fault(&mut self, error: GrammarError) -> Result<Option<Completed>, AllocError>
-        ensures ok { IfOk result (λ o. (o ≡ None) × (self.new ≡ Stopped error) × (error ≡ GrammarError.NoMemory → ⊥)) }
+        ensures ok { IfOk result
+            (λ o. (o ≡ None) × (self.new ≡ Stopped error) × (error ≡ GrammarError.NoMemory → ⊥)) }
         ensures err { OnErr result ((error ≡ GrammarError.NoMemory) × (self.new ≡ self.old)) }
     {
         match error {
@@ -178,14 +179,19 @@ impl CertificateParser {
     /// changed, so the token can be taken again. Once the tokens have a fault, nothing is completed, nothing changes any more and no
     /// memory is taken.
     pub fn take(&mut self, alloc: Global, token: &Token) -> Result<Option<Completed>, AllocError>
-        ensures tokens { (ts : List Token) (ds : List Declaration) (rs : List Row) → IsRead ts ds rs self.old
-            → IfOk result (λ o. IsRead (ts ++ token.now ∷ []) (ds ++ declarations_by o) (rs ++ rows_by o) self.new) }
+        ensures tokens { (ts : List Token) (ds : List Declaration) (rs : List Row)
+            → IsRead ts ds rs self.old
+            → IfOk result (λ o. IsRead (ts ++ token.now ∷ []) (ds ++ declarations_by o)
+            (rs ++ rows_by o) self.new) }
         // From the tokens of a text come numbers of a text.
-        ensures written { (ts : List Token) (ds : List Declaration) (rs : List Row) → IsRead ts ds rs self.old
+        ensures written { (ts : List Token) (ds : List Declaration) (rs : List Row)
+            → IsRead ts ds rs self.old
             → All (λ t. t.value ≤ largest) (ts ++ token.now ∷ []) → IfOk result IsWrittenPart }
-        ensures start { (ts : List Token) (ds : List Declaration) (rs : List Row) → IsRead ts ds rs self.old
+        ensures start { (ts : List Token) (ds : List Declaration) (rs : List Row)
+            → IsRead ts ds rs self.old
             → IfOk result (λ o. BeginsWithStart (rs ++ rows_by o)) }
-        ensures unmended { (ts : List Token) (ds : List Declaration) (rs : List Row) → IsRead ts ds rs self.old
+        ensures unmended { (ts : List Token) (ds : List Declaration) (rs : List Row)
+            → IsRead ts ds rs self.old
             → (CertifiedGoesOn (terminals ts) → ⊥) → (result ≡ Ok None) × (self.new ≡ self.old) }
         ensures stopped { IsStopped self.old → (result ≡ Ok None) × (self.new ≡ self.old) }
         ensures err { OnErr result (self.new ≡ self.old) }
@@ -195,7 +201,8 @@ impl CertificateParser {
 
     /// The last row, where the tokens so far are a text with a certificate.
     fn last_row(self, alloc: Global) -> Result<CertRow, GrammarError>
-        ensures { ParseReturns (λ row. certified [] (row_value row ∷ [])) result (certified_so_far self [] []) }
+        ensures { ParseReturns (λ row. certified [] (row_value row ∷ [])) result
+            (certified_so_far self [] []) }
     {
         let CertificateParser { known, line } = self;
         match known {
@@ -210,11 +217,15 @@ impl CertificateParser {
     /// The last row of the tokens that were taken, or their first fault, as `file_with_certificate` says. It spends the reader, refused
     /// or not.
     pub fn end(self, alloc: Global) -> Result<CertRow, GrammarError>
-        ensures read { (ts : List Token) (ds : List Declaration) (rs : List Row) → IsRead ts ds rs self
-            → ParseReturns (λ row. certified ds (rs ++ row_value row ∷ [])) result (certified_of ts) }
-        ensures written { (ts : List Token) (ds : List Declaration) (rs : List Row) → IsRead ts ds rs self
+        ensures read { (ts : List Token) (ds : List Declaration) (rs : List Row)
+            → IsRead ts ds rs self
+            → ParseReturns (λ row. certified ds (rs ++ row_value row ∷ [])) result
+            (certified_of ts) }
+        ensures written { (ts : List Token) (ds : List Declaration) (rs : List Row)
+            → IsRead ts ds rs self
             → All (λ t. t.value ≤ largest) ts → IfOk result (λ row. IsWrittenRow (row_value row)) }
-        ensures start { (ts : List Token) (ds : List Declaration) (rs : List Row) → IsRead ts ds rs self
+        ensures start { (ts : List Token) (ds : List Declaration) (rs : List Row)
+            → IsRead ts ds rs self
             → IfOk result (λ row. BeginsWithStart (rs ++ row_value row ∷ [])) }
     {
         self.last_row(alloc)
@@ -229,7 +240,8 @@ fn push_completed(
 ) -> Result<(), AllocError>
     ensures decls { OnOk result (map declaration_of decls.new.items
         ≡ map declaration_of decls.old.items ++ declarations_by done) }
-    ensures rows { OnOk result (map row_value rows.new.items ≡ map row_value rows.old.items ++ rows_by done) }
+    ensures rows { OnOk result
+        (map row_value rows.new.items ≡ map row_value rows.old.items ++ rows_by done) }
 {
     match done {
         Some(Completed::Declaration(decl)) => {
@@ -252,8 +264,10 @@ fn read_all(
     decls: &mut Vec<Decl>,
     rows: &mut Vec<CertRow>,
 ) -> Result<(), AllocError>
-    requires first { IsRead [] (map declaration_of decls.old.items) (map row_value rows.old.items) reader.old }
-    ensures { OnOk result (IsRead tokens.now (map declaration_of decls.new.items) (map row_value rows.new.items) reader.new) }
+    requires first { IsRead [] (map declaration_of decls.old.items)
+        (map row_value rows.old.items) reader.old }
+    ensures { OnOk result (IsRead tokens.now (map declaration_of decls.new.items)
+        (map row_value rows.new.items) reader.new) }
 {
     for token in tokens {
         let done = reader.take(alloc, token)?;
@@ -264,7 +278,8 @@ fn read_all(
 
 /// The declarations of a text's tokens and the rows of its certificate, or the first fault.
 fn read_certified(alloc: Global, tokens: &[Token]) -> Result<File, GrammarError>
-    ensures { ParseReturns (λ f. certified (map declaration_of f.decls) (map row_value f.rows)) result
+    ensures { ParseReturns (λ f.
+        certified (map declaration_of f.decls) (map row_value f.rows)) result
         (certified_of tokens.now) }
 {
     let mut reader = CertificateParser::new(alloc);
@@ -287,7 +302,8 @@ fn read_certified(alloc: Global, tokens: &[Token]) -> Result<File, GrammarError>
 /// it.
 #[tactic(auto, using(crate::proofs::WrittenRows::declarations_written, crate::proofs::WrittenRows::rows_written))]
 pub fn file_with_certificate(alloc: Global, tokens: &[Token]) -> Result<File, GrammarError>
-    ensures read { ParseReturns (λ f. certified (map declaration_of f.decls) (map row_value f.rows)) result
+    ensures read { ParseReturns
+        (λ f. certified (map declaration_of f.decls) (map row_value f.rows)) result
         (certified_of tokens.now) }
     // From the tokens of a text come numbers of a text.
     ensures written { All (λ t. t.value ≤ largest) tokens.now

@@ -135,9 +135,11 @@ impl SoundReader {
 
     /// A row's policy took a token, and goes on.
     fn go_on_in_row(&self, token: &Token) -> Result<bool, GrammarError>
-        ensures read { (line : ℕ) (ns : Vec ℕ Global) → self.now.stage ≡ CertifiedStage.InRow line ns
+        ensures read { (line : ℕ) (ns : Vec ℕ Global)
+            → self.now.stage ≡ CertifiedStage.InRow line ns
             → ParseReturns (λ taken. certifying (certified_phase_in self.now) [] []) result
-            (judged_certified token.now.line (Some (certifying (in_row line ns.items (reader_state self.now.policy)) [] []))) }
+            (judged_certified token.now.line
+            (Some (certifying (in_row line ns.items (reader_state self.now.policy)) [] []))) }
         ensures taken { IfOk result (λ taken. taken ≡ true) }
         ensures err { IfErr result (λ e. e ≡ GrammarError.TooDeep token.now.line) }
     {
@@ -167,7 +169,8 @@ impl SoundReader {
     /// One more token of a row's policy, if it goes on with it. What is read of the row stays where it is.
     fn take_in_row(&mut self, alloc: Global, token: &Token) -> Result<bool, GrammarError>
         ensures { (line : ℕ) (ns : Vec ℕ Global) → self.old.stage ≡ CertifiedStage.InRow line ns
-            → CertifiedTakesInside (in_row line ns.items (reader_state self.old.policy)) (certified_phase_in self.new) token.now.line
+            → CertifiedTakesInside (in_row line ns.items (reader_state self.old.policy))
+            (certified_phase_in self.new) token.now.line
             (terminal_of token.now) result }
     {
         match self.policy.take(alloc, token) {
@@ -181,7 +184,8 @@ impl SoundReader {
     #[tactic(auto, using(crate::proofs::Certificates::declaring_judged))]
     fn declare_inside(&mut self, alloc: Global, token: &Token) -> Result<bool, GrammarError>
         requires stage { self.old.stage ≡ CertifiedStage.Declaring }
-        ensures { CertifiedTakesInside (certified_phase_in self.old) (certified_phase_in self.new) token.now.line
+        ensures { CertifiedTakesInside (certified_phase_in self.old)
+            (certified_phase_in self.new) token.now.line
             (terminal_of token.now) result }
     {
         match token.kind {
@@ -193,7 +197,8 @@ impl SoundReader {
     /// Reads one more token inside a policy before the certificate or a row's policy, and says whether it was taken; else nothing
     /// changed, and a row's policy that is being read doesn't go on with it. What is taken completes nothing. An error is as `take` says.
     pub fn take_inside(&mut self, alloc: Global, token: &Token) -> Result<bool, GrammarError>
-        ensures { CertifiedTakesInside (certified_phase_in self.old) (certified_phase_in self.new) token.now.line
+        ensures { CertifiedTakesInside (certified_phase_in self.old)
+            (certified_phase_in self.new) token.now.line
             (terminal_of token.now) result }
     {
         match &self.stage {
@@ -214,7 +219,9 @@ impl SoundReader {
         ensures read { ParseReturns (completing (certified_phase_in self.new)) result
             (judged_certified token.now.line (row_done [] [] positions.items line
             (policy_ended (reader_state self.old.policy)) (terminal_of token.now))) }
-        ensures kept { StaysWithoutMemory result (in_row line positions.items (reader_state self.old.policy)) (certified_phase_in self.new) }
+        ensures kept { StaysWithoutMemory result
+            (in_row line positions.items (reader_state self.old.policy))
+            (certified_phase_in self.new) }
     {
         match self.policy.end(alloc) {
             Ok(Some(pred)) => {
@@ -247,7 +254,8 @@ impl SoundReader {
         ensures read { ParseReturns (completing (certified_phase_in self.new)) result
             (judged_certified token.now.line (next_certifying (numbers_read line positions.items)
             [] [] (terminal_of token.now))) }
-        ensures kept { StaysWithoutMemory result (numbers_read line positions.items) (certified_phase_in self.new) }
+        ensures kept { StaysWithoutMemory result (numbers_read line positions.items)
+            (certified_phase_in self.new) }
     {
         let mut positions = positions;
         match token.kind {
@@ -276,7 +284,8 @@ impl SoundReader {
         ensures read { ParseReturns (completing (certified_phase_in self.new)) result
             (judged_certified token.now.line (next_certifying (number_wanted line)
             [] [] (terminal_of token.now))) }
-        ensures kept { StaysWithoutMemory result (number_wanted line) (certified_phase_in self.new) }
+        ensures kept { StaysWithoutMemory result (number_wanted line)
+            (certified_phase_in self.new) }
     {
         match number_of(token) {
             Some(number) => {
@@ -302,9 +311,11 @@ impl SoundReader {
     ) -> Result<Option<Completed>, GrammarError>
         requires stage { self.old.stage ≡ CertifiedStage.Declaring }
         ensures read { ParseReturns (completing (certified_phase_in self.new)) result
-            (judged_certified token.now.line (certify_one (with_done (certified_phase_in self.old) [] [])
+            (judged_certified token.now.line
+            (certify_one (with_done (certified_phase_in self.old) [] [])
             (terminal_of token.now))) }
-        ensures kept { StaysWithoutMemory result (certified_phase_in self.old) (certified_phase_in self.new) }
+        ensures kept { StaysWithoutMemory result (certified_phase_in self.old)
+            (certified_phase_in self.new) }
     {
         match token.kind {
             Kind::Certificate => match self.reader.end(alloc, token.line) {
@@ -326,7 +337,8 @@ impl SoundReader {
         token: &Token,
     ) -> Result<Option<Completed>, GrammarError>
         requires stops { StopsRow (certified_phase_in self.old) (terminal_of token.now) }
-        ensures { CertifiedTakes (certified_phase_in self.old) (certified_phase_in self.new) token.now.line
+        ensures { CertifiedTakes (certified_phase_in self.old)
+            (certified_phase_in self.new) token.now.line
             (terminal_of token.now) result }
     {
         match replace(&mut self.stage, CertifiedStage::Declaring) {
@@ -360,9 +372,11 @@ impl SoundReader {
     /// or that memory ran out.
     pub fn take(&mut self, alloc: Global, token: &Token) -> Result<Option<Completed>, GrammarError>
         ensures read { ParseReturns (completing (certified_phase_in self.new)) result
-            (judged_certified token.now.line (certify_one (with_done (certified_phase_in self.old) [] [])
+            (judged_certified token.now.line
+            (certify_one (with_done (certified_phase_in self.old) [] [])
             (terminal_of token.now))) }
-        ensures kept { StaysWithoutMemory result (certified_phase_in self.old) (certified_phase_in self.new) }
+        ensures kept { StaysWithoutMemory result (certified_phase_in self.old)
+            (certified_phase_in self.new) }
     {
         match self.take_inside(alloc, token) {
             Ok(true) => Ok(None),
@@ -375,7 +389,8 @@ impl SoundReader {
     /// text with a certificate.
     pub fn end(&mut self, alloc: Global, line: u64) -> Result<CertRow, GrammarError>
         ensures { ParseReturns (λ row. certified [] (row_value row ∷ [])) result
-            (certified_end_at line (certified_at_end (with_done (certified_phase_in self.old) [] []))) }
+            (certified_end_at line (certified_at_end
+            (with_done (certified_phase_in self.old) [] []))) }
     {
         match replace(&mut self.stage, CertifiedStage::Declaring) {
             CertifiedStage::InRow(of_row, positions) => match self.policy.end(alloc) {

@@ -178,7 +178,8 @@ impl PolicyReader {
         requires place { self.old.place ≡ Place.Want }
         requires last { self.old.last ≡ None }
         ensures state { FollowsOk result (begin (stack_in self.old) (terms_in self.old)
-            (factors_in self.old) (terminal_of token.now)) (reader_state self.old) (reader_state self.new) }
+            (factors_in self.old) (terminal_of token.now)) (reader_state self.old)
+            (reader_state self.new) }
         ensures kept { OnErr result (reader_state self.new ≡ reader_state self.old) }
     {
         match token.kind {
@@ -231,7 +232,8 @@ impl PolicyReader {
     #[tactic(auto, using(crate::proofs::Stack::nothing_open, crate::proofs::Stack::something_open))]
     fn policy(&mut self, alloc: Global) -> Option<Ast>
         requires room { HasRoom self.old }
-        ensures { (b : Bool) → option_map tree_of result ≡ done_at (Place.After b) (stack_in self.old)
+        ensures { (b : Bool) → option_map tree_of result
+            ≡ done_at (Place.After b) (stack_in self.old)
             (terms_joined (terms_in self.old) (factors_in self.old)) }
     {
         if self.frames.is_empty() {
@@ -245,7 +247,8 @@ impl PolicyReader {
     #[tactic(auto, using(crate::proofs::Stack::stack_push))]
     fn close(&mut self) -> bool
         requires room { HasRoom self.old }
-        ensures { Follows result (close (stack_in self.old) (terms_joined (terms_in self.old) (factors_in self.old)))
+        ensures { Follows result
+            (close (stack_in self.old) (terms_joined (terms_in self.old) (factors_in self.old)))
             (reader_state self.old) (reader_state self.new) }
     {
         match self.frames.pop() {
@@ -264,7 +267,8 @@ impl PolicyReader {
     /// A further term begins.
     fn plus(&mut self, alloc: Global) -> bool
         requires room { HasRoom self.old }
-        ensures state { reader_state self.new ≡ state Place.Want (stack_in self.old) (with_part (terms_in self.old)
+        ensures state { reader_state self.new
+            ≡ state Place.Want (stack_in self.old) (with_part (terms_in self.old)
             (seq_from (factors_in self.old))) no_part }
         ensures taken { result ≡ true }
     {
@@ -276,7 +280,8 @@ impl PolicyReader {
 
     /// A further factor begins.
     fn semicolon(&mut self) -> bool
-        ensures state { reader_state self.new ≡ state Place.Want (stack_in self.old) (terms_in self.old)
+        ensures state { reader_state self.new
+            ≡ state Place.Want (stack_in self.old) (terms_in self.old)
             (factors_in self.old) }
         ensures taken { result ≡ true }
     {
@@ -287,7 +292,8 @@ impl PolicyReader {
     /// A star over the last factor, in a box that is made.
     fn star(&mut self, cell: Box<Ast>) -> bool
         requires room { HasRoom self.old }
-        ensures state { reader_state self.new ≡ state (Place.After true) (stack_in self.old) (terms_in self.old)
+        ensures state { reader_state self.new
+            ≡ state (Place.After true) (stack_in self.old) (terms_in self.old)
             (with_star (factors_in self.old)) }
         ensures taken { result ≡ true }
     {
@@ -301,8 +307,10 @@ impl PolicyReader {
     fn go_on(&mut self, alloc: Global, starred: bool, token: &Token) -> Result<bool, AllocError>
         requires place { self.old.place ≡ Place.After starred }
         requires room { HasRoom self.old }
-        ensures state { FollowsOk result (after_factor starred (stack_in self.old) (terms_in self.old)
-            (factors_in self.old) (terminal_of token.now)) (reader_state self.old) (reader_state self.new) }
+        ensures state { FollowsOk result
+            (after_factor starred (stack_in self.old) (terms_in self.old)
+            (factors_in self.old) (terminal_of token.now)) (reader_state self.old)
+            (reader_state self.new) }
         ensures kept { OnErr result (reader_state self.new ≡ reader_state self.old) }
     {
         match token.kind {
@@ -325,9 +333,11 @@ impl PolicyReader {
         requires last { self.old.last ≡ None }
         requires room { HasRoom self.old }
         ensures state { FollowsOk result (step_done (atom_ended (name_of word) (stack_in self.old)
-            (terms_in self.old) (factors_in self.old)) star_sign) (state (Place.Named word) (stack_in self.old)
+            (terms_in self.old) (factors_in self.old)) star_sign)
+            (state (Place.Named word) (stack_in self.old)
             (terms_in self.old) (factors_in self.old)) (reader_state self.new) }
-        ensures kept { OnErr result (reader_state self.new ≡ state (Place.Named word) (stack_in self.old)
+        ensures kept { OnErr result
+            (reader_state self.new ≡ state (Place.Named word) (stack_in self.old)
             (terms_in self.old) (factors_in self.old)) }
     {
         match Box::new(alloc, Ast::Dup) {
@@ -358,7 +368,8 @@ impl PolicyReader {
         requires last { self.old.last ≡ None }
         requires room { HasRoom self.old }
         ensures { Follows result (step_done (atom_ended (name_of word) (stack_in self.old)
-            (terms_in self.old) (factors_in self.old)) closing) (state (Place.Named word) (stack_in self.old)
+            (terms_in self.old) (factors_in self.old)) closing)
+            (state (Place.Named word) (stack_in self.old)
             (terms_in self.old) (factors_in self.old)) (reader_state self.new) }
     {
         if is_enclosed(&self.frames) {
@@ -377,7 +388,8 @@ impl PolicyReader {
             (terms_in self.old) (factors_in self.old) (terminal_of token.now))
             (state (Place.Named word) (stack_in self.old) (terms_in self.old) (factors_in self.old))
             (reader_state self.new) }
-        ensures kept { OnErr result (reader_state self.new ≡ state (Place.Named word) (stack_in self.old)
+        ensures kept { OnErr result
+            (reader_state self.new ≡ state (Place.Named word) (stack_in self.old)
             (terms_in self.old) (factors_in self.old)) }
     {
         match token.kind {
@@ -411,7 +423,8 @@ impl PolicyReader {
     fn after_quad(&mut self, quad: Quad, token: &Token) -> bool
         requires last { self.old.last ≡ None }
         ensures { Follows result (step_at (Place.Linked quad) (stack_in self.old)
-            (terms_in self.old) (factors_in self.old) (terminal_of token.now)) (state (Place.Linked quad)
+            (terms_in self.old) (factors_in self.old) (terminal_of token.now))
+            (state (Place.Linked quad)
             (stack_in self.old) (terms_in self.old) (factors_in self.old)) (reader_state self.new) }
     {
         match quad_after(true, quad, token) {
@@ -522,7 +535,8 @@ impl PolicyReader {
 
     /// The policy, if one can end here. The only error is that memory ran out, and then nothing changed.
     pub fn end(&mut self, alloc: Global) -> Result<Option<Ast>, AllocError>
-        ensures policy { IfOk result (λ o. option_map tree_of o ≡ policy_ended (reader_state self.old)) }
+        ensures policy { IfOk result
+            (λ o. option_map tree_of o ≡ policy_ended (reader_state self.old)) }
         ensures kept { OnErr result (reader_state self.new ≡ reader_state self.old) }
     {
         self.make_ready()?;

@@ -97,7 +97,8 @@ impl Reader {
     /// A declaration begins after one that is done.
     fn begin(&mut self, done: Option<Decl>, token: &Token) -> Result<Option<Decl>, GrammarError>
         ensures begun { ParseReturns (λ d. reading (phase_in self.new) (declaration_done d)) result
-            (judged token.now.line (begin_declaration (declaration_done done) (terminal_of token.now))) }
+            (judged token.now.line (begin_declaration (declaration_done done)
+            (terminal_of token.now))) }
         ensures err { IfErr result (λ e. e ≡ GrammarError.Unexpected token.now.line) }
     {
         match token.kind {
@@ -127,9 +128,11 @@ impl Reader {
 
     /// A policy took a token, and goes on.
     fn go_on_in_policy(&self, token: &Token) -> Result<bool, GrammarError>
-        ensures read { (k : PolicyKeyword) (w : Ident) (line : ℕ) → self.now.stage ≡ Stage.Policy k w line
+        ensures read { (k : PolicyKeyword) (w : Ident) (line : ℕ)
+            → self.now.stage ≡ Stage.Policy k w line
             → ParseReturns (λ taken. reading (phase_in self.now) []) result
-            (judged token.now.line (Some (reading (in_policy k w line (reader_state self.now.policy)) []))) }
+            (judged token.now.line (Some
+            (reading (in_policy k w line (reader_state self.now.policy)) []))) }
         ensures taken { IfOk result (λ taken. taken ≡ true) }
         ensures err { IfErr result (λ e. e ≡ GrammarError.TooDeep token.now.line) }
     {
@@ -143,8 +146,10 @@ impl Reader {
     /// One more token of a policy, if it goes on with it. What is read of the declaration stays where it is.
     fn take_in_policy(&mut self, alloc: Global, token: &Token) -> Result<bool, GrammarError>
         requires stage { IsInPolicy self.old.stage }
-        ensures { (k : PolicyKeyword) (w : Ident) (line : ℕ) → self.old.stage ≡ Stage.Policy k w line
-            → TakesInside (in_policy k w line (reader_state self.old.policy)) (phase_in self.new) token.now.line
+        ensures { (k : PolicyKeyword) (w : Ident) (line : ℕ)
+            → self.old.stage ≡ Stage.Policy k w line
+            → TakesInside (in_policy k w line (reader_state self.old.policy))
+            (phase_in self.new) token.now.line
             (terminal_of token.now) result }
     {
         match self.policy.take(alloc, token) {
@@ -157,7 +162,8 @@ impl Reader {
     /// Reads one more token inside a policy, and says whether it was taken; else no policy goes on with it, and nothing changed. What
     /// is taken completes nothing. An error is as `take` says.
     pub fn take_inside(&mut self, alloc: Global, token: &Token) -> Result<bool, GrammarError>
-        ensures { TakesInside (phase_in self.old) (phase_in self.new) token.now.line (terminal_of token.now) result }
+        ensures { TakesInside (phase_in self.old) (phase_in self.new) token.now.line
+            (terminal_of token.now) result }
     {
         if let Stage::Policy(..) = &self.stage {
             self.take_in_policy(alloc, token)
@@ -169,9 +175,11 @@ impl Reader {
     /// A policy ended before this token.
     fn end_policy(&mut self, policy: Ast, token: &Token) -> Result<Option<Decl>, GrammarError>
         requires stage { IsInPolicy self.old.stage }
-        ensures read { (k : PolicyKeyword) (w : Ident) (line : ℕ) → self.old.stage ≡ Stage.Policy k w line
+        ensures read { (k : PolicyKeyword) (w : Ident) (line : ℕ)
+            → self.old.stage ≡ Stage.Policy k w line
             → ParseReturns (λ d. reading (phase_in self.new) (declaration_done d)) result
-            (judged token.now.line (begin_declaration (one_more [] (defined k w (tree_of policy) line)) (terminal_of token.now))) }
+            (judged token.now.line (begin_declaration
+            (one_more [] (defined k w (tree_of policy) line)) (terminal_of token.now))) }
         ensures err { IfErr result (λ e. e ≡ GrammarError.Unexpected token.now.line) }
     {
         let Stage::Policy(word, name, line) = replace(&mut self.stage, Stage::Between) else {
@@ -187,9 +195,11 @@ impl Reader {
         token: &Token,
     ) -> Result<Option<Decl>, GrammarError>
         requires stage { IsInPolicy self.old.stage }
-        ensures read { (k : PolicyKeyword) (w : Ident) (line : ℕ) → self.old.stage ≡ Stage.Policy k w line
+        ensures read { (k : PolicyKeyword) (w : Ident) (line : ℕ)
+            → self.old.stage ≡ Stage.Policy k w line
             → ParseReturns (λ d. reading (phase_in self.new) (declaration_done d)) result
-            (judged token.now.line (policy_done k w line [] (policy_ended (reader_state self.old.policy)) (terminal_of token.now))) }
+            (judged token.now.line (policy_done k w line []
+            (policy_ended (reader_state self.old.policy)) (terminal_of token.now))) }
         ensures kept { StaysWithoutMemory result (phase_in self.old) (phase_in self.new) }
     {
         match self.policy.end(alloc) {
@@ -207,7 +217,8 @@ impl Reader {
         token: &Token,
     ) -> Result<Option<Decl>, GrammarError>
         ensures read { ParseReturns (λ d. reading (phase_in self.new) (declaration_done d)) result
-            (judged token.now.line (next_reading (port_read number ports.items) [] (terminal_of token.now))) }
+            (judged token.now.line (next_reading (port_read number ports.items) []
+            (terminal_of token.now))) }
         ensures err { IfErr result (λ e. e ≡ GrammarError.Unexpected token.now.line) }
     {
         match token.kind {
@@ -224,8 +235,10 @@ impl Reader {
         token: &Token,
     ) -> Result<Option<Decl>, GrammarError>
         ensures read { ParseReturns (λ d. reading (phase_in self.new) (declaration_done d)) result
-            (judged token.now.line (next_reading (port_wanted number ports.items) [] (terminal_of token.now))) }
-        ensures kept { StaysWithoutMemory result (port_wanted number ports.items) (phase_in self.new) }
+            (judged token.now.line (next_reading (port_wanted number ports.items) []
+            (terminal_of token.now))) }
+        ensures kept { StaysWithoutMemory result (port_wanted number ports.items)
+            (phase_in self.new) }
     {
         let mut ports = ports;
         match number_of(token) {
@@ -248,7 +261,8 @@ impl Reader {
         token: &Token,
     ) -> Result<Option<Decl>, GrammarError>
         ensures read { ParseReturns (λ d. reading (phase_in self.new) (declaration_done d)) result
-            (judged token.now.line (next_reading (link_read word quad) [] (terminal_of token.now))) }
+            (judged token.now.line (next_reading (link_read word quad) []
+            (terminal_of token.now))) }
         ensures err { IfErr result (λ e. e ≡ GrammarError.Unexpected token.now.line) }
     {
         match quad_after(false, quad, token) {
@@ -299,7 +313,8 @@ impl Reader {
         token: &Token,
     ) -> Result<Option<Decl>, GrammarError>
         ensures read { ParseReturns (λ d. reading (phase_in self.new) (declaration_done d)) result
-            (judged token.now.line (next_reading (policy_named word name line) [] (terminal_of token.now))) }
+            (judged token.now.line (next_reading (policy_named word name line) []
+            (terminal_of token.now))) }
         ensures err { IfErr result (λ e. e ≡ GrammarError.Unexpected token.now.line) }
     {
         match token.kind {
@@ -315,7 +330,8 @@ impl Reader {
     fn take_outside(&mut self, alloc: Global, token: &Token) -> Result<Option<Decl>, GrammarError>
         requires outside { IsInPolicy self.old.stage → ⊥ }
         ensures read { ParseReturns (λ d. reading (phase_in self.new) (declaration_done d)) result
-            (judged token.now.line (read_one (reading (phase_in self.old) []) (terminal_of token.now))) }
+            (judged token.now.line (read_one (reading (phase_in self.old) [])
+            (terminal_of token.now))) }
         ensures kept { StaysWithoutMemory result (phase_in self.old) (phase_in self.new) }
     {
         match replace(&mut self.stage, Stage::Between) {
@@ -349,7 +365,8 @@ impl Reader {
     #[inline(never)]
     fn take_other(&mut self, alloc: Global, token: &Token) -> Result<Option<Decl>, GrammarError>
         requires stops { StopsPolicy (phase_in self.old) (terminal_of token.now) }
-        ensures { TakesTerminal (phase_in self.old) (phase_in self.new) token.now.line (terminal_of token.now) result }
+        ensures { TakesTerminal (phase_in self.old) (phase_in self.new) token.now.line
+            (terminal_of token.now) result }
     {
         if let Stage::Policy(..) = &self.stage {
             self.take_after_policy(alloc, token)
@@ -362,7 +379,8 @@ impl Reader {
     /// memory ran out.
     pub fn take(&mut self, alloc: Global, token: &Token) -> Result<Option<Decl>, GrammarError>
         ensures read { ParseReturns (λ d. reading (phase_in self.new) (declaration_done d)) result
-            (judged token.now.line (read_one (reading (phase_in self.old) []) (terminal_of token.now))) }
+            (judged token.now.line (read_one (reading (phase_in self.old) [])
+            (terminal_of token.now))) }
         ensures kept { StaysWithoutMemory result (phase_in self.old) (phase_in self.new) }
     {
         match self.take_inside(alloc, token) {

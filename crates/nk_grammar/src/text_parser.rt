@@ -94,7 +94,8 @@ impl TextParser {
     /// A fault is kept, and nothing is completed; where memory ran out nothing changes.
     #[inline(never)]
     fn fault(&mut self, error: GrammarError) -> Result<Option<Decl>, AllocError>
-        ensures ok { IfOk result (λ o. (o ≡ None) × (self.new ≡ Stopped error) × (error ≡ GrammarError.NoMemory → ⊥)) }
+        ensures ok { IfOk result
+            (λ o. (o ≡ None) × (self.new ≡ Stopped error) × (error ≡ GrammarError.NoMemory → ⊥)) }
         ensures err { OnErr result ((error ≡ GrammarError.NoMemory) × (self.new ≡ self.old)) }
     {
         match error {
@@ -114,7 +115,8 @@ impl TextParser {
     #[tactic(auto, using(crate::proofs::TextReading::takes_on, crate::proofs::TextReading::takes_fault, crate::proofs::TextReading::takes_nothing, crate::proofs::TextReading::takes_no_memory, crate::proofs::TextReading::no_fault_after, crate::proofs::TextReading::stops_empty))]
     #[inline(never)]
     fn put_other(&mut self, alloc: Global, token: &Token) -> Result<Option<Decl>, AllocError>
-        ensures taken { IfOk result (λ o. TakesTextOn self.old token.now self.new (declaration_done o)) }
+        ensures taken { IfOk result
+            (λ o. TakesTextOn self.old token.now self.new (declaration_done o)) }
         ensures fault { IfOk result (λ o. IsTextStopped self.new → o ≡ None) }
         ensures stopped { IsTextStopped self.old → (result ≡ Ok None) × (self.new ≡ self.old) }
         ensures err { OnErr result (self.new ≡ self.old) }
@@ -131,7 +133,8 @@ impl TextParser {
     /// One more token, and what it completes.
     #[tactic(auto, using(crate::proofs::TextReading::takes_inside, crate::proofs::TextReading::takes_fault, crate::proofs::TextReading::takes_nothing, crate::proofs::TextReading::takes_no_memory, crate::proofs::TextReading::no_fault_after))]
     fn put(&mut self, alloc: Global, token: &Token) -> Result<Option<Decl>, AllocError>
-        ensures taken { IfOk result (λ o. TakesTextOn self.old token.now self.new (declaration_done o)) }
+        ensures taken { IfOk result
+            (λ o. TakesTextOn self.old token.now self.new (declaration_done o)) }
         ensures fault { IfOk result (λ o. IsTextStopped self.new → o ≡ None) }
         ensures stopped { IsTextStopped self.old → (result ≡ Ok None) × (self.new ≡ self.old) }
         ensures err { OnErr result (self.new ≡ self.old) }
@@ -154,7 +157,8 @@ impl TextParser {
     /// again. Once the tokens have a fault, nothing is completed, nothing changes any more and no memory is taken.
     pub fn take(&mut self, alloc: Global, token: &Token) -> Result<Option<Decl>, AllocError>
         ensures tokens { (ts : List Token) (ds : List Declaration) → IsTextRead ts ds self.old
-            → IfOk result (λ o. IsTextRead (ts ++ token.now ∷ []) (ds ++ declaration_done o) self.new) }
+            → IfOk result (λ o. IsTextRead (ts ++ token.now ∷ [])
+            (ds ++ declaration_done o) self.new) }
         ensures fault { IfOk result (λ o. IsTextStopped self.new → o ≡ None) }
         ensures stopped { IsTextStopped self.old → (result ≡ Ok None) × (self.new ≡ self.old) }
         ensures err { OnErr result (self.new ≡ self.old) }
@@ -183,7 +187,8 @@ impl TextParser {
             → ParseReturns (λ o. ds ++ declaration_done o) result (file_of ts) }
         // From the tokens of a text come numbers of a text.
         ensures written { (ts : List Token) (ds : List Declaration) → IsTextRead ts ds self
-            → All (λ t. t.value ≤ largest) ts → IfOk result (λ o. All IsWritten (ds ++ declaration_done o)) }
+            → All (λ t. t.value ≤ largest) ts
+            → IfOk result (λ o. All IsWritten (ds ++ declaration_done o)) }
     {
         self.last(alloc)
     }

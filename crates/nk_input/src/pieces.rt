@@ -66,7 +66,8 @@ pub fn read_pieces<S: Source, R: TokenReader>(
     reader: &mut R,
 ) -> Result<Lexed, ReadError>
     requires first { R.has_taken reader.old [] }
-    ensures lexed { IfOk result (IsLexedOf (S.left source.old) (S.left source.new) (R.has_taken reader.new)) }
+    ensures lexed { IfOk result
+        (IsLexedOf (S.left source.old) (S.left source.new) (R.has_taken reader.new)) }
     ensures cause { MatchResult result
         (λ _. S.faults source.new ≡ S.faults source.old)
         (IsCause limit (S.left source.old) (S.left source.new)
@@ -121,7 +122,8 @@ fn take_piece<R: TokenReader>(
     piece: &[u8],
 ) -> Result<(), AllocError>
     requires room { feed.now.fed + length piece.now < 2 ^ 64 - 1 }
-    ensures fed { (text : List ℕ) → IsFed text feed.old → OnOk result (IsFed (text ++ piece.now) feed.new) }
+    ensures fed { (text : List ℕ) → IsFed text feed.old
+        → OnOk result (IsFed (text ++ piece.now) feed.new) }
     ensures taken { (text : List ℕ) → IsFed text feed.old → R.has_taken reader.old (completed text)
         → OnOk result (R.has_taken reader.new (completed (text ++ piece.now))) }
 {

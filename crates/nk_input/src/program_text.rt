@@ -54,7 +54,8 @@ fn read_text(alloc: Global, bytes: &[u8]) -> Result<ReadText, AllocError>
 /// The same where all tokens of the text were taken.
 fn read_tokens(alloc: Global, tokens: ProgramTokens) -> Result<ReadText, AllocError>
     requires small { (ts : List Token) × AreTaken ts tokens × All (λ t. t.value ≤ largest) ts }
-    ensures { (ts : List Token) → AreTaken ts tokens → TokensSayDeclared ts → IfOk result (λ r. IsReadOfTokens ts r) }
+    ensures { (ts : List Token) → AreTaken ts tokens → TokensSayDeclared ts
+        → IfOk result (λ r. IsReadOfTokens ts r) }
 {
     let (grammar, program) = tokens.into_readers();
     match grammar.end(alloc) {
@@ -69,8 +70,10 @@ fn read_last(
     program: ProgramReader,
     last: Option<Decl>,
 ) -> Result<ReadText, AllocError>
-    requires written { (ds : List Declaration) × IsDeclared ds program × All IsWritten (ds ++ declaration_done last) }
-    ensures { (ds : List Declaration) → IsDeclared ds program → SayDeclared (ds ++ declaration_done last)
+    requires written { (ds : List Declaration) × IsDeclared ds program
+        × All IsWritten (ds ++ declaration_done last) }
+    ensures { (ds : List Declaration) → IsDeclared ds program
+        → SayDeclared (ds ++ declaration_done last)
         → IfOk result (λ r. IsReadOfNames (ds ++ declaration_done last) r) }
 {
     let mut program = program;
@@ -81,7 +84,8 @@ fn read_last(
 /// The same of all declarations of the text.
 fn read_declared(alloc: Global, program: ProgramReader) -> Result<ReadText, AllocError>
     requires written { (ds : List Declaration) × IsDeclared ds program × All IsWritten ds }
-    ensures { (ds : List Declaration) → IsDeclared ds program → SayDeclared ds → IfOk result (λ r. IsReadOfNames ds r) }
+    ensures { (ds : List Declaration) → IsDeclared ds program → SayDeclared ds
+        → IfOk result (λ r. IsReadOfNames ds r) }
 {
     match program.finish() {
         Ok(program) => Ok(ReadText::Program(program)),

@@ -66,7 +66,8 @@ impl ProgramTokens {
 
     /// One more token. A fault of the tokens is no error here.
     pub(crate) fn take_token(&mut self, alloc: Global, token: &Token) -> Result<(), AllocError>
-        ensures { (ts : List Token) → AreTaken ts self.old → OnOk result (AreTaken (ts ++ token.now ∷ []) self.new) }
+        ensures { (ts : List Token) → AreTaken ts self.old
+            → OnOk result (AreTaken (ts ++ token.now ∷ []) self.new) }
     {
         let done = self.grammar.take(alloc, token)?;
         match done {

@@ -93,7 +93,8 @@ impl Feed {
             All (λ t. IsUtf8 t.text) v.items) }
         ensures quiet { (text : List ℕ) → IsFed text self.old → self.old.held ≡ []
             → CompletesNothing text piece.now → IsOk result }
-        ensures fault { (text : List ℕ) (e : LexError) → IsFed text self.old → HasLexicalFault text e
+        ensures fault { (text : List ℕ) (e : LexError) → IsFed text self.old
+            → HasLexicalFault text e
             → IsOk result × IfOk result (λ v. v.items ≡ []) × (self.new.pending ≡ Fault e) }
         ensures err { OnErr result (self.new ≡ self.old) }
     {

@@ -125,7 +125,8 @@ fn put_word(
     requires room { at + length name.now < 2 ^ 64 }
     requires text { IsUtf8 name.now }
     ensures ok { OnOk result (tokens.new.items
-        ≡ tokens.old.items ++ token (kind_of_name name.now) at (length name.now) line 0 name.now ∷ []) }
+        ≡ tokens.old.items ++ token (kind_of_name name.now) at (length name.now) line 0 name.now
+        ∷ []) }
     ensures err { IfErr result (λ e. e ≡ LexError.NoMemory) }
     ensures kept { OnErr result (tokens.new.items ≡ tokens.old.items) }
 {
@@ -152,9 +153,11 @@ fn put_number(
     line: u64,
 ) -> Result<(), LexError>
     requires room { at + length digits.now < 2 ^ 64 }
-    ensures ok { OnOk result ((t : Token) × (Ok t ≡ number_of digits.now at (length digits.now) line)
+    ensures ok { OnOk result
+        ((t : Token) × (Ok t ≡ number_of digits.now at (length digits.now) line)
         × (tokens.new.items ≡ tokens.old.items ++ t ∷ [])) }
-    ensures err { IfErr result (λ e. LexFails e (number_of digits.now at (length digits.now) line)) }
+    ensures err { IfErr result
+        (λ e. LexFails e (number_of digits.now at (length digits.now) line)) }
     ensures token { IfErr result (λ e. e ≡ LexError.NoMemory
         → (t : Token) × (Ok t ≡ number_of digits.now at (length digits.now) line)) }
     ensures kept { OnErr result (tokens.new.items ≡ tokens.old.items) }
@@ -186,7 +189,8 @@ pub fn put_front(
         × (tokens.new.items ≡ tokens.old.items ++ option_to_list t)) }
     ensures err { IfErr result (λ e. LexFails e (cut_front bytes.now line at)) }
     ensures kept { OnErr result (tokens.new.items ≡ tokens.old.items) }
-    ensures token { IfErr result (λ e. e ≡ LexError.NoMemory → HasToken (cut_front bytes.now line at)) }
+    ensures token { IfErr result
+        (λ e. e ≡ LexError.NoMemory → HasToken (cut_front bytes.now line at)) }
     ensures fits { IfOk result (λ n. (0 < n) × (n ≤ length bytes.now)) }
 {
     match front {

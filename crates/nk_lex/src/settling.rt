@@ -294,7 +294,8 @@ pub fn cut_on(
     requires ends { goes_on pending held.now piece.now ≡ false }
     ensures next { IfOk result (IsNext [] (ended pending held.now fed line piece.now)) }
     ensures fits { IfOk result (Fits (fed + length piece.now)) }
-    ensures quiet { OnErr result (0 < wanted_past pending (ended pending held.now fed line piece.now)) }
+    ensures quiet { OnErr result
+        (0 < wanted_past pending (ended pending held.now fed line piece.now)) }
 {
     match pending {
         Pending::Nothing => settle(alloc, piece, fed, line, Vec::new(alloc)),

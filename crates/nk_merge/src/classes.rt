@@ -39,12 +39,15 @@ pub fn classes_of(
 ) -> Result<Classes, AllocError>
     requires disjoint { IsDisjointCopy st.old states.now disjoint.old }
     requires known { All (λ s. s < length ss.old) tags.now }
-    requires places { All (λ s. AreLabelsBelow (length states.now) (labels_after (slice_index_or ss.old s []))) tags.now }
+    requires places { All (λ s.
+        AreLabelsBelow (length states.now) (labels_after (slice_index_or ss.old s []))) tags.now }
     ensures grows { Grows st.old st.new }
     ensures sets { SetsGrow ss.old ss.new }
     ensures disjoint { OnOk result (IsDisjointCopy st.new states.now disjoint.new) }
     ensures rows { disjoint.new.rows ≡ disjoint.old.rows }
-    ensures classes { IfOk result (λ c. AreClasses (AreTagsAlike st.old states.now ss.old tags.now) (length tags.now) c.numbers) }
+    ensures classes { IfOk result
+        (λ c. AreClasses (AreTagsAlike st.old states.now ss.old tags.now)
+        (length tags.now) c.numbers) }
     ensures firsts { IfOk result (λ c. AreFirsts c.numbers c.firsts) }
 {
     let mut all = Classes {
@@ -66,14 +69,17 @@ fn put_classes(
 ) -> Result<(), AllocError>
     requires disjoint { IsDisjointCopy st.old states.now disjoint.old }
     requires known { All (λ s. s < length ss.old) tags.now }
-    requires places { All (λ s. AreLabelsBelow (length states.now) (labels_after (slice_index_or ss.old s []))) tags.now }
+    requires places { All (λ s.
+        AreLabelsBelow (length states.now) (labels_after (slice_index_or ss.old s []))) tags.now }
     requires no_number { all.old.numbers ≡ [] }
     requires no_first { all.old.firsts ≡ [] }
     ensures grows { Grows st.old st.new }
     ensures sets { SetsGrow ss.old ss.new }
     ensures disjoint { OnOk result (IsDisjointCopy st.new states.now disjoint.new) }
     ensures rows { disjoint.new.rows ≡ disjoint.old.rows }
-    ensures classes { OnOk result (AreClasses (AreTagsAlike st.old states.now ss.old tags.now) (length tags.now) all.new.numbers) }
+    ensures classes { OnOk result
+        (AreClasses (AreTagsAlike st.old states.now ss.old tags.now)
+        (length tags.now) all.new.numbers) }
     ensures firsts { OnOk result (AreFirsts all.new.numbers all.new.firsts) }
 {
     let mut seen = HashMap::new(st.alloc());
@@ -102,11 +108,14 @@ fn class_by(
 ) -> Result<usize, AllocError>
     requires disjoint { IsDisjointCopy st.old states.now disjoint.old }
     requires known { All (λ s. s < length ss.old) tags.now }
-    requires places { All (λ s. AreLabelsBelow (length states.now) (labels_after (slice_index_or ss.old s []))) tags.now }
+    requires places { All (λ s.
+        AreLabelsBelow (length states.now) (labels_after (slice_index_or ss.old s []))) tags.now }
     requires firsts { All (λ i. i < length tags.now) firsts.now }
     requires tag { s < length ss.old }
-    requires tag_places { AreLabelsBelow (length states.now) (labels_after (slice_index_or ss.old s [])) }
-    requires diagram { DoesTogether st.old states.now (labels_after (slice_index_or ss.old s [])) d }
+    requires tag_places { AreLabelsBelow (length states.now)
+        (labels_after (slice_index_or ss.old s [])) }
+    requires diagram { DoesTogether st.old states.now
+        (labels_after (slice_index_or ss.old s [])) d }
     requires seen { AreSeenDiagrams st.old states.now ss.old tags.now firsts.now seen.now.entries }
     ensures grows { Grows st.old st.new }
     ensures sets { SetsGrow ss.old ss.new }
@@ -114,9 +123,13 @@ fn class_by(
     ensures rows { disjoint.new.rows ≡ disjoint.old.rows }
     ensures within { IfOk result (λ c. c ≤ length firsts.now) }
     ensures yes { IfOk result (λ c. c < length firsts.now →
-        AreAlike st.old states.now (labels_after (tag_set ss.old tags.now (slice_index firsts.now c))) (labels_after (slice_index_or ss.old s []))) }
+        AreAlike st.old states.now
+        (labels_after (tag_set ss.old tags.now (slice_index firsts.now c)))
+        (labels_after (slice_index_or ss.old s []))) }
     ensures none { IfOk result (λ c. c ≡ length firsts.now → (b : ℕ) → b < c →
-        AreAlike st.old states.now (labels_after (tag_set ss.old tags.now (slice_index firsts.now b))) (labels_after (slice_index_or ss.old s [])) → ⊥) }
+        AreAlike st.old states.now
+        (labels_after (tag_set ss.old tags.now (slice_index firsts.now b)))
+        (labels_after (slice_index_or ss.old s [])) → ⊥) }
 {
     if let Some(place) = seen_at(seen, d) {
         return Ok(place);
@@ -143,19 +156,25 @@ fn class_of(
 ) -> Result<usize, AllocError>
     requires disjoint { IsDisjointCopy st.old states.now disjoint.old }
     requires known { All (λ s. s < length ss.old) tags.now }
-    requires places { All (λ s. AreLabelsBelow (length states.now) (labels_after (slice_index_or ss.old s []))) tags.now }
+    requires places { All (λ s.
+        AreLabelsBelow (length states.now) (labels_after (slice_index_or ss.old s []))) tags.now }
     requires firsts { All (λ i. i < length tags.now) firsts.now }
     requires tag { s < length ss.old }
-    requires tag_places { AreLabelsBelow (length states.now) (labels_after (slice_index_or ss.old s [])) }
+    requires tag_places { AreLabelsBelow (length states.now)
+        (labels_after (slice_index_or ss.old s [])) }
     ensures grows { Grows st.old st.new }
     ensures sets { SetsGrow ss.old ss.new }
     ensures disjoint { OnOk result (IsDisjointCopy st.new states.now disjoint.new) }
     ensures rows { disjoint.new.rows ≡ disjoint.old.rows }
     ensures within { IfOk result (λ c. c ≤ length firsts.now) }
     ensures yes { IfOk result (λ c. c < length firsts.now →
-        AreAlike st.old states.now (labels_after (tag_set ss.old tags.now (slice_index firsts.now c))) (labels_after (slice_index_or ss.old s []))) }
+        AreAlike st.old states.now
+        (labels_after (tag_set ss.old tags.now (slice_index firsts.now c)))
+        (labels_after (slice_index_or ss.old s []))) }
     ensures none { IfOk result (λ c. c ≡ length firsts.now → (b : ℕ) → b < c →
-        AreAlike st.old states.now (labels_after (tag_set ss.old tags.now (slice_index firsts.now b))) (labels_after (slice_index_or ss.old s [])) → ⊥) }
+        AreAlike st.old states.now
+        (labels_after (tag_set ss.old tags.now (slice_index firsts.now b)))
+        (labels_after (slice_index_or ss.old s [])) → ⊥) }
 {
     for c in 0..firsts.len() {
         if are_alike(st, ss, states, disjoint, tags[firsts[c]], s)? {

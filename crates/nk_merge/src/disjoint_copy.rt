@@ -57,7 +57,8 @@ fn rows_twice(st: &mut Store, states: &[Id]) -> Result<List<Id>, AllocError>
 fn rows_by(st: &mut Store, states: &[Id], table: &[Option<u64>]) -> Result<List<Id>, AllocError>
     requires states { AreStates st.old states.now }
     requires some { 0 < length states.now }
-    requires table { (t : ℕ) → t < length states.now → slice_index_or table.now t None ≡ Some (again (length states.now - 1) t) }
+    requires table { (t : ℕ) → t < length states.now
+        → slice_index_or table.now t None ≡ Some (again (length states.now - 1) t) }
     ensures grows { Grows st.old st.new }
     ensures ok { IfOk result (λ rows. AreDisjointCopies st.new states.now rows) }
 {
@@ -81,7 +82,8 @@ fn again_once(
     requires state { IsId st.old state }
     requires made { AreMadeBy st.old table.now made.old.entries }
     ensures grows { Grows st.old st.new }
-    ensures ok { IfOk result (λ r. HasLeaves st.new r (λ pk. retargeted table.now (look st.old state pk))) }
+    ensures ok { IfOk result
+        (λ r. HasLeaves st.new r (λ pk. retargeted table.now (look st.old state pk))) }
     ensures made { OnOk result (AreMadeBy st.new table.now made.new.entries) }
 {
     if let Some(r) = known(made, state) {
@@ -96,7 +98,8 @@ fn again_once(
 fn again_table(alloc: Global, count: usize) -> Result<List<Option<u64>>, AllocError>
     requires some { 0 < count }
     requires few { count + count < 2 ^ 64 }
-    ensures { IfOk result (λ table. (t : ℕ) → t < count → slice_index_or table t None ≡ Some (again (count - 1) t)) }
+    ensures { IfOk result (λ table. (t : ℕ) → t < count
+        → slice_index_or table t None ≡ Some (again (count - 1) t)) }
 {
     let mut table = List::new(alloc);
     table.push(Some(0))?;

@@ -31,14 +31,20 @@ pub(crate) fn are_alike(
     requires disjoint { IsDisjointCopy st.old states.now disjoint.old }
     requires first { s < length ss.old }
     requires second { t < length ss.old }
-    requires first_places { AreLabelsBelow (length states.now) (labels_after (slice_index_or ss.old s [])) }
-    requires second_places { AreLabelsBelow (length states.now) (labels_after (slice_index_or ss.old t [])) }
+    requires first_places { AreLabelsBelow (length states.now)
+        (labels_after (slice_index_or ss.old s [])) }
+    requires second_places { AreLabelsBelow (length states.now)
+        (labels_after (slice_index_or ss.old t [])) }
     ensures grows { Grows st.old st.new }
     ensures sets { SetsGrow ss.old ss.new }
     ensures disjoint { OnOk result (IsDisjointCopy st.new states.now disjoint.new) }
     ensures rows { disjoint.new.rows ≡ disjoint.old.rows }
-    ensures yes { IfOk result (λ b. b ≡ true → AreAlike st.old states.now (labels_after (slice_index_or ss.old s [])) (labels_after (slice_index_or ss.old t []))) }
-    ensures no { IfOk result (λ b. b ≡ false → AreAlike st.old states.now (labels_after (slice_index_or ss.old s [])) (labels_after (slice_index_or ss.old t [])) → ⊥) }
+    ensures yes { IfOk result
+        (λ b. b ≡ true → AreAlike st.old states.now (labels_after (slice_index_or ss.old s []))
+        (labels_after (slice_index_or ss.old t []))) }
+    ensures no { IfOk result
+        (λ b. b ≡ false → AreAlike st.old states.now (labels_after (slice_index_or ss.old s []))
+        (labels_after (slice_index_or ss.old t [])) → ⊥) }
 {
     if s == t {
         return Ok(true);
@@ -61,13 +67,17 @@ pub fn distinguish(
     requires disjoint { IsDisjointCopy st.old states.now disjoint.old }
     requires first { s < length ss.old }
     requires second { t < length ss.old }
-    requires first_places { AreLabelsBelow (length states.now) (labels_after (slice_index_or ss.old s [])) }
-    requires second_places { AreLabelsBelow (length states.now) (labels_after (slice_index_or ss.old t [])) }
+    requires first_places { AreLabelsBelow (length states.now)
+        (labels_after (slice_index_or ss.old s [])) }
+    requires second_places { AreLabelsBelow (length states.now)
+        (labels_after (slice_index_or ss.old t [])) }
     ensures grows { Grows st.old st.new }
     ensures sets { SetsGrow ss.old ss.new }
     ensures disjoint { OnOk result (IsDisjointCopy st.new states.now disjoint.new) }
     ensures rows { disjoint.new.rows ≡ disjoint.old.rows }
-    ensures ok { IfOk result (λ r. Distinguishes st.old states.now (labels_after (slice_index_or ss.old s [])) (labels_after (slice_index_or ss.old t [])) r) }
+    ensures ok { IfOk result
+        (λ r. Distinguishes st.old states.now (labels_after (slice_index_or ss.old s []))
+        (labels_after (slice_index_or ss.old t [])) r) }
 {
     let both = levels_of_two(st, ss, states, disjoint, s, t)?;
     if !both.broken() {
@@ -89,13 +99,17 @@ fn levels_of_two(
     requires disjoint { IsDisjointCopy st.old states.now disjoint.old }
     requires first { s < length ss.old }
     requires second { t < length ss.old }
-    requires first_places { AreLabelsBelow (length states.now) (labels_after (slice_index_or ss.old s [])) }
-    requires second_places { AreLabelsBelow (length states.now) (labels_after (slice_index_or ss.old t [])) }
+    requires first_places { AreLabelsBelow (length states.now)
+        (labels_after (slice_index_or ss.old s [])) }
+    requires second_places { AreLabelsBelow (length states.now)
+        (labels_after (slice_index_or ss.old t [])) }
     ensures grows { Grows st.old st.new }
     ensures sets { SetsGrow ss.old ss.new }
     ensures disjoint { OnOk result (IsDisjointCopy st.new states.now disjoint.new) }
     ensures rows { disjoint.new.rows ≡ disjoint.old.rows }
-    ensures ok { IfOk result (λ lv. AreLevelsOfTwo st.new ss.new states.now (labels_after (slice_index_or ss.old s [])) (labels_after (slice_index_or ss.old t [])) disjoint.new lv.levels lv.broken) }
+    ensures ok { IfOk result
+        (λ lv. AreLevelsOfTwo st.new ss.new states.now (labels_after (slice_index_or ss.old s []))
+        (labels_after (slice_index_or ss.old t [])) disjoint.new lv.levels lv.broken) }
 {
     let set = joined(st.alloc(), ss, s, t, states.len())?;
     let from = every_packet(st)?;
@@ -117,7 +131,8 @@ fn levels_of_two(
 fn every_packet(st: &mut Store) -> Result<Id, AllocError>
     ensures grows { Grows st.old st.new }
     ensures set { IfOk result (λ d. IsSet st.new d) }
-    ensures each { IfOk result (λ d. (pk : Items ℕ) → IsStorePacket st.new pk → is_in st.new d pk ≡ true) }
+    ensures each { IfOk result
+        (λ d. (pk : Items ℕ) → IsStorePacket st.new pk → is_in st.new d pk ≡ true) }
 {
     identity(st)
 }

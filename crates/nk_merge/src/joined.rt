@@ -24,7 +24,10 @@ pub fn joined(
     requires second_places { AreLabelsBelow count (labels_after (slice_index_or ss.old t [])) }
     requires few { count + count < 2 ^ 64 }
     ensures sets { SetsGrow ss.old ss.new }
-    ensures is { IfOk result (λ i. IsSetOf ss.new i (both_sets (count - 1) (labels_after (slice_index_or ss.old s [])) (labels_after (slice_index_or ss.old t [])))) }
+    ensures is { IfOk result
+        (λ i. IsSetOf ss.new i
+        (both_sets (count - 1) (labels_after (slice_index_or ss.old s []))
+        (labels_after (slice_index_or ss.old t [])))) }
 {
     let labels = both_labels(alloc, ss, s, t, count)?;
     ss.intern(labels)
@@ -43,7 +46,9 @@ fn both_labels(
     requires first_places { AreLabelsBelow count (labels_after (slice_index_or ss.now s [])) }
     requires second_places { AreLabelsBelow count (labels_after (slice_index_or ss.now t [])) }
     requires few { count + count < 2 ^ 64 }
-    ensures is { IfOk result (λ r. r ≡ both_sets (count - 1) (labels_after (slice_index_or ss.now s [])) (labels_after (slice_index_or ss.now t []))) }
+    ensures is { IfOk result
+        (λ r. r ≡ both_sets (count - 1) (labels_after (slice_index_or ss.now s []))
+        (labels_after (slice_index_or ss.now t []))) }
     ensures ascend { IfOk result (λ r. IsStrictlyIncreasing r) }
 {
     let mut labels = List::new(alloc);

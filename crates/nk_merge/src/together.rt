@@ -16,9 +16,11 @@ use std::alloc::{AllocError, Global};
 pub fn diagram_after(st: &mut Store, ss: &Sets, states: &[Id], s: SetId) -> Result<Id, AllocError>
     requires states { AreIds st.old states.now }
     requires known { s < length ss.now }
-    requires places { AreLabelsBelow (length states.now) (labels_after (slice_index_or ss.now s [])) }
+    requires places { AreLabelsBelow (length states.now)
+        (labels_after (slice_index_or ss.now s [])) }
     ensures grows { Grows st.old st.new }
-    ensures does { IfOk result (λ d. DoesTogether st.new states.now (labels_after (slice_index_or ss.now s [])) d) }
+    ensures does { IfOk result
+        (λ d. DoesTogether st.new states.now (labels_after (slice_index_or ss.now s [])) d) }
 {
     let ds = states_after(st.alloc(), states, ss.members(s))?;
     let d = union_all(st, ds.as_slice())?;

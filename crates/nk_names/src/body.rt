@@ -123,7 +123,8 @@ fn written_from(alloc: Global, body: &Body, first: u32) -> Result<Pol, AllocErro
 #[tactic(auto, using(crate::proofs::Bodies::policy_in_sum, crate::proofs::Bodies::policy_in_seq, crate::proofs::Bodies::name_marked, crate::proofs::Bodies::name_dups, nk_policy::proofs::Trees::tree_of_sum, nk_policy::proofs::Trees::tree_of_seq))]
 fn written_on(alloc: Global, body: &Body, before: &mut u64) -> Result<Pol, AllocError>
     requires fit { before.old + dups_of (policy_in body.now) < 2 ^ 32 }
-    ensures tree { IfOk result (λ q. tree_of q ≡ marked_from (policy_in body.now) (before.old + 1)) }
+    ensures tree { IfOk result
+        (λ q. tree_of q ≡ marked_from (policy_in body.now) (before.old + 1)) }
     ensures before { OnOk result (before.new ≡ before.old + dups_of (policy_in body.now)) }
 {
     match body {
@@ -152,7 +153,8 @@ fn written_on(alloc: Global, body: &Body, before: &mut u64) -> Result<Pol, Alloc
 #[tactic(auto, using(nk_policy::proofs::Trees::joined_push, nk_policy::proofs::Trees::joined_none))]
 fn all_written_on(alloc: Global, parts: &[Body], before: &mut u64) -> Result<Vec<Pol>, AllocError>
     requires fit { before.old + dups_of_all (policies_in parts.now) < 2 ^ 32 }
-    ensures trees { IfOk result (λ qs. trees_of qs.items ≡ all_marked_from (policies_in parts.now) (before.old + 1)) }
+    ensures trees { IfOk result
+        (λ qs. trees_of qs.items ≡ all_marked_from (policies_in parts.now) (before.old + 1)) }
     ensures before { OnOk result (before.new ≡ before.old + dups_of_all (policies_in parts.now)) }
 {
     let mut out = Vec::with_capacity(alloc, parts.len())?;

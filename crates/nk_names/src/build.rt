@@ -37,7 +37,8 @@ pub(crate) fn place_of(n: Number) -> u16
 #[cycle(build)]
 #[tactic(auto, using(nk_grammar::proofs::Trees::tree_of_sum, nk_grammar::proofs::Trees::tree_of_seq, crate::proofs::Bodies::policy_in_sum, crate::proofs::Bodies::policy_in_seq, crate::proofs::Bodies::policy_in_name))]
 fn built(alloc: Global, fields: &Fields, lets: &Lets, ast: &Ast) -> Result<Body, AllocError>
-    ensures { IfOk result (λ b. policy_in b ≡ policy_for fields.now lets.now.entries.items (written_of ast.now)) }
+    ensures { IfOk result (λ b. policy_in b
+        ≡ policy_for fields.now lets.now.entries.items (written_of ast.now)) }
 {
     match ast {
         Ast::Name(w) => match lets.policy(w.text.as_slice()) {
@@ -70,7 +71,8 @@ fn all_built(
     lets: &Lets,
     parts: &[Ast],
 ) -> Result<Vec<Body>, AllocError>
-    ensures { IfOk result (λ bs. policies_in bs.items ≡ policies_for fields.now lets.now.entries.items (all_written_of parts.now)) }
+    ensures { IfOk result (λ bs. policies_in bs.items
+        ≡ policies_for fields.now lets.now.entries.items (all_written_of parts.now)) }
 {
     let mut out = Vec::with_capacity(alloc, parts.len())?;
     for q in parts {
@@ -87,7 +89,8 @@ pub(crate) fn shared_of(
     lets: &Lets,
     ast: &Ast,
 ) -> Result<Shared, AllocError>
-    ensures { IfOk result (λ s. policy_of s ≡ marked_from (policy_for fields.now lets.now.entries.items (written_of ast.now)) 1) }
+    ensures { IfOk result (λ s. policy_of s
+        ≡ marked_from (policy_for fields.now lets.now.entries.items (written_of ast.now)) 1) }
 {
     match built(alloc, fields, lets, ast)? {
         Body::Name(policy) => Ok(policy),
@@ -102,8 +105,10 @@ pub(crate) fn policy_of(
     lets: &Lets,
     ast: &Ast,
 ) -> Result<Pol, AllocError>
-    requires { dups_of (policy_for fields.now lets.now.entries.items (written_of ast.now)) < 4294967295 }
-    ensures { IfOk result (λ q. tree_of q ≡ marked_from (policy_for fields.now lets.now.entries.items (written_of ast.now)) 1) }
+    requires { dups_of (policy_for fields.now lets.now.entries.items
+        (written_of ast.now)) < 4294967295 }
+    ensures { IfOk result (λ q. tree_of q
+        ≡ marked_from (policy_for fields.now lets.now.entries.items (written_of ast.now)) 1) }
 {
     let body = built(alloc, fields, lets, ast)?;
     written(alloc, &body)

@@ -32,7 +32,11 @@ pub(crate) fn fault_if(wrong: bool, kind: FaultKind, line: u64) -> Option<NamesE
 fn above(most: u64, n: Number) -> Option<NamesError>
     ensures { result ≡ value_above most n }
 {
-    fault_if(most < n.value, FaultKind::Declared(DeclareFault::ValueOutOfRange), n.line)
+    fault_if(
+        most < n.value,
+        FaultKind::Declared(DeclareFault::ValueOutOfRange),
+        n.line,
+    )
 }
 
 /// The first number of a link that no switch and no port has.
@@ -106,7 +110,8 @@ fn first_unknown_among(fields: &Fields, lets: &Lets, parts: &[Ast]) -> Option<Na
 #[cycle(predicate)]
 #[tactic(auto, using(nk_grammar::proofs::Trees::tree_of_sum, nk_grammar::proofs::Trees::tree_of_seq))]
 pub(crate) fn is_predicate(fields: &Fields, lets: &Lets, ast: &Ast) -> bool
-    ensures { result ≡ is_predicate (policy_for fields.now lets.now.entries.items (tree_of ast.now)) }
+    ensures { result ≡ is_predicate
+        (policy_for fields.now lets.now.entries.items (tree_of ast.now)) }
 {
     match ast {
         Ast::Name(w) => match lets.shape(w.text.as_slice()) {
@@ -123,7 +128,8 @@ pub(crate) fn is_predicate(fields: &Fields, lets: &Lets, ast: &Ast) -> bool
 /// Whether each part is one.
 #[cycle(predicate)]
 fn are_predicates(fields: &Fields, lets: &Lets, parts: &[Ast]) -> bool
-    ensures { result ≡ are_predicates (policies_for fields.now lets.now.entries.items (trees_of parts.now)) }
+    ensures { result ≡ are_predicates
+        (policies_for fields.now lets.now.entries.items (trees_of parts.now)) }
 {
     for q in parts {
         if !is_predicate(fields, lets, q) {
@@ -173,7 +179,8 @@ fn first_misplaced_among(fields: &Fields, lets: &Lets, parts: &[Ast]) -> Option<
 #[cycle(depth)]
 #[tactic(auto, using(nk_grammar::proofs::Trees::tree_of_sum, nk_grammar::proofs::Trees::tree_of_seq))]
 pub(crate) fn depth(fields: &Fields, lets: &Lets, ast: &Ast) -> u64
-    ensures { result ≡ min (depth_of (policy_for fields.now lets.now.entries.items (tree_of ast.now))) LAST }
+    ensures { result ≡ min (depth_of
+        (policy_for fields.now lets.now.entries.items (tree_of ast.now))) LAST }
 {
     match ast {
         Ast::Name(w) => match lets.shape(w.text.as_slice()) {
@@ -190,7 +197,8 @@ pub(crate) fn depth(fields: &Fields, lets: &Lets, ast: &Ast) -> u64
 /// The depth of the deepest part, 0 where there is none.
 #[cycle(depth)]
 fn deepest(fields: &Fields, lets: &Lets, parts: &[Ast]) -> u64
-    ensures { result ≡ min (depths_of (policies_for fields.now lets.now.entries.items (trees_of parts.now))) LAST }
+    ensures { result ≡ min (depths_of
+        (policies_for fields.now lets.now.entries.items (trees_of parts.now))) LAST }
 {
     let mut most: u64 = 0;
     for q in parts {
@@ -206,7 +214,8 @@ fn deepest(fields: &Fields, lets: &Lets, parts: &[Ast]) -> u64
 #[cycle(size)]
 #[tactic(auto, using(nk_grammar::proofs::Trees::tree_of_sum, nk_grammar::proofs::Trees::tree_of_seq))]
 pub(crate) fn size(fields: &Fields, lets: &Lets, ast: &Ast) -> u64
-    ensures { result ≡ min (size_of (policy_for fields.now lets.now.entries.items (tree_of ast.now))) LAST }
+    ensures { result ≡ min (size_of
+        (policy_for fields.now lets.now.entries.items (tree_of ast.now))) LAST }
 {
     match ast {
         Ast::Name(w) => match lets.shape(w.text.as_slice()) {
@@ -223,7 +232,8 @@ pub(crate) fn size(fields: &Fields, lets: &Lets, ast: &Ast) -> u64
 /// How many elements the parts have.
 #[cycle(size)]
 fn total_size(fields: &Fields, lets: &Lets, parts: &[Ast]) -> u64
-    ensures { result ≡ min (sizes_of (policies_for fields.now lets.now.entries.items (trees_of parts.now))) LAST }
+    ensures { result ≡ min (sizes_of
+        (policies_for fields.now lets.now.entries.items (trees_of parts.now))) LAST }
 {
     let mut total: u64 = 0;
     for q in parts {

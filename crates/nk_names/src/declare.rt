@@ -44,8 +44,10 @@ fn check_named(
     line: u64,
 ) -> Result<(), NamesError>
     ensures { MatchResult result
-        (λ _. named_fault names.now.declared.fields names.now.lets.entries.items taken.now.entries.items w.now (tree_of ast.now) line ≡ None)
-        (λ e. named_fault names.now.declared.fields names.now.lets.entries.items taken.now.entries.items w.now (tree_of ast.now) line ≡ Some e) }
+        (λ _. named_fault names.now.declared.fields names.now.lets.entries.items
+        taken.now.entries.items w.now (tree_of ast.now) line ≡ None)
+        (λ e. named_fault names.now.declared.fields names.now.lets.entries.items
+        taken.now.entries.items w.now (tree_of ast.now) line ≡ Some e) }
 {
     let fields = &names.declared.fields;
     let lets = &names.lets;
@@ -62,21 +64,40 @@ fn check_named(
 /// Whether a virtual link may lead from port `m` of switch `a` to port `n` of switch `b`.
 fn check_ends(names: &Names, a: Number, m: Number, b: Number, n: Number) -> Result<(), NamesError>
     ensures { MatchResult result
-        (λ _. link_fault (virtual_topology names.now.declared.topo names.now.virtuals) a m b n ≡ None)
-        (λ e. option_map text_fault_of (link_fault (virtual_topology names.now.declared.topo names.now.virtuals) a m b n) ≡ Some e) }
+        (λ _. link_fault (virtual_topology names.now.declared.topo names.now.virtuals) a m b n
+        ≡ None)
+        (λ e. option_map text_fault_of
+        (link_fault (virtual_topology names.now.declared.topo names.now.virtuals) a m b n)
+        ≡ Some e) }
 {
     refuse(first_above(a, m, b, n))?;
     let topo = &names.declared.topo;
     let (from_switch, from_port) = (place_of(a), place_of(m));
     let (to_switch, to_port) = (place_of(b), place_of(n));
     let missing = !topo.is_port(from_switch, from_port);
-    refuse(fault_if(missing, FaultKind::Declared(DeclareFault::NoSuchPort), m.line))?;
+    refuse(fault_if(
+        missing,
+        FaultKind::Declared(DeclareFault::NoSuchPort),
+        m.line,
+    ))?;
     let missing = !topo.is_port(to_switch, to_port);
-    refuse(fault_if(missing, FaultKind::Declared(DeclareFault::NoSuchPort), n.line))?;
+    refuse(fault_if(
+        missing,
+        FaultKind::Declared(DeclareFault::NoSuchPort),
+        n.line,
+    ))?;
     let twice = names.virtuals.is_source(from_switch, from_port);
-    refuse(fault_if(twice, FaultKind::Declared(DeclareFault::SourceTwice), m.line))?;
+    refuse(fault_if(
+        twice,
+        FaultKind::Declared(DeclareFault::SourceTwice),
+        m.line,
+    ))?;
     let twice = names.virtuals.is_target(to_switch, to_port);
-    refuse(fault_if(twice, FaultKind::Declared(DeclareFault::TargetTwice), n.line))
+    refuse(fault_if(
+        twice,
+        FaultKind::Declared(DeclareFault::TargetTwice),
+        n.line,
+    ))
 }
 
 /// A declaration's fault as a program's.
@@ -114,7 +135,8 @@ impl Names {
     /// An `Err` leaves what is said as it was, here and below.
     #[tactic(auto, using(crate::proofs::Beside::is_said, crate::proofs::Beside::is_refused))]
     fn add_field(&mut self, w: &Ident, n: Number) -> Result<(), NamesError>
-        ensures answer { NamesReturns (λ _. program_of_names self.new) result (program_declaring (program_of_names self.old) (field w.now n)) }
+        ensures answer { NamesReturns (λ _. program_of_names self.new) result
+            (program_declaring (program_of_names self.old) (field w.now n)) }
         ensures kept { OnErr result (program_of_names self.new ≡ program_of_names self.old) }
     {
         match self.declared.add_field(w, n) {
@@ -126,7 +148,8 @@ impl Names {
     /// The tag.
     #[tactic(auto, using(crate::proofs::Beside::is_said, crate::proofs::Beside::is_refused))]
     fn add_tag(&mut self, w: &Ident) -> Result<(), NamesError>
-        ensures answer { NamesReturns (λ _. program_of_names self.new) result (program_declaring (program_of_names self.old) (tag w.now)) }
+        ensures answer { NamesReturns (λ _. program_of_names self.new) result
+            (program_declaring (program_of_names self.old) (tag w.now)) }
         ensures kept { OnErr result (program_of_names self.new ≡ program_of_names self.old) }
     {
         match self.declared.add_tag(w.text.as_slice(), w.line) {
@@ -138,7 +161,8 @@ impl Names {
     /// One more switch.
     #[tactic(auto, using(crate::proofs::Beside::is_said, crate::proofs::Beside::is_refused))]
     fn add_switch(&mut self, alloc: Global, n: Number, ports: &[Number]) -> Result<(), NamesError>
-        ensures answer { NamesReturns (λ _. program_of_names self.new) result (program_declaring (program_of_names self.old) (switch n ports.now)) }
+        ensures answer { NamesReturns (λ _. program_of_names self.new) result
+            (program_declaring (program_of_names self.old) (switch n ports.now)) }
         ensures kept { OnErr result (program_of_names self.new ≡ program_of_names self.old) }
     {
         match self.declared.declare_switch(alloc, n, ports) {
@@ -150,7 +174,8 @@ impl Names {
     /// One more link, from port `m` of switch `a` to port `n` of switch `b`.
     #[tactic(auto, using(crate::proofs::Beside::is_said, crate::proofs::Beside::is_refused))]
     fn add_link(&mut self, a: Number, m: Number, b: Number, n: Number) -> Result<(), NamesError>
-        ensures answer { NamesReturns (λ _. program_of_names self.new) result (program_declaring (program_of_names self.old) (declared_link a m b n)) }
+        ensures answer { NamesReturns (λ _. program_of_names self.new) result
+            (program_declaring (program_of_names self.old) (declared_link a m b n)) }
         ensures kept { OnErr result (program_of_names self.new ≡ program_of_names self.old) }
     {
         match self.declared.add_link(a, m, b, n) {
@@ -161,7 +186,9 @@ impl Names {
 
     /// One more policy.
     fn add_let(&mut self, alloc: Global, w: &Ident, ast: &Ast, line: u64) -> Result<(), NamesError>
-        ensures answer { NamesReturns (λ _. program_of_names self.new) result (program_declaring (program_of_names self.old) (definition w.now (tree_of ast.now) line)) }
+        ensures answer { NamesReturns (λ _. program_of_names self.new) result
+            (program_declaring (program_of_names self.old)
+            (definition w.now (tree_of ast.now) line)) }
         ensures kept { OnErr result (program_of_names self.new ≡ program_of_names self.old) }
     {
         check_named(self, &self.lets, w, ast, line)?;
@@ -179,7 +206,8 @@ impl Names {
         ast: &Ast,
         line: u64,
     ) -> Result<(), NamesError>
-        ensures answer { NamesReturns (λ _. program_of_names self.new) result (program_declaring (program_of_names self.old) (fabric w.now (tree_of ast.now) line)) }
+        ensures answer { NamesReturns (λ _. program_of_names self.new) result
+            (program_declaring (program_of_names self.old) (fabric w.now (tree_of ast.now) line)) }
         ensures kept { OnErr result (program_of_names self.new ≡ program_of_names self.old) }
     {
         check_named(self, &self.fabrics, w, ast, line)?;
@@ -198,7 +226,8 @@ impl Names {
         n: Number,
         w: &Ident,
     ) -> Result<(), NamesError>
-        ensures answer { NamesReturns (λ _. program_of_names self.new) result (program_declaring (program_of_names self.old) (virtual_link a m b n w.now)) }
+        ensures answer { NamesReturns (λ _. program_of_names self.new) result
+            (program_declaring (program_of_names self.old) (virtual_link a m b n w.now)) }
         ensures kept { OnErr result (program_of_names self.new ≡ program_of_names self.old) }
     {
         check_ends(self, a, m, b, n)?;
@@ -223,7 +252,8 @@ impl Names {
 
     /// One more declaration.
     pub(crate) fn add(&mut self, alloc: Global, decl: &Decl) -> Result<(), NamesError>
-        ensures answer { NamesReturns (λ _. program_of_names self.new) result (program_declaring (program_of_names self.old) (declaration_of decl.now)) }
+        ensures answer { NamesReturns (λ _. program_of_names self.new) result
+            (program_declaring (program_of_names self.old) (declaration_of decl.now)) }
         ensures kept { OnErr result (program_of_names self.new ≡ program_of_names self.old) }
     {
         match decl {

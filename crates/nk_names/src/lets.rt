@@ -48,7 +48,8 @@ impl Lets {
 
     /// The place of the policy with the name.
     fn place(&self, name: &[u8]) -> Option<usize>
-        ensures place { result ≡ position_from (λ e. bytes_eq e.0 name.now) 0 self.now.entries.items }
+        ensures place { result ≡ position_from
+            (λ e. bytes_eq e.0 name.now) 0 self.now.entries.items }
         ensures within { IfSome result (λ i. i < length self.now.entries.items) }
     {
         self.places.get(name).copied()
@@ -97,7 +98,8 @@ impl Lets {
     ) -> Result<(), AllocError>
         requires new { policy_among self.old.entries.items name.now ≡ None }
         requires shape { shape ≡ shape_of policy }
-        ensures ok { OnOk result (self.new.entries.items ≡ self.old.entries.items ++ (name.now, policy) ∷ []) }
+        ensures ok { OnOk result
+            (self.new.entries.items ≡ self.old.entries.items ++ (name.now, policy) ∷ []) }
         ensures kept { OnErr result (self.new.entries.items ≡ self.old.entries.items) }
     {
         let key = Vec::from_slice(alloc, name)?;

@@ -101,7 +101,8 @@ impl Program {
     pub fn virtual_links(&self) -> &[VirtualLink]
         ensures links { result.now ≡ self.now.virtuals }
         ensures is { IsProgram self.now.fields self.now.topo self.now.lets }
-        ensures virtuals { AreVirtual self.now.fields self.now.topo self.now.fabrics self.now.virtuals }
+        ensures virtuals { AreVirtual self.now.fields self.now.topo self.now.fabrics
+            self.now.virtuals }
     {
         self.virtuals.as_slice()
     }

@@ -40,7 +40,9 @@ fn first_fault(error: NamesError) -> Option<(FaultKind, u64)>
 impl Known {
     /// One more declaration: the fault that is the first one, or none. Where memory ran out, nothing changed.
     fn tell(&mut self, alloc: Global, decl: &Decl) -> Result<Option<(FaultKind, u64)>, AllocError>
-        ensures told { IfOk result (λ fault. program_on (known_in self.old) (declaration_of decl.now) ≡ with_first fault (known_in self.new)) }
+        ensures told { IfOk result
+            (λ fault. program_on (known_in self.old) (declaration_of decl.now)
+            ≡ with_first fault (known_in self.new)) }
         ensures err { OnErr result (known_in self.new ≡ known_in self.old) }
     {
         let told = match self {
@@ -67,7 +69,8 @@ impl Known {
 
     /// One more declaration. Where memory ran out, nothing changed.
     fn go_on(&mut self, alloc: Global, decl: &Decl) -> Result<(), AllocError>
-        ensures ok { OnOk result (known_in self.new ≡ program_on (known_in self.old) (declaration_of decl.now)) }
+        ensures ok { OnOk result
+            (known_in self.new ≡ program_on (known_in self.old) (declaration_of decl.now)) }
         ensures kept { OnErr result (known_in self.new ≡ known_in self.old) }
     {
         let fault = self.tell(alloc, decl)?;
@@ -176,7 +179,8 @@ impl ProgramReader {
     /// The predicate that a row of a certificate has over the fields declared so far, or the first fault: that of the
     /// declarations, where there is one, else that of the tree, as `resolve` says.
     pub fn predicate(&self, alloc: Global, ast: &Ast, line: u64) -> Result<Pol, NamesError>
-        ensures { NamesReturns tree_of result (and_then self.now (λ s. row_policy s.fields (written_of ast.now) line)) }
+        ensures { NamesReturns tree_of result
+            (and_then self.now (λ s. row_policy s.fields (written_of ast.now) line)) }
     {
         match &self.known {
             Known::Sound(names) => resolve_over(alloc, &names.declared.fields, ast, line),
@@ -191,7 +195,8 @@ impl ProgramReader {
     /// declared fields are at most 281,474,976,710,655.
     pub fn finish(self) -> Result<Program, NamesError>
         requires written { (ds : List Declaration) × IsDeclared ds self × All IsWritten ds }
-        ensures { (ds : List Declaration) → IsDeclared ds self → NamesReturns program_by result (program_of ds) }
+        ensures { (ds : List Declaration) → IsDeclared ds self
+            → NamesReturns program_by result (program_of ds) }
     {
         let ProgramReader { known } = self;
         match known {

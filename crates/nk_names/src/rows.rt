@@ -20,7 +20,8 @@ use std::alloc::Global;
 fn check_predicate(fields: &Fields, lets: &Lets, ast: &Ast, line: u64) -> Result<(), NamesError>
     ensures { MatchResult result
         (λ _. predicate_fault fields.now lets.now.entries.items (written_of ast.now) line ≡ None)
-        (λ e. predicate_fault fields.now lets.now.entries.items (written_of ast.now) line ≡ Some e) }
+        (λ e. predicate_fault fields.now lets.now.entries.items (written_of ast.now) line
+        ≡ Some e) }
 {
     refuse(first_unknown(fields, lets, ast))?;
     let kept = is_predicate(fields, lets, ast);
@@ -52,7 +53,8 @@ pub(crate) fn resolve_over(
 /// tree that is no predicate, at `line`, also where a `~` in it stands over no predicate; one that is more than 256 deep,
 /// at `line`.
 pub fn resolve(alloc: Global, p: &Program, ast: &Ast, line: u64) -> Result<Pol, NamesError>
-    ensures policy { NamesReturns tree_of result (row_policy p.now.fields (written_of ast.now) line) }
+    ensures policy { NamesReturns tree_of result
+        (row_policy p.now.fields (written_of ast.now) line) }
     ensures is { IfOk result (λ q. IsRowPolicy p.now.fields (tree_of q)) }
 {
     resolve_over(alloc, &p.fields, ast, line)

@@ -20,7 +20,8 @@ pub(crate) struct Shape {
 impl Shape {
     /// What is known of the policy that the tree stands for.
     pub(crate) fn of(fields: &Fields, lets: &Lets, ast: &Ast) -> Shape
-        ensures { result ≡ shape_of (policy_for fields.now lets.now.entries.items (tree_of ast.now)) }
+        ensures { result ≡ shape_of
+            (policy_for fields.now lets.now.entries.items (tree_of ast.now)) }
     {
         Shape {
             depth: depth(fields, lets, ast),

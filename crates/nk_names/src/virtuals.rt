@@ -47,7 +47,8 @@ impl Virtuals {
 
     /// Whether a virtual link begins at the port.
     pub(crate) fn is_source(&self, sw: u16, pt: u16) -> bool
-        ensures { (topo : Topology) → result ≡ is_some (link_from (virtual_topology topo self.now) sw pt) }
+        ensures { (topo : Topology)
+            → result ≡ is_some (link_from (virtual_topology topo self.now) sw pt) }
     {
         self.sources.contains(&(sw, pt))
     }

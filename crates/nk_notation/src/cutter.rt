@@ -37,7 +37,8 @@ pub(crate) struct Cutter<N: Notation> {
 impl<N: Notation> Cutter<N> {
     /// Before the first byte of a text.
     pub(crate) fn new(alloc: Global, notation: N) -> Cutter<N>
-        ensures left { (more : List ℕ) → lexemes_left result.state result.held.items more ≡ lexemes_left Open.Between [] more }
+        ensures left { (more : List ℕ)
+            → lexemes_left result.state result.held.items more ≡ lexemes_left Open.Between [] more }
         ensures notation { result.notation ≡ notation }
     {
         Cutter {
@@ -57,8 +58,11 @@ impl<N: Notation> Cutter<N> {
         ensures some { IfOk result (λ n. 0 < n) }
         ensures within { IfOk result (λ n. n ≤ length bytes.now) }
         ensures goes_on { (more : List ℕ) → TranslationGoesOn result
-            (N.made self.old.notation (lexemes_left self.old.state self.old.held.items (bytes.now ++ more)))
-            (N.made self.new.notation (lexemes_left self.new.state self.new.held.items (drop (count_taken result) bytes.now ++ more)))
+            (N.made self.old.notation
+            (lexemes_left self.old.state self.old.held.items (bytes.now ++ more)))
+            (N.made self.new.notation
+            (lexemes_left self.new.state self.new.held.items
+            (drop (count_taken result) bytes.now ++ more)))
             out.old.items out.new.items }
     {
         match self.state {
@@ -74,8 +78,11 @@ impl<N: Notation> Cutter<N> {
         requires between { self.old.state ≡ Open.Between }
         ensures some { IfOk result (λ n. 0 < n) }
         ensures within { IfOk result (λ n. n ≤ length bytes.now) }
-        ensures goes_on { (more : List ℕ) → TranslationGoesOn result (N.made self.old.notation (lexemes_of (bytes.now ++ more)))
-            (N.made self.new.notation (lexemes_left self.new.state self.new.held.items (drop (count_taken result) bytes.now ++ more)))
+        ensures goes_on { (more : List ℕ)
+            → TranslationGoesOn result (N.made self.old.notation (lexemes_of (bytes.now ++ more)))
+            (N.made self.new.notation
+            (lexemes_left self.new.state self.new.held.items
+            (drop (count_taken result) bytes.now ++ more)))
             out.old.items out.new.items }
     {
         let count = word_length(bytes);
@@ -95,8 +102,11 @@ impl<N: Notation> Cutter<N> {
         requires between { self.old.state ≡ Open.Between }
         ensures some { IfOk result (λ n. 0 < n) }
         ensures within { IfOk result (λ n. n ≤ length bytes.now) }
-        ensures goes_on { (more : List ℕ) → TranslationGoesOn result (N.made self.old.notation (lexemes_of (bytes.now ++ more)))
-            (N.made self.new.notation (lexemes_left self.new.state self.new.held.items (drop (count_taken result) bytes.now ++ more)))
+        ensures goes_on { (more : List ℕ)
+            → TranslationGoesOn result (N.made self.old.notation (lexemes_of (bytes.now ++ more)))
+            (N.made self.new.notation
+            (lexemes_left self.new.state self.new.held.items
+            (drop (count_taken result) bytes.now ++ more)))
             out.old.items out.new.items }
     {
         match self.begin(out, bytes[0]) {
@@ -111,8 +121,11 @@ impl<N: Notation> Cutter<N> {
         ensures some { IfOk result (λ n. 0 < n) }
         ensures within { IfOk result (λ n. n ≤ length bytes.now) }
         ensures goes_on { (more : List ℕ) → TranslationGoesOn result
-            (N.made self.old.notation (lexemes_left self.old.state self.old.held.items (bytes.now ++ more)))
-            (N.made self.new.notation (lexemes_left self.new.state self.new.held.items (drop (count_taken result) bytes.now ++ more)))
+            (N.made self.old.notation
+            (lexemes_left self.old.state self.old.held.items (bytes.now ++ more)))
+            (N.made self.new.notation
+            (lexemes_left self.new.state self.new.held.items
+            (drop (count_taken result) bytes.now ++ more)))
             out.old.items out.new.items }
     {
         match self.take(out, bytes[0]) {
@@ -124,8 +137,11 @@ impl<N: Notation> Cutter<N> {
     /// Takes the next byte of the text. What it completes goes to `out`.
     fn take(&mut self, out: &mut Vec<u8>, byte: u8) -> Result<(), Stop>
         ensures { (more : List ℕ) → TranslationGoesOn result
-            (N.made self.old.notation (lexemes_left self.old.state self.old.held.items (byte ∷ more)))
-            (N.made self.new.notation (lexemes_left self.new.state self.new.held.items more)) out.old.items out.new.items }
+            (N.made self.old.notation
+            (lexemes_left self.old.state self.old.held.items (byte ∷ more)))
+            (N.made self.new.notation
+            (lexemes_left self.new.state self.new.held.items more)) out.old.items
+            out.new.items }
     {
         match self.state {
             Open::Between => self.begin(out, byte),
@@ -147,8 +163,11 @@ impl<N: Notation> Cutter<N> {
     #[inline(always)]
     fn begin(&mut self, out: &mut Vec<u8>, byte: u8) -> Result<(), Stop>
         requires between { self.old.state ≡ Open.Between }
-        ensures { (more : List ℕ) → TranslationGoesOn result (N.made self.old.notation (lexemes_of (byte ∷ more)))
-            (N.made self.new.notation (lexemes_left self.new.state self.new.held.items more)) out.old.items out.new.items }
+        ensures { (more : List ℕ)
+            → TranslationGoesOn result (N.made self.old.notation (lexemes_of (byte ∷ more)))
+            (N.made self.new.notation
+            (lexemes_left self.new.state self.new.held.items more)) out.old.items
+            out.new.items }
     {
         if byte == b'#' {
             self.state = Open::Comment;
@@ -165,7 +184,8 @@ impl<N: Notation> Cutter<N> {
         requires between { self.old.state ≡ Open.Between }
         requires begins { begins_word byte ≡ true }
         ensures same { self.new.notation ≡ self.old.notation }
-        ensures word { OnOk result ((self.new.state ≡ Open.Word) × (self.new.held.items ≡ byte ∷ [])) }
+        ensures word { OnOk result
+            ((self.new.state ≡ Open.Word) × (self.new.held.items ≡ byte ∷ [])) }
         ensures err { IfErr result (λ e. e ≡ Stop.NoMemory) }
     {
         match self.held.push(byte) {
@@ -180,8 +200,12 @@ impl<N: Notation> Cutter<N> {
     /// Takes the next byte where a word is open.
     fn go_on(&mut self, out: &mut Vec<u8>, byte: u8) -> Result<(), Stop>
         requires word { self.old.state ≡ Open.Word }
-        ensures { (more : List ℕ) → TranslationGoesOn result (N.made self.old.notation (lexemes_of (self.old.held.items ++ byte ∷ more)))
-            (N.made self.new.notation (lexemes_left self.new.state self.new.held.items more)) out.old.items out.new.items }
+        ensures { (more : List ℕ)
+            → TranslationGoesOn result
+            (N.made self.old.notation (lexemes_of (self.old.held.items ++ byte ∷ more)))
+            (N.made self.new.notation
+            (lexemes_left self.new.state self.new.held.items more)) out.old.items
+            out.new.items }
     {
         if !is_run_byte(byte) {
             return match self.end_word(out) {
@@ -218,7 +242,8 @@ impl<N: Notation> Cutter<N> {
     fn end_word(&mut self, out: &mut Vec<u8>) -> Result<(), Stop>
         requires word { self.old.state ≡ Open.Word }
         ensures between { self.new.state ≡ Open.Between }
-        ensures word { (ls : List TextLexeme) → TranslationGoesOn result (N.made self.old.notation (Word self.old.held.items ∷ ls))
+        ensures word { (ls : List TextLexeme)
+            → TranslationGoesOn result (N.made self.old.notation (Word self.old.held.items ∷ ls))
             (N.made self.new.notation ls) out.old.items out.new.items }
     {
         let done = self.notation.word(out, &self.held);
@@ -231,7 +256,9 @@ impl<N: Notation> Cutter<N> {
     fn break_word(&mut self, out: &mut Vec<u8>) -> Result<(), Stop>
         requires word { self.old.state ≡ Open.Word }
         ensures long { self.new.state ≡ Open.Long }
-        ensures bytes { (ls : List TextLexeme) → TranslationGoesOn result (N.made self.old.notation (map Byte self.old.held.items ++ ls))
+        ensures bytes { (ls : List TextLexeme)
+            → TranslationGoesOn result
+            (N.made self.old.notation (map Byte self.old.held.items ++ ls))
             (N.made self.new.notation ls) out.old.items out.new.items }
     {
         let done = bytes(&mut self.notation, out, &self.held);
@@ -242,7 +269,8 @@ impl<N: Notation> Cutter<N> {
 
     /// Takes the end of the text.
     pub(crate) fn end(&mut self, out: &mut Vec<u8>) -> Result<(), Stop>
-        ensures { TranslationGoesOn result (N.made self.old.notation (lexemes_left self.old.state self.old.held.items [])) nothing
+        ensures { TranslationGoesOn result
+            (N.made self.old.notation (lexemes_left self.old.state self.old.held.items [])) nothing
             out.old.items out.new.items }
     {
         match self.state {
@@ -254,7 +282,8 @@ impl<N: Notation> Cutter<N> {
     /// The same where a word is open.
     fn end_with_word(&mut self, out: &mut Vec<u8>) -> Result<(), Stop>
         requires word { self.old.state ≡ Open.Word }
-        ensures { TranslationGoesOn result (N.made self.old.notation (lexemes_of (self.old.held.items ++ []))) nothing
+        ensures { TranslationGoesOn result
+            (N.made self.old.notation (lexemes_of (self.old.held.items ++ []))) nothing
             out.old.items out.new.items }
     {
         match self.end_word(out) {
@@ -266,7 +295,9 @@ impl<N: Notation> Cutter<N> {
 
 /// Hands bytes on, each for itself.
 fn bytes<N: Notation>(notation: &mut N, out: &mut Vec<u8>, text: &[u8]) -> Result<(), Stop>
-    ensures { (ls : List TextLexeme) → TranslationGoesOn result (N.made notation.old (map Byte text.now ++ ls)) (N.made notation.new ls)
+    ensures { (ls : List TextLexeme)
+        → TranslationGoesOn result (N.made notation.old (map Byte text.now ++ ls))
+        (N.made notation.new ls)
         out.old.items out.new.items }
 {
     for byte in text {
@@ -281,7 +312,8 @@ fn bytes<N: Notation>(notation: &mut N, out: &mut Vec<u8>, text: &[u8]) -> Resul
 fn word_length(bytes: &[u8]) -> usize
     ensures within { result ≤ length bytes.now }
     ensures word { 0 < result → (more : List ℕ) →
-        lexemes_of (bytes.now ++ more) ≡ Word (take result bytes.now) ∷ lexemes_of (drop result bytes.now ++ more) }
+        lexemes_of (bytes.now ++ more)
+        ≡ Word (take result bytes.now) ∷ lexemes_of (drop result bytes.now ++ more) }
 {
     match bytes {
         [first, rest @ ..] if begins_word(*first) => {

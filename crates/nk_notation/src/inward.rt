@@ -355,7 +355,8 @@ fn put_prefix(
 ) -> Result<(), WordStop>
     requires address { address < 2 ^ 32 }
     requires digits { digits ≤ 32 }
-    ensures { Puts result (prefix_in tables tests lead.now length.now address digits) out.old.items out.new.items }
+    ensures { Puts result (prefix_in tables tests lead.now length.now address digits) out.old.items
+        out.new.items }
 {
     let size = block_size(digits);
     if address % size != 0 {
@@ -387,7 +388,8 @@ fn put_both(
     second: Atom,
     second_text: &[u8],
 ) -> Result<(), WordStop>
-    ensures { Puts result (both_atoms lead.now first first_text.now between.now second second_text.now) out.old.items out.new.items }
+    ensures { Puts result (both_atoms lead.now first first_text.now between.now second
+        second_text.now) out.old.items out.new.items }
 {
     if let Atom::Faulty(cause) = first {
         return Err(WordStop::Refused(cause));
@@ -448,7 +450,8 @@ fn is_plain(text: &[u8]) -> bool
 /// Whether the word has no `.`, `/`, `x` and `:`.
 #[inline(always)]
 fn has_no_form_bytes(text: &[u8]) -> bool
-    ensures { result ≡ list_all (λ b. not (b == 46) && not (b == 47) && not (b == 120) && not (b == 58)) text.now }
+    ensures { result ≡ list_all
+        (λ b. not (b == 46) && not (b == 47) && not (b == 120) && not (b == 58)) text.now }
 {
     text.iter()
         .all(|b| *b != b'.' && *b != b'/' && *b != b'x' && *b != b':')

@@ -19,17 +19,20 @@ pub(crate) trait Notation {
 
     /// A word. At a malformed one the word itself goes to `out`.
     fn word(&mut self, out: &mut Vec<u8>, text: &[u8]) -> Result<(), Stop>
-        ensures { (ls : List TextLexeme) → TranslationGoesOn result (made self.old (Word text.now ∷ ls)) (made self.new ls)
+        ensures { (ls : List TextLexeme)
+            → TranslationGoesOn result (made self.old (Word text.now ∷ ls)) (made self.new ls)
             out.old.items out.new.items };
 
     /// A byte outside words.
     fn byte(&mut self, out: &mut Vec<u8>, byte: u8) -> Result<(), Stop>
-        ensures { (ls : List TextLexeme) → TranslationGoesOn result (made self.old (Byte byte ∷ ls)) (made self.new ls)
+        ensures { (ls : List TextLexeme)
+            → TranslationGoesOn result (made self.old (Byte byte ∷ ls)) (made self.new ls)
             out.old.items out.new.items };
 
     /// A byte of a comment.
     fn note(&mut self, out: &mut Vec<u8>, byte: u8) -> Result<(), Stop>
-        ensures { (ls : List TextLexeme) → TranslationGoesOn result (made self.old (Note byte ∷ ls)) (made self.new ls)
+        ensures { (ls : List TextLexeme)
+            → TranslationGoesOn result (made self.old (Note byte ∷ ls)) (made self.new ls)
             out.old.items out.new.items };
 
     /// The end of the text.

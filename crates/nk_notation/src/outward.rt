@@ -251,7 +251,8 @@ fn put_word(out: &mut Vec<u8>, tables: bool, spot: Spot, text: &[u8]) -> Result<
 
 /// Puts an `=` at the end, and a value that is assigned.
 fn put_assigned(out: &mut Vec<u8>, form: Form, text: &[u8]) -> Result<(), AllocError>
-    ensures { OnOk result (out.new.items ≡ out.old.items ++ (codes "=" ++ number_out form text.now)) }
+    ensures { OnOk result (out.new.items
+        ≡ out.old.items ++ (codes "=" ++ number_out form text.now)) }
 {
     put(out, b"=")?;
     put_form(out, form, text)
@@ -260,7 +261,8 @@ fn put_assigned(out: &mut Vec<u8>, form: Form, text: &[u8]) -> Result<(), AllocE
 /// Puts an `=` at the end, and a value that is tested for.
 #[tactic(auto, unfolding(crate::specs::Outward::value_out))]
 fn put_value(out: &mut Vec<u8>, tables: bool, form: Form, text: &[u8]) -> Result<(), AllocError>
-    ensures { OnOk result (out.new.items ≡ out.old.items ++ (codes "=" ++ value_out tables form text.now)) }
+    ensures { OnOk result (out.new.items
+        ≡ out.old.items ++ (codes "=" ++ value_out tables form text.now)) }
 {
     put(out, b"=")?;
     if tables && place_of(b'/', text) < text.len() {
@@ -330,7 +332,8 @@ fn put_measured(
     value: &[u8],
     length: &[u8],
 ) -> Result<(), AllocError>
-    ensures { OnOk result (out.new.items ≡ out.old.items ++ measured_out form value.now (number_within 48 length.now)) }
+    ensures { OnOk result (out.new.items
+        ≡ out.old.items ++ measured_out form value.now (number_within 48 length.now)) }
 {
     match number_within(48, length) {
         Some(_) => put_form(out, form, value),
@@ -342,7 +345,8 @@ fn put_measured(
 #[tactic(auto, unfolding(crate::specs::Outward::address_out))]
 fn put_address_of(out: &mut Vec<u8>, value: &[u8], length: &[u8]) -> Result<(), AllocError>
     ensures { OnOk result (out.new.items ≡ out.old.items
-        ++ address_out value.now (number_within 4294967295 value.now) (number_within 32 length.now)) }
+        ++ address_out value.now (number_within 4294967295 value.now)
+        (number_within 32 length.now)) }
 {
     match (
         number_within(4_294_967_295, value),
@@ -379,7 +383,8 @@ fn put_ends(
 ) -> Result<(), AllocError>
     requires { dots ≤ length text.now }
     ensures { OnOk result (out.new.items ≡ out.old.items ++ ends_out tables form text.now
-        (number_within (largest_in_form form) (take dots text.now)) (number_within (largest_in_form form) (drop (dots + 2) text.now))) }
+        (number_within (largest_in_form form) (take dots text.now))
+        (number_within (largest_in_form form) (drop (dots + 2) text.now))) }
 {
     let most = largest_of(form);
     match (
@@ -405,7 +410,8 @@ fn put_interval(
 ) -> Result<(), AllocError>
     requires low { low ≤ largest_in_form form }
     requires high { high ≤ largest_in_form form }
-    ensures { OnOk result (out.new.items ≡ out.old.items ++ interval_out form low high (length_of tables form low high)) }
+    ensures { OnOk result (out.new.items
+        ≡ out.old.items ++ interval_out form low high (length_of tables form low high)) }
 {
     match length_of(tables, form, low, high) {
         Some(digits) => {

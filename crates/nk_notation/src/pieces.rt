@@ -39,7 +39,8 @@ pub(crate) fn translate<N: Notation + Drop, S: Source, O: Sink>(
     source: &mut S,
     out: &mut O,
 ) -> Ending
-    ensures { TranslationEnds (λ text. N.made notation (lexemes_of text)) (use_of S.left S.faults source.old source.new)
+    ensures { TranslationEnds (λ text. N.made notation (lexemes_of text))
+        (use_of S.left S.faults source.old source.new)
         (use_of O.taken O.faults out.old out.new) result }
 {
     let mut cutter = Cutter::new(alloc, notation);
@@ -53,8 +54,11 @@ fn translate_by<N: Notation, S: Source, O: Sink>(
     source: &mut S,
     out: &mut O,
 ) -> Ending
-    ensures { TranslationEnds (λ text. N.made cutter.old.notation (lexemes_left cutter.old.state cutter.old.held.items text))
-        (use_of S.left S.faults source.old source.new) (use_of O.taken O.faults out.old out.new) result }
+    ensures { TranslationEnds
+        (λ text. N.made cutter.old.notation
+        (lexemes_left cutter.old.state cutter.old.held.items text))
+        (use_of S.left S.faults source.old source.new)
+        (use_of O.taken O.faults out.old out.new) result }
 {
     let mut written = Vec::new(alloc);
     let mut taken = Taken::new();
@@ -84,8 +88,10 @@ fn pass_piece<N: Notation, O: Sink>(
 ) -> Result<(), Ending>
     requires empty { written.old.items ≡ [] }
     ensures empty { OnOk result (written.new.items ≡ []) }
-    ensures passes { Passes (λ text. N.made cutter.old.notation (lexemes_left cutter.old.state cutter.old.held.items text))
-        (λ text. N.made cutter.new.notation (lexemes_left cutter.new.state cutter.new.held.items text)) piece.now
+    ensures passes { Passes (λ text.
+        N.made cutter.old.notation (lexemes_left cutter.old.state cutter.old.held.items text))
+        (λ text. N.made cutter.new.notation
+        (lexemes_left cutter.new.state cutter.new.held.items text)) piece.now
         (use_of O.taken O.faults out.old out.new) result }
 {
     match take_piece(cutter, written, piece) {
@@ -119,8 +125,11 @@ fn take_piece<N: Notation>(
     piece: &[u8],
 ) -> Result<(), Stop>
     ensures { (more : List ℕ) → TranslationGoesOn result
-        (N.made cutter.old.notation (lexemes_left cutter.old.state cutter.old.held.items (piece.now ++ more)))
-        (N.made cutter.new.notation (lexemes_left cutter.new.state cutter.new.held.items more)) written.old.items written.new.items }
+        (N.made cutter.old.notation
+        (lexemes_left cutter.old.state cutter.old.held.items (piece.now ++ more)))
+        (N.made cutter.new.notation
+        (lexemes_left cutter.new.state cutter.new.held.items more)) written.old.items
+        written.new.items }
 {
     let mut at = 0;
     'lexemes: while at < piece.len() {
@@ -139,7 +148,8 @@ fn finish<N: Notation, O: Sink>(
     out: &mut O,
 ) -> Ending
     requires empty { written.old.items ≡ [] }
-    ensures { Finishes (N.made cutter.old.notation (lexemes_left cutter.old.state cutter.old.held.items []))
+    ensures { Finishes (N.made cutter.old.notation
+        (lexemes_left cutter.old.state cutter.old.held.items []))
         (use_of O.taken O.faults out.old out.new) result }
 {
     match cutter.end(written) {

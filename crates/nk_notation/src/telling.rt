@@ -40,7 +40,8 @@ pub(crate) fn send<K: Sink>(sink: &mut K, bytes: &[u8], status: Status) -> Statu
 
 /// Writes the line that tells a fault.
 fn write_fault<K: Sink>(sink: &mut K, fault: Fault) -> Result<(), WriteFault>
-    ensures { AreBytesWritten (notation_fault_line fault) (use_of K.taken K.faults sink.old sink.new) result }
+    ensures { AreBytesWritten (notation_fault_line fault)
+        (use_of K.taken K.faults sink.old sink.new) result }
 {
     match write_line(sink, fault.line) {
         Ok(()) => write_cause(sink, fault.cause),
@@ -50,7 +51,8 @@ fn write_fault<K: Sink>(sink: &mut K, fault: Fault) -> Result<(), WriteFault>
 
 /// Writes the number of a line, with the words around it.
 fn write_line<K: Sink>(sink: &mut K, line: u64) -> Result<(), WriteFault>
-    ensures { AreBytesWritten (codes "line " ++ decimal line) (use_of K.taken K.faults sink.old sink.new) result }
+    ensures { AreBytesWritten (codes "line " ++ decimal line)
+        (use_of K.taken K.faults sink.old sink.new) result }
 {
     let mut buffer = Buffer::new();
     write_both(sink, b"line ", buffer.format(line).as_bytes())
@@ -58,7 +60,8 @@ fn write_line<K: Sink>(sink: &mut K, line: u64) -> Result<(), WriteFault>
 
 /// Writes what is wrong.
 fn write_cause<K: Sink>(sink: &mut K, cause: Cause) -> Result<(), WriteFault>
-    ensures { AreBytesWritten (codes ": " ++ message_of cause ++ codes "\n") (use_of K.taken K.faults sink.old sink.new) result }
+    ensures { AreBytesWritten (codes ": " ++ message_of cause ++ codes "\n")
+        (use_of K.taken K.faults sink.old sink.new) result }
 {
     match write_both(sink, b": ", cause.message().as_bytes()) {
         Ok(()) => write(sink, b"\n"),
@@ -78,7 +81,8 @@ fn write<K: Sink>(sink: &mut K, bytes: &[u8]) -> Result<(), WriteFault>
 
 /// Writes bytes, and then others.
 fn write_both<K: Sink>(sink: &mut K, first: &[u8], second: &[u8]) -> Result<(), WriteFault>
-    ensures { AreBytesWritten (first.now ++ second.now) (use_of K.taken K.faults sink.old sink.new) result }
+    ensures { AreBytesWritten (first.now ++ second.now)
+        (use_of K.taken K.faults sink.old sink.new) result }
 {
     match write(sink, first) {
         Ok(()) => write(sink, second),

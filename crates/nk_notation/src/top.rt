@@ -46,15 +46,19 @@ pub fn translate_by_words<S: Source, O: Sink, E: Sink>(
     // A failed read is never taken for the end of the input, nor for running out of memory: the run says so, or fails at saying so. The
     // source's count of faults was below its last value.
     ensures read_faults { S.faults source.old < S.faults source.new
-        → IsDelivered (use_of E.taken E.faults err.old err.new) (codes "read fault\n") Status.ReadFault result }
+        → IsDelivered (use_of E.taken E.faults err.old err.new)
+        (codes "read fault\n") Status.ReadFault result }
     // A failed write is told by the status.
-    ensures write_faults { (O.faults out.old < O.faults out.new) ⊎ (E.faults err.old < E.faults err.new)
+    ensures write_faults { (O.faults out.old < O.faults out.new) ⊎
+        (E.faults err.old < E.faults err.new)
         → result ≡ Status.WriteFault }
     // The status `Usage` comes for words that ask for no translation, where the sink takes it and memory suffices, and for no others.
     ensures usage { TellsWrongWords (direction_of (map (λ w. string_bytes w) words.now)) result }
     // No call was made on the source and on `out` where the words ask for no translation.
-    ensures unread { direction_of (map (λ w. string_bytes w) words.now) ≡ None → source.new ≡ source.old }
-    ensures unwritten { direction_of (map (λ w. string_bytes w) words.now) ≡ None → out.new ≡ out.old }
+    ensures unread { direction_of (map (λ w. string_bytes w) words.now) ≡ None
+        → source.new ≡ source.old }
+    ensures unwritten { direction_of (map (λ w. string_bytes w) words.now) ≡ None
+        → out.new ≡ out.old }
 {
     translate_words(alloc, words, source, out, err)
 }
@@ -70,8 +74,10 @@ fn translate_words<S: Source, O: Sink, E: Sink>(
     ensures answers { AnswersTranslation (direction_of (map (λ w. string_bytes w) words.now))
         (use_of S.left S.faults source.old source.new)
         (use_of O.taken O.faults out.old out.new) (use_of E.taken E.faults err.old err.new) result }
-    ensures unread { direction_of (map (λ w. string_bytes w) words.now) ≡ None → source.new ≡ source.old }
-    ensures unwritten { direction_of (map (λ w. string_bytes w) words.now) ≡ None → out.new ≡ out.old }
+    ensures unread { direction_of (map (λ w. string_bytes w) words.now) ≡ None
+        → source.new ≡ source.old }
+    ensures unwritten { direction_of (map (λ w. string_bytes w) words.now) ≡ None
+        → out.new ≡ out.old }
 {
     match read_words(alloc, words) {
         Ok(asked) => answer(alloc, asked, source, out, err),
@@ -126,7 +132,8 @@ fn translate_out<S: Source, O: Sink, E: Sink>(
     out: &mut O,
     err: &mut E,
 ) -> Status
-    ensures { IsTranslated (outward_text (map named_form fields.items)) (use_of S.left S.faults source.old source.new)
+    ensures { IsTranslated (outward_text (map named_form fields.items))
+        (use_of S.left S.faults source.old source.new)
         (use_of O.taken O.faults out.old out.new) (use_of E.taken E.faults err.old err.new) result }
 {
     let ending = translate(alloc, Outward::new(fields), source, out);

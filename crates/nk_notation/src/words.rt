@@ -25,7 +25,8 @@ pub(crate) enum Asked {
 /// What the words ask for. The only error is that memory ran out.
 #[tactic(auto, unfolding(crate::specs::Words::direction_of, crate::specs::Words::direction_in))]
 pub(crate) fn read_words(alloc: Global, words: &[String]) -> Result<Asked, AllocError>
-    ensures { IfOk result (λ a. direction_in a ≡ direction_of (map (λ w. string_bytes w) words.now)) }
+    ensures { IfOk result (λ a. direction_in a
+        ≡ direction_of (map (λ w. string_bytes w) words.now)) }
 {
     match words {
         [first, rest @ ..] => read_rest(alloc, first, rest),
@@ -36,7 +37,8 @@ pub(crate) fn read_words(alloc: Global, words: &[String]) -> Result<Asked, Alloc
 /// The same of the first word and the others.
 #[tactic(auto, unfolding(crate::specs::Words::direction_by, crate::specs::Words::direction_in, crate::specs::Words::outwards_of))]
 fn read_rest(alloc: Global, first: &str, rest: &[String]) -> Result<Asked, AllocError>
-    ensures { IfOk result (λ a. direction_in a ≡ direction_by first.now (map (λ w. string_bytes w) rest.now)) }
+    ensures { IfOk result (λ a. direction_in a
+        ≡ direction_by first.now (map (λ w. string_bytes w) rest.now)) }
 {
     if rest.is_empty() {
         if first == "in" {
@@ -55,7 +57,8 @@ fn read_rest(alloc: Global, first: &str, rest: &[String]) -> Result<Asked, Alloc
 
 /// The fields that all words name, each with its form.
 fn fields_of(alloc: Global, words: &[String]) -> Result<Option<Vec<NamedField>>, AllocError>
-    ensures { IfOk result (λ r. option_map (λ fs. map named_form fs.items) r ≡ fields_of (map (λ w. string_bytes w) words.now)) }
+    ensures { IfOk result (λ r. option_map (λ fs. map named_form fs.items) r
+        ≡ fields_of (map (λ w. string_bytes w) words.now)) }
 {
     let mut fields = Vec::new(alloc);
     for word in words {
@@ -70,7 +73,9 @@ fn fields_of(alloc: Global, words: &[String]) -> Result<Option<Vec<NamedField>>,
 /// Puts the field that a word names at the end, and says whether it names one.
 #[tactic(auto, unfolding(crate::specs::Words::IsPushed, crate::specs::Words::field_of))]
 fn push_field(alloc: Global, fields: &mut Vec<NamedField>, word: &str) -> Result<bool, AllocError>
-    ensures { IfOk result (λ named_one. IsPushed named_one (map named_form fields.old.items) (map named_form fields.new.items) (field_of word.now)) }
+    ensures { IfOk result (λ named_one.
+        IsPushed named_one (map named_form fields.old.items) (map named_form fields.new.items)
+        (field_of word.now)) }
 {
     let (name, kind) = parted(b'=', word.as_bytes());
     if !is_name(name) {

@@ -22,7 +22,8 @@ fn put_pairs(out: &mut Vec<u8>, first: u64, second: u64, third: u64) -> Result<(
     requires first { first < 256 }
     requires second { second < 256 }
     requires third { third < 256 }
-    ensures { OnOk result (out.new.items ≡ out.old.items ++ (pair_text first ++ 58 ∷ pair_text second ++ 58 ∷ pair_text third)) }
+    ensures { OnOk result (out.new.items
+        ≡ out.old.items ++ (pair_text first ++ 58 ∷ pair_text second ++ 58 ∷ pair_text third)) }
 {
     put_pair(out, first)?;
     put(out, b":")?;
@@ -48,7 +49,8 @@ pub fn put_hardware(out: &mut Vec<u8>, number: u64) -> Result<(), AllocError>
 
 /// Puts two numbers at the end with a dot between them.
 fn put_dotted(out: &mut Vec<u8>, first: u64, second: u64) -> Result<(), AllocError>
-    ensures { OnOk result (out.new.items ≡ out.old.items ++ (decimal first ++ 46 ∷ decimal second)) }
+    ensures { OnOk result (out.new.items
+        ≡ out.old.items ++ (decimal first ++ 46 ∷ decimal second)) }
 {
     put_number(out, first)?;
     put(out, b".")?;

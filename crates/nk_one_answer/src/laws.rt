@@ -28,7 +28,8 @@ use nk_uniqueness::laws::switches_have_packets;
 /// For a command and the bytes that it reads at most one answer is right, with its status and all of its text; and so for
 /// words and bytes. So two runs with the same words, over sources with the same bytes left, have one answer fixed.
 pub fn there_is_one_answer()
-    ensures command { (c : Option Command) (bytes : List ℕ) (a b : Answer) → IsAnswerTo c bytes a → IsAnswerTo c bytes b → a ≡ b }
+    ensures command { (c : Option Command) (bytes : List ℕ) (a b : Answer) → IsAnswerTo c bytes a
+        → IsAnswerTo c bytes b → a ≡ b }
     ensures words { (words : List (List ℕ)) (bytes : List ℕ) (a b : Answer)
         → IsAnswerTo (command_of words) bytes a → IsAnswerTo (command_of words) bytes b → a ≡ b }
     ensures runs { (words : List (List ℕ)) (source other : Use) (bytes : List ℕ) (a b : Answer)

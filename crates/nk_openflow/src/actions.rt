@@ -65,7 +65,8 @@ pub(crate) fn push_target(
     header: VlanHeader,
     target: &Target,
 ) -> Result<(), AllocError>
-    ensures { OnOk result (out.new.items ≡ out.old.items ++ specs.target_actions mapping.now header target.now) }
+    ensures { OnOk result (out.new.items
+        ≡ out.old.items ++ specs.target_actions mapping.now header target.now) }
 {
     match target {
         Target::Bucket(bucket) => push_bucket(out, mapping, header, bucket),
@@ -84,7 +85,8 @@ pub(crate) fn push_bucket(
     header: VlanHeader,
     bucket: &Bucket,
 ) -> Result<(), AllocError>
-    ensures { OnOk result (out.new.items ≡ out.old.items ++ specs.bucket_actions mapping.now header bucket.now) }
+    ensures { OnOk result (out.new.items
+        ≡ out.old.items ++ specs.bucket_actions mapping.now header bucket.now) }
 {
     push_sets(out, mapping, header, bucket.sets.as_slice())?;
     push_exit(out, &bucket.exit)
@@ -97,7 +99,8 @@ fn push_sets(
     header: VlanHeader,
     sets: &[(Fid, u64)],
 ) -> Result<(), AllocError>
-    ensures { OnOk result (out.new.items ≡ out.old.items ++ flat_map (specs.set_actions mapping.now header) sets.now) }
+    ensures { OnOk result (out.new.items
+        ≡ out.old.items ++ flat_map (specs.set_actions mapping.now header) sets.now) }
 {
     for (f, value) in sets {
         push_set(out, mapping, header, *f, *value)?;
@@ -113,7 +116,8 @@ fn push_set(
     f: Fid,
     value: u64,
 ) -> Result<(), AllocError>
-    ensures { OnOk result (out.new.items ≡ out.old.items ++ specs.set_actions mapping.now header (f, value)) }
+    ensures { OnOk result (out.new.items
+        ≡ out.old.items ++ specs.set_actions mapping.now header (f, value)) }
 {
     match mapped_at(mapping, f) {
         Some(MatchField::VlanVid) => push_vlan_set(out, mapping.base, header, value),

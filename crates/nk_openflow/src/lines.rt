@@ -14,7 +14,8 @@ use std::alloc::AllocError;
 
 /// Puts the lines of groups.
 pub fn push_groups(out: &mut Vec<u8>, mapping: &Mapping, groups: &[Group]) -> Result<(), AllocError>
-    ensures { OnOk result (out.new.items ≡ out.old.items ++ flat_map (specs.group_line mapping.now) groups.now) }
+    ensures { OnOk result (out.new.items
+        ≡ out.old.items ++ flat_map (specs.group_line mapping.now) groups.now) }
 {
     for group in groups {
         push_group(out, mapping, group)?;
@@ -24,7 +25,8 @@ pub fn push_groups(out: &mut Vec<u8>, mapping: &Mapping, groups: &[Group]) -> Re
 
 /// Puts the line of a group.
 fn push_group(out: &mut Vec<u8>, mapping: &Mapping, group: &Group) -> Result<(), AllocError>
-    ensures { OnOk result (out.new.items ≡ out.old.items ++ specs.group_line mapping.now group.now) }
+    ensures { OnOk result (out.new.items
+        ≡ out.old.items ++ specs.group_line mapping.now group.now) }
 {
     out.extend_from_slice(b"group_id=")?;
     push_number(out, group.number)?;
@@ -36,7 +38,8 @@ fn push_group(out: &mut Vec<u8>, mapping: &Mapping, group: &Group) -> Result<(),
 
 /// Puts the buckets of a group.
 fn push_buckets(out: &mut Vec<u8>, mapping: &Mapping, buckets: &[Bucket]) -> Result<(), AllocError>
-    ensures { OnOk result (out.new.items ≡ out.old.items ++ flat_map (specs.bucket_part mapping.now) buckets.now) }
+    ensures { OnOk result (out.new.items
+        ≡ out.old.items ++ flat_map (specs.bucket_part mapping.now) buckets.now) }
 {
     for bucket in buckets {
         push_bucket_part(out, mapping, bucket)?;
@@ -47,7 +50,8 @@ fn push_buckets(out: &mut Vec<u8>, mapping: &Mapping, buckets: &[Bucket]) -> Res
 /// Puts a bucket of a group.
 #[tactic(auto, unfolding(crate::specs::Lines::bucket_part))]
 fn push_bucket_part(out: &mut Vec<u8>, mapping: &Mapping, bucket: &Bucket) -> Result<(), AllocError>
-    ensures { OnOk result (out.new.items ≡ out.old.items ++ specs.bucket_part mapping.now bucket.now) }
+    ensures { OnOk result (out.new.items
+        ≡ out.old.items ++ specs.bucket_part mapping.now bucket.now) }
 {
     out.extend_from_slice(b",bucket=actions=")?;
     push_bucket(out, mapping, VlanHeader::Unknown, bucket)
@@ -61,7 +65,8 @@ pub fn push_rows(
     ports: &[u16],
     rows: &[Row],
 ) -> Result<(), AllocError>
-    ensures { OnOk result (out.new.items ≡ out.old.items ++ flat_map (specs.row_lines fs.now mapping.now ports.now) rows.now) }
+    ensures { OnOk result (out.new.items
+        ≡ out.old.items ++ flat_map (specs.row_lines fs.now mapping.now ports.now) rows.now) }
 {
     for row in rows {
         push_row(out, fs, mapping, ports, row)?;
@@ -77,7 +82,8 @@ fn push_row(
     ports: &[u16],
     row: &Row,
 ) -> Result<(), AllocError>
-    ensures { OnOk result (out.new.items ≡ out.old.items ++ specs.row_lines fs.now mapping.now ports.now row.now) }
+    ensures { OnOk result (out.new.items
+        ≡ out.old.items ++ specs.row_lines fs.now mapping.now ports.now row.now) }
 {
     match port_match(row.matches.as_slice()) {
         Some(m) if free_digits(fs, &m) == 0 => {
@@ -111,7 +117,8 @@ fn push_ports(
     m: &(Fid, u64, u8),
 ) -> Result<(), AllocError>
     ensures { OnOk result (out.new.items
-        ≡ out.old.items ++ flat_map (specs.line_if_agrees fs.now mapping.now row.now m.now) ports.now) }
+        ≡ out.old.items ++ flat_map
+        (specs.line_if_agrees fs.now mapping.now row.now m.now) ports.now) }
 {
     for port in ports {
         push_port_line(out, fs, mapping, row, m, *port)?;
@@ -155,7 +162,8 @@ fn push_flow(
     row: &Row,
     port: Option<u64>,
 ) -> Result<(), AllocError>
-    ensures { OnOk result (out.new.items ≡ out.old.items ++ specs.flow_line fs.now mapping.now row.now port) }
+    ensures { OnOk result (out.new.items
+        ≡ out.old.items ++ specs.flow_line fs.now mapping.now row.now port) }
 {
     push_flow_head(out, mapping.base, row.priority, port)?;
     push_matches(out, fs, mapping, row.matches.as_slice())?;
@@ -169,7 +177,8 @@ fn push_actions(
     mapping: &Mapping,
     row: &Row,
 ) -> Result<(), AllocError>
-    ensures { OnOk result (out.new.items ≡ out.old.items ++ specs.flow_actions fs.now mapping.now row.now) }
+    ensures { OnOk result (out.new.items
+        ≡ out.old.items ++ specs.flow_actions fs.now mapping.now row.now) }
 {
     let header = header_of(fs, mapping, row.matches.as_slice());
     out.extend_from_slice(b"actions=")?;

@@ -36,7 +36,8 @@ pub fn mapping_of(
     words: &[String],
 ) -> Result<Mapping, MappingError>
     requires { first + length words.now < 2 ^ 64 }
-    ensures { MappingReturns result (specs.mapping_of fs.now base first (map (λ w. string_bytes w) words.now)) }
+    ensures { MappingReturns result
+        (specs.mapping_of fs.now base first (map (λ w. string_bytes w) words.now)) }
 {
     let mut fields = List::new(alloc);
     for (i, word) in words.iter().enumerate() {

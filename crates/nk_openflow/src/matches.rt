@@ -55,7 +55,8 @@ pub(crate) fn push_matches(
     mapping: &Mapping,
     matches: &[(Fid, u64, u8)],
 ) -> Result<(), AllocError>
-    ensures { OnOk result (out.new.items ≡ out.old.items ++ flat_map (specs.flow_match_text fs.now mapping.now) matches.now) }
+    ensures { OnOk result (out.new.items
+        ≡ out.old.items ++ flat_map (specs.flow_match_text fs.now mapping.now) matches.now) }
 {
     for m in matches {
         push_match(out, fs, mapping, m)?;
@@ -70,7 +71,8 @@ fn push_match(
     mapping: &Mapping,
     m: &(Fid, u64, u8),
 ) -> Result<(), AllocError>
-    ensures { OnOk result (out.new.items ≡ out.old.items ++ specs.flow_match_text fs.now mapping.now m.now) }
+    ensures { OnOk result (out.new.items
+        ≡ out.old.items ++ specs.flow_match_text fs.now mapping.now m.now) }
 {
     let (f, value, _) = *m;
     match mapped_at(mapping, f) {
@@ -88,7 +90,8 @@ fn push_mapped(
     free: u8,
 ) -> Result<(), AllocError>
     requires { free ≤ 64 }
-    ensures { OnOk result (out.new.items ≡ out.old.items ++ specs.mapped_text base field value free) }
+    ensures { OnOk result (out.new.items
+        ≡ out.old.items ++ specs.mapped_text base field value free) }
 {
     if value == 0 && free == 0 && matches!(field, MatchField::VlanVid) {
         return out.extend_from_slice(b"vlan_tci=0/0x1fff,");

@@ -18,7 +18,8 @@ use std::alloc::{AllocError, Global};
 /// What the run means to say of a text within the limit.
 pub(crate) fn reply_to_bytes(alloc: Global, head: &Head, words: &[String], bytes: Vec<u8>) -> Reply
     requires room { head.now.count + 1 + length words.now < 2 ^ 64 }
-    ensures { IsReplyOf (IsLinesAnswer head.now (map (λ w. string_bytes w) words.now) bytes.items) result }
+    ensures { IsReplyOf (IsLinesAnswer head.now
+        (map (λ w. string_bytes w) words.now) bytes.items) result }
 {
     match answer_to_bytes(alloc, head, words, &bytes) {
         Ok(said) => Reply::CommandAnswer(said),
@@ -34,7 +35,8 @@ fn answer_to_bytes(
     bytes: &[u8],
 ) -> Result<CommandAnswer, AllocError>
     requires room { head.now.count + 1 + length words.now < 2 ^ 64 }
-    ensures { IfOk result (λ s. IsLinesAnswer head.now (map (λ w. string_bytes w) words.now) bytes.now (outcome_of s)) }
+    ensures { IfOk result (λ s.
+        IsLinesAnswer head.now (map (λ w. string_bytes w) words.now) bytes.now (outcome_of s)) }
 {
     match read_tables(alloc, bytes) {
         Ok(tables) => answer_to_tables(alloc, head, words, &tables),
@@ -68,7 +70,8 @@ fn answer_to_tables(
     t: &Tables,
 ) -> Result<CommandAnswer, AllocError>
     requires room { head.now.count + 1 + length words.now < 2 ^ 64 }
-    ensures { IfOk result (λ s. outcome_of s ≡ specs.of_tables head.now (map (λ w. string_bytes w) words.now) t.now) }
+    ensures { IfOk result (λ s. outcome_of s
+        ≡ specs.of_tables head.now (map (λ w. string_bytes w) words.now) t.now) }
 {
     if !t.topo.is_switch(head.switch) {
         return word_refused(alloc, 1, WordFault::NoSwitch);

@@ -31,7 +31,8 @@ pub fn print_lines<S: Source, O: Sink, E: Sink>(
         (use_of O.taken O.faults out.old out.new)
         (use_of E.taken E.faults err.old err.new) result }
     // No call was made on the source where the words fix the answer.
-    ensures unread { reads (asked (map (λ w. string_bytes w) words.now)) ≡ false → source.new ≡ source.old }
+    ensures unread { reads (asked (map (λ w. string_bytes w) words.now)) ≡ false
+        → source.new ≡ source.old }
     // No call was made on the sink that the answer doesn't go to.
     ensures alone { LeavesAlone result (out.new ≡ out.old) (err.new ≡ err.old) }
 {
@@ -43,7 +44,8 @@ pub fn print_lines<S: Source, O: Sink, E: Sink>(
 fn said_to_words<S: Source>(alloc: Global, words: &[String], source: &mut S) -> FlowsReply
     ensures meant { IsMeant (map (λ w. string_bytes w) words.now)
         (use_of S.left S.faults source.old source.new) (flows_answer_in result) }
-    ensures unread { reads (asked (map (λ w. string_bytes w) words.now)) ≡ false → source.new ≡ source.old }
+    ensures unread { reads (asked (map (λ w. string_bytes w) words.now)) ≡ false
+        → source.new ≡ source.old }
 {
     match head_of(words) {
         Some(head) => FlowsReply::Reply(reply_to_head(alloc, &head, words, source)),
@@ -54,9 +56,11 @@ fn said_to_words<S: Source>(alloc: Global, words: &[String], source: &mut S) -> 
 /// The same where the first words say what is asked for.
 fn reply_to_head<S: Source>(alloc: Global, head: &Head, words: &[String], source: &mut S) -> Reply
     requires within { head.now.count ≤ length words.now }
-    ensures meant { IsFlowsMeantTo (asked_by (Some head.now) (map (λ w. string_bytes w) words.now)) (map (λ w. string_bytes w) words.now)
+    ensures meant { IsFlowsMeantTo (asked_by (Some head.now) (map (λ w. string_bytes w) words.now))
+        (map (λ w. string_bytes w) words.now)
         (use_of S.left S.faults source.old source.new) (replies.answer_in result) }
-    ensures unread { reads (asked_by (Some head.now) (map (λ w. string_bytes w) words.now)) ≡ false → source.new ≡ source.old }
+    ensures unread { reads (asked_by (Some head.now) (map (λ w. string_bytes w) words.now)) ≡ false
+        → source.new ≡ source.old }
 {
     let rest = &words[head.count..];
     match first_word_fault(head.base, head.count as u64 + 1, rest) {
@@ -68,7 +72,8 @@ fn reply_to_head<S: Source>(alloc: Global, head: &Head, words: &[String], source
 /// The same where a word is at fault. Nothing is read.
 fn reply_to_fault(alloc: Global, number: u64, fault: WordFault) -> Reply
     ensures { (left : Option (List ℕ)) (faults : ℕ)
-        → IsMeantByWords (word_answer number fault) (nothing_done left faults) (replies.answer_in result) }
+        → IsMeantByWords (word_answer number fault) (nothing_done left faults)
+        (replies.answer_in result) }
 {
     match word_line(alloc, number, fault) {
         Ok(line) => Reply::CommandAnswer(CommandAnswer::Refused(line)),

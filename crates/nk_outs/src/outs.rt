@@ -175,7 +175,9 @@ fn put_outs(
     requires id { IsId st.old d }
     requires seen { AreByOut st.old seen.old.entries }
     ensures grows { Grows st.old st.new }
-    ensures ok { OnOk result ((es : Items Given) × IsByOut st.new d es × (all.new ≡ all.old ++ map (stretch from end) es)) }
+    ensures ok { OnOk result
+        ((es : Items Given) × IsByOut st.new d es
+        × (all.new ≡ all.old ++ map (stretch from end) es)) }
     ensures seen { OnOk result (AreByOut st.new seen.new.entries) }
 {
     match tested(st, d) {
@@ -198,7 +200,9 @@ fn put_leaf(
     requires id { IsId st.old d }
     requires leaf { root_field st.old d ≡ 18 }
     ensures grows { Grows st.old st.new }
-    ensures ok { OnOk result ((es : Items Given) × IsByOut st.new d es × (all.new ≡ all.old ++ map (stretch from end) es)) }
+    ensures ok { OnOk result
+        ((es : Items Given) × IsByOut st.new d es
+        × (all.new ≡ all.old ++ map (stretch from end) es)) }
 {
     let packets = identity(st)?;
     match st.view(d) {
@@ -215,7 +219,8 @@ fn put_each(
     end: u64,
     all: &mut List<Stretch>,
 ) -> Result<(), AllocError>
-    ensures { OnOk result (all.new ≡ all.old ++ map (stretch from end) (map (given packets) outs.now)) }
+    ensures { OnOk result (all.new
+        ≡ all.old ++ map (stretch from end) (map (given packets) outs.now)) }
 {
     for o in outs {
         all.push(Stretch {
@@ -236,7 +241,8 @@ fn put_known(
     end: u64,
     all: &mut List<Stretch>,
 ) -> Result<(), AllocError>
-    ensures { OnOk result (all.new ≡ all.old ++ stretches from end (lookup (eqb d) seen.now.entries)) }
+    ensures { OnOk result (all.new
+        ≡ all.old ++ stretches from end (lookup (eqb d) seen.now.entries)) }
 {
     match seen.get(&d) {
         Some(es) => put_all(es.as_slice(), from, end, all),

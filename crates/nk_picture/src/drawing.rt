@@ -27,7 +27,8 @@ pub(crate) fn drawing(alloc: Global, topo: &Topo, way: &[Place]) -> Result<Vec<u
 
 /// The switches.
 fn push_switches(out: &mut Vec<u8>, topo: &Topo) -> Result<(), AllocError>
-    ensures { OnOk result (out.new.items ≡ out.old.items ++ flat_map (specs.switch_lines topo.now) (numbers_of topo.now)) }
+    ensures { OnOk result (out.new.items
+        ≡ out.old.items ++ flat_map (specs.switch_lines topo.now) (numbers_of topo.now)) }
 {
     let numbers = topo.switches();
     for number in numbers {
@@ -52,7 +53,8 @@ fn push_switch(out: &mut Vec<u8>, topo: &Topo, sw: u16) -> Result<(), AllocError
 
 /// The ports of a switch.
 fn push_ports(out: &mut Vec<u8>, topo: &Topo, sw: u16) -> Result<(), AllocError>
-    ensures { OnOk result (out.new.items ≡ out.old.items ++ flat_map (specs.port_line topo.now sw) (ports_of topo.now sw)) }
+    ensures { OnOk result (out.new.items
+        ≡ out.old.items ++ flat_map (specs.port_line topo.now sw) (ports_of topo.now sw)) }
 {
     let ports = topo.ports(sw);
     for port in ports {
@@ -88,7 +90,8 @@ fn edge_mark(topo: &Topo, sw: u16, pt: u16) -> &'static [u8]
 
 /// The links.
 fn push_links(out: &mut Vec<u8>, topo: &Topo) -> Result<(), AllocError>
-    ensures { OnOk result (out.new.items ≡ out.old.items ++ flat_map specs.link_arrow topo.now.links) }
+    ensures { OnOk result (out.new.items
+        ≡ out.old.items ++ flat_map specs.link_arrow topo.now.links) }
 {
     let links = topo.links();
     for link in links {

@@ -31,7 +31,8 @@ pub fn draw<S: Source, O: Sink, E: Sink>(
         (use_of O.taken O.faults out.old out.new)
         (use_of E.taken E.faults err.old err.new) result }
     // No call was made on the source where a word is neither heading nor packet.
-    ensures unread { asks_for_text (specs.way_of_words (map (λ w. string_bytes w) words.now)) ≡ false
+    ensures unread { asks_for_text (specs.way_of_words (map (λ w. string_bytes w) words.now))
+        ≡ false
         → source.new ≡ source.old }
     // No call was made on the sink that the answer doesn't go to.
     ensures alone { LeavesAlone result (out.new ≡ out.old) (err.new ≡ err.old) }
@@ -44,7 +45,8 @@ pub fn draw<S: Source, O: Sink, E: Sink>(
 fn reply_to_words<S: Source>(alloc: Global, words: &[String], source: &mut S) -> Reply
     ensures meant { IsMeantWith (specs.way_of_words (map (λ w. string_bytes w) words.now))
         (use_of S.left S.faults source.old source.new) (answer_in result) }
-    ensures unread { asks_for_text (specs.way_of_words (map (λ w. string_bytes w) words.now)) ≡ false
+    ensures unread { asks_for_text (specs.way_of_words (map (λ w. string_bytes w) words.now))
+        ≡ false
         → source.new ≡ source.old }
 {
     match way_of(alloc, words) {
@@ -59,7 +61,8 @@ fn reply_to_words<S: Source>(alloc: Global, words: &[String], source: &mut S) ->
 
 /// The same of a way.
 fn reply_to_way<S: Source>(alloc: Global, way: &[Place], source: &mut S) -> Reply
-    ensures { IsMeantWith (Ok way.now) (use_of S.left S.faults source.old source.new) (answer_in result) }
+    ensures { IsMeantWith (Ok way.now) (use_of S.left S.faults source.old source.new)
+        (answer_in result) }
 {
     match read_all(alloc, source, LONGEST) {
         Ok(bytes) => reply_to_text(alloc, way, bytes),

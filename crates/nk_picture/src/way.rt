@@ -26,7 +26,8 @@ pub(crate) enum Way {
 /// The way of the words: the place of each packet, in order. The words `start` and `history` are left out. The only error is
 /// that memory ran out.
 pub(crate) fn way_of(alloc: Global, words: &[String]) -> Result<Way, AllocError>
-    ensures { IfOk result (λ w. way_in w ≡ specs.way_of_words (map (λ w. string_bytes w) words.now)) }
+    ensures { IfOk result (λ w. way_in w
+        ≡ specs.way_of_words (map (λ w. string_bytes w) words.now)) }
 {
     let mut places = Vec::new(alloc);
     for (i, word) in words.iter().enumerate() {
@@ -39,7 +40,8 @@ pub(crate) fn way_of(alloc: Global, words: &[String]) -> Result<Way, AllocError>
 
 /// Adds the places that a word gives, and says whether it is a heading or a packet.
 fn add_places(alloc: Global, places: &mut Vec<Place>, word: &str) -> Result<bool, AllocError>
-    ensures { IfOk result (λ known. Added known places.old.items places.new.items (places_of word.now)) }
+    ensures { IfOk result (λ known.
+        Added known places.old.items places.new.items (places_of word.now)) }
 {
     if is_heading(word) {
         return Ok(true);
@@ -70,7 +72,8 @@ fn place_of(alloc: Global, word: &str) -> Result<Option<Place>, AllocError>
 
 /// The items of a text.
 fn items_of<'a>(alloc: Global, text: &'a str) -> Result<Vec<&'a str>, AllocError>
-    ensures { IfOk result (λ items. map (λ i. i.now) items.items ≡ slice_split (λ b. b == 44) text.now) }
+    ensures { IfOk result (λ items. map (λ i. i.now) items.items
+        ≡ slice_split (λ b. b == 44) text.now) }
 {
     text.split(',').collect(alloc)
 }

@@ -76,7 +76,8 @@ fn push_some(
     ps: &[Pol],
     h: &History,
 ) -> Result<(), AllocError>
-    ensures { OnOk result (out.new.items ≡ out.old.items ++ histories_of_some (trees_of ps.now) h.now) }
+    ensures { OnOk result (out.new.items
+        ≡ out.old.items ++ histories_of_some (trees_of ps.now) h.now) }
 {
     for q in ps {
         push_histories(alloc, out, q, h)?;
@@ -92,7 +93,8 @@ fn push_all(
     ps: &[Pol],
     h: &History,
 ) -> Result<(), AllocError>
-    ensures { OnOk result (out.new.items ≡ out.old.items ++ histories_of_all (trees_of ps.now) h.now) }
+    ensures { OnOk result (out.new.items
+        ≡ out.old.items ++ histories_of_all (trees_of ps.now) h.now) }
 {
     let mut current = Vec::new(alloc);
     current.push(h.copy()?)?;

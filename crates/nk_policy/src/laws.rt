@@ -42,7 +42,8 @@ pub fn a_run_splits()
         → Runs p pk (u ++ (x, l) ∷ v) y ↔ (RecordsAt p pk u x l × Runs (after p l) x v y) }
     ensures so_far { (p : Policy) → HasDistinct p
         → (pk : Packet) (u : Marked) (x : Packet) (l : ℕ) (v : Marked) (y : Packet) (l' : ℕ)
-        → RecordsAt p pk (u ++ (x, l) ∷ v) y l' ↔ (RecordsAt p pk u x l × RecordsAt (after p l) x v y l') }
+        → RecordsAt p pk (u ++ (x, l) ∷ v) y l' ↔
+        (RecordsAt p pk u x l × RecordsAt (after p l) x v y l') }
 {}
 
 /// A run of what is left after dup k splits in the same way, and the second run is of what is left of the whole policy.
@@ -65,7 +66,8 @@ pub fn first_step()
         → Runs p pk ((x, l) ∷ v) y ↔ (RecordsAt p pk [] x l × Runs (after p l) x v y) }
     ensures so_far { (p : Policy) → HasDistinct p
         → (pk x : Packet) (l : ℕ) (v : Marked) (y : Packet) (l' : ℕ)
-        → RecordsAt p pk ((x, l) ∷ v) y l' ↔ (RecordsAt p pk [] x l × RecordsAt (after p l) x v y l') }
+        → RecordsAt p pk ((x, l) ∷ v) y l' ↔
+        (RecordsAt p pk [] x l × RecordsAt (after p l) x v y l') }
 {}
 
 /// Next step: a run of what is left after k whose next record is y at l is a run so far to there, followed by a run of
@@ -73,7 +75,8 @@ pub fn first_step()
 pub fn next_step()
     ensures complete { (p : Policy) → HasDistinct p
         → (k : ℕ) (x y : Packet) (l : ℕ) (v : Marked) (z : Packet)
-        → Runs (after p k) x ((y, l) ∷ v) z ↔ (RecordsAt (after p k) x [] y l × Runs (after p l) y v z) }
+        → Runs (after p k) x ((y, l) ∷ v) z ↔
+        (RecordsAt (after p k) x [] y l × Runs (after p l) y v z) }
     ensures so_far { (p : Policy) → HasDistinct p
         → (k : ℕ) (x y : Packet) (l : ℕ) (v : Marked) (z : Packet) (l' : ℕ)
         → RecordsAt (after p k) x ((y, l) ∷ v) z l'
@@ -85,7 +88,8 @@ pub fn next_step()
 pub fn last_step()
     ensures step { (p : Policy) → HasDistinct p
         → (pk : Packet) (u : Marked) (x : Packet) (l : ℕ) (y : Packet) (l' : ℕ)
-        → RecordsAt p pk (u ++ (x, l) ∷ []) y l' ↔ (RecordsAt p pk u x l × RecordsAt (after p l) x [] y l') }
+        → RecordsAt p pk (u ++ (x, l) ∷ []) y l' ↔
+        (RecordsAt p pk u x l × RecordsAt (after p l) x [] y l') }
     ensures end { (p : Policy) → HasDistinct p
         → (pk : Packet) (u : Marked) (x : Packet) (l : ℕ) (y : Packet)
         → Runs p pk (u ++ (x, l) ∷ []) y ↔ (RecordsAt p pk u x l × Runs (after p l) x [] y) }
@@ -180,7 +184,8 @@ pub fn links_take_turns()
     ensures on_link { (p : Policy) → HasDistinct p
         → (k : Literal) → HoldsLiteral p k → IsOnLink k (after p k.mark) }
     ensures off_link { (p : Policy) → HasDistinct p → has_leaf is_dup p ≡ false
-        → (k : Literal) → HoldsLiteral p k → RecordsAtSources (HoldsLiteral p) (after p (k.mark + 1)) }
+        → (k : Literal) → HoldsLiteral p k
+        → RecordsAtSources (HoldsLiteral p) (after p (k.mark + 1)) }
     ensures start_stays { (p : Policy)
         → has_leaf is_dup p ≡ false → has_leaf is_switch_assignment p ≡ false
         → IsBetween (HoldsLiteral p) p }
@@ -193,20 +198,24 @@ pub fn links_take_turns()
 /// even.
 pub fn records_alternate()
     ensures odd { (p : Policy) → HasDistinct p → has_leaf is_dup p ≡ false
-        → (n : ℕ) (pk : Packet) (u : List Packet) (l : ℕ) → length u ≡ 2 * n + 1 → HasRecorded p pk u l
+        → (n : ℕ) (pk : Packet) (u : List Packet) (l : ℕ) → length u ≡ 2 * n + 1
+        → HasRecorded p pk u l
         → (k : Literal) × HoldsLiteral p k × (k.mark ≡ l)
         × ((front : List Packet) × (x : Packet) × (u ≡ front ++ x ∷ []) × IsAtSource k x) }
     ensures even { (p : Policy) → HasDistinct p → has_leaf is_dup p ≡ false
-        → (n : ℕ) (pk : Packet) (u : List Packet) (l : ℕ) → length u ≡ 2 * n + 2 → HasRecorded p pk u l
+        → (n : ℕ) (pk : Packet) (u : List Packet) (l : ℕ) → length u ≡ 2 * n + 2
+        → HasRecorded p pk u l
         → (k : Literal) × HoldsLiteral p k × (k.mark + 1 ≡ l) }
     ensures histories { (p : Policy) → HasDistinct p → has_leaf is_dup p ≡ false
-        → (pk : Packet) (w : List Packet) (z : Packet) → Gives p pk w z → (n : ℕ) × (length w ≡ 2 * n) }
+        → (pk : Packet) (w : List Packet) (z : Packet) → Gives p pk w z → (n : ℕ)
+        × (length w ≡ 2 * n) }
 {}
 
 /// A policy that is numbered from n on has the numbers n, n + 1 and so on in text order, so its dups have different
 /// numbers; and two policies of which one is numbered after the other share none.
 pub fn numbered_dups_differ()
-    ensures in_order { (p : Policy) (n : ℕ) → numbers_of (marked_from p n) ≡ range_with_len n (dups_of p) }
+    ensures in_order { (p : Policy) (n : ℕ)
+        → numbers_of (marked_from p n) ≡ range_with_len n (dups_of p) }
     ensures listed { (p : Policy) (l : ℕ) → Contains (numbers_of p) l ↔ (has_dup p l ≡ true) }
     ensures distinct { (p : Policy) (n : ℕ) → marked_from p n ≡ p → HasDistinct p }
     ensures apart { (p q : Policy) (n m : ℕ) → marked_from p n ≡ p → marked_from q m ≡ q
@@ -244,7 +253,8 @@ pub fn written_out_links_keep()
 /// A policy over the fields sets them to values in range, and is still over them when it is numbered anew, when its link
 /// literals are written out, and in what is left of it after a dup.
 pub fn policies_stay_over_fields()
-    ensures in_range { (fields : FieldTable) (p : Policy) → IsOverFields fields p → IsInRange p fields }
+    ensures in_range { (fields : FieldTable) (p : Policy) → IsOverFields fields p
+        → IsInRange p fields }
     ensures numbered { (fields : FieldTable) (p : Policy) (n : ℕ)
         → IsOverFields fields (marked_from p n) ↔ IsOverFields fields p }
     ensures written_out { (fields : FieldTable) (p : Policy)
@@ -288,7 +298,8 @@ pub fn worked_histories()
     ensures record_then_set { HasHistories (seq2 (dup 1) (assign 1 2))
         (ending (packet 1 1 3 ∷ []) (packet 1 2 3) ∷ []) }
     ensures sum_then_record { HasHistories (seq2 (sum2 (assign 1 1) (assign 1 2)) (dup 1))
-        (ending (packet 1 1 3 ∷ []) (packet 1 1 3) ∷ ending (packet 1 2 3 ∷ []) (packet 1 2 3) ∷ []) }
+        (ending (packet 1 1 3 ∷ []) (packet 1 1 3) ∷ ending (packet 1 2 3 ∷ []) (packet 1 2 3)
+        ∷ []) }
     ensures link_from_here { HasHistories (link 1 1 2 5 1)
         (ending (packet 1 1 3 ∷ packet 2 5 3 ∷ []) (packet 2 5 3) ∷ []) }
     ensures link_from_elsewhere { Drops (link 1 2 2 1 1) }

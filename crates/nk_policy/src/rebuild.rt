@@ -50,7 +50,8 @@ fn renumbered(alloc: Global, p: &Pol, next: &mut u64) -> Result<Pol, AllocError>
 #[tactic(auto, using(crate::proofs::Trees::joined_push, crate::proofs::Trees::joined_none))]
 fn all_renumbered(alloc: Global, ps: &[Pol], next: &mut u64) -> Result<Vec<Pol>, AllocError>
     requires fit { next.old + dups_of_all (trees_of ps.now) ≤ 2 ^ 32 }
-    ensures trees { IfOk result (λ qs. trees_of qs.items ≡ all_marked_from (trees_of ps.now) next.old) }
+    ensures trees { IfOk result
+        (λ qs. trees_of qs.items ≡ all_marked_from (trees_of ps.now) next.old) }
     ensures next { OnOk result (next.new ≡ next.old + dups_of_all (trees_of ps.now)) }
 {
     let mut out = Vec::with_capacity(alloc, ps.len())?;

@@ -126,7 +126,8 @@ fn push_range(
     ends: (u64, u64),
 ) -> Result<(), AllocError>
     ensures { OnOk result (out.new.items
-        ≡ out.old.items ++ (name_of fields.now f ++ codes " in " ++ decimal ends.0 ++ codes ".." ++ decimal ends.1)) }
+        ≡ out.old.items ++ (name_of fields.now f ++ codes " in " ++ decimal ends.0 ++ codes ".."
+        ++ decimal ends.1)) }
 {
     push_field(out, fields, f, b" in ", ends.0)?;
     out.extend_from_slice(b"..")?;

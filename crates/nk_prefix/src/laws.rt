@@ -17,14 +17,16 @@ pub fn prefixes_are_intervals()
 /// The block at a value is the largest that is aligned and doesn't go past the end.
 pub fn blocks_are_largest()
     ensures fit { (v end digits : ℕ) → v ≤ end → fits v end (largest_fit v end digits) ≡ true }
-    ensures most { (v end digits k : ℕ) → k ≤ digits → fits v end k ≡ true → k ≤ largest_fit v end digits }
+    ensures most { (v end digits k : ℕ) → k ≤ digits → fits v end k ≡ true
+        → k ≤ largest_fit v end digits }
 {}
 
 /// The blocks of an interval ascend and are disjoint, each within it, aligned, and with one shared digit or more unless
 /// the interval is all values. There are at most two for each digit. A single value is one block of all digits.
 pub fn blocks_are_aligned()
     ensures ascend { (lo hi max : ℕ) → BlocksAscend max lo (blocks_of lo hi max) }
-    ensures each { (lo hi max : ℕ) (b : ℕ × ℕ) → hi ≤ max → Contains (blocks_of lo hi max) b → IsBlockOf lo hi max b }
+    ensures each { (lo hi max : ℕ) (b : ℕ × ℕ) → hi ≤ max → Contains (blocks_of lo hi max) b
+        → IsBlockOf lo hi max b }
     ensures few { (lo hi max : ℕ) → hi ≤ max → length (blocks_of lo hi max) ≤ 2 * digits_of max }
     ensures single { (v max : ℕ) → v ≤ max → blocks_of v v max ≡ (v, digits_of max) ∷ [] }
 {}
@@ -32,14 +34,18 @@ pub fn blocks_are_aligned()
 /// A value in range is in exactly one block of an interval where the interval has it, and in none where it hasn't.
 pub fn blocks_cover()
     ensures count { (lo hi max n : ℕ) → hi ≤ max → n ≤ max
-        → count_by (is_in_block max n) (blocks_of lo hi max) ≡ (if nat_le lo n && nat_le n hi then 1 else 0) }
-    ensures within { (lo hi max n : ℕ) (b : ℕ × ℕ) → hi ≤ max → n ≤ max → Contains (blocks_of lo hi max) b
+        → count_by (is_in_block max n) (blocks_of lo hi max)
+        ≡ (if nat_le lo n && nat_le n hi then 1 else 0) }
+    ensures within { (lo hi max n : ℕ) (b : ℕ × ℕ) → hi ≤ max → n ≤ max
+        → Contains (blocks_of lo hi max) b
         → is_in_block max n b ≡ true → (lo ≤ n) × (n ≤ hi) }
     ensures found { (lo hi max n : ℕ) → hi ≤ max → lo ≤ n → n ≤ hi
         → (b : ℕ × ℕ) × Contains (blocks_of lo hi max) b × (is_in_block max n b ≡ true) }
-    ensures alone { (lo hi max n : ℕ) (b c : ℕ × ℕ) → Contains (blocks_of lo hi max) b → Contains (blocks_of lo hi max) c
+    ensures alone { (lo hi max n : ℕ) (b c : ℕ × ℕ) → Contains (blocks_of lo hi max) b
+        → Contains (blocks_of lo hi max) c
         → is_in_block max n b ≡ true → is_in_block max n c ≡ true → b ≡ c }
-    ensures apart { (lo hi lo' hi' max n : ℕ) (b c : ℕ × ℕ) → hi < lo' → hi' ≤ max → n ≤ max → hi ≤ max
+    ensures apart { (lo hi lo' hi' max n : ℕ) (b c : ℕ × ℕ) → hi < lo' → hi' ≤ max → n ≤ max
+        → hi ≤ max
         → Contains (blocks_of lo hi max) b → Contains (blocks_of lo' hi' max) c
         → is_in_block max n b ≡ true → is_in_block max n c ≡ true → ⊥ }
 {}

@@ -31,7 +31,8 @@ pub fn ask(alloc: Global, program: &Program, query: &Query) -> Result<Answer, Qu
 /// Whether a question has a history.
 fn answer_of(alloc: Global, fields: &Fields, q: &Pol) -> Result<Answer, AllocError>
     requires { IsFitFor fields.now (tree_of q.now) }
-    ensures { IfOk result (λ a. (x : Question) → rest_are_predicates x ≡ true → tree_of q.now ≡ asked_policy x → IsQueryResult fields.now x a) }
+    ensures { IfOk result (λ a. (x : Question) → rest_are_predicates x ≡ true
+        → tree_of q.now ≡ asked_policy x → IsQueryResult fields.now x a) }
 {
     let nothing = dropping(alloc);
     match compare_policies(alloc, fields, q, &nothing)? {

@@ -42,7 +42,8 @@ pub(crate) fn waypoint(
 ) -> Result<Pol, QueryError>
     requires numbered { marked_from (tree_of p) 1 ≡ tree_of p }
     requires marks { MarksBelow (tree_of p) (2 ^ 32 - 1) }
-    ensures { MakesQuestion (waypoint_of (tree_of p) (tree_of from) (tree_of middle.now) (tree_of target)) result }
+    ensures { MakesQuestion (waypoint_of (tree_of p) (tree_of from) (tree_of middle.now)
+        (tree_of target)) result }
 {
     if !is_predicate(&from) || !is_predicate(middle) || !is_predicate(&target) {
         return Err(QueryError::NotAPredicate);
@@ -57,7 +58,8 @@ pub(crate) fn waypoint(
 /// The question of `apart`.
 #[tactic(auto, using(nk_policy::proofs::Trees::tree_of_seq))]
 fn framed(alloc: Global, p: Pol, from: Pol, target: Pol) -> Result<Pol, AllocError>
-    ensures { IfOk result (λ q. tree_of q ≡ apart_question (tree_of p) (tree_of from) (tree_of target)) }
+    ensures { IfOk result (λ q. tree_of q
+        ≡ apart_question (tree_of p) (tree_of from) (tree_of target)) }
 {
     let parts = vec![in alloc; from, p, target]?;
     Ok(Pol::Seq(Pols::new(parts)))

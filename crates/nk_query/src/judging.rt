@@ -30,7 +30,8 @@ pub fn check_query(
     certificate: &Certificate,
 ) -> Result<Verdict, QueryError>
     requires { HasPredicates (certificate_value certificate.now) }
-    ensures { IsQueryChecked program.now (asked_in query.now) (certificate_value certificate.now) result }
+    ensures { IsQueryChecked program.now (asked_in query.now)
+        (certificate_value certificate.now) result }
 {
     match question(alloc, program, query) {
         Ok(q) => Ok(verdict_of(alloc, &program.fields, &q, certificate)?),
@@ -47,7 +48,8 @@ fn verdict_of(
 ) -> Result<Verdict, AllocError>
     requires fit { IsFitFor fields.now (tree_of q.now) }
     requires predicates { HasPredicates (certificate_value certificate.now) }
-    ensures { IfOk result (λ v. (x : Question) → rest_are_predicates x ≡ true → tree_of q.now ≡ asked_policy x
+    ensures { IfOk result (λ v. (x : Question) → rest_are_predicates x ≡ true
+        → tree_of q.now ≡ asked_policy x
         → IsJudgedFor fields.now x (certificate_value certificate.now) (finding_of v)) }
 {
     let nothing = dropping(alloc);

@@ -67,7 +67,8 @@ fn named_waypoint(
     middle: &str,
     target: &str,
 ) -> Result<Pol, QueryError>
-    ensures is { IsQuestion program.now (asks_waypoint name.now from.now middle.now target.now) result }
+    ensures is { IsQuestion program.now
+        (asks_waypoint name.now from.now middle.now target.now) result }
     ensures fit { IfOk result (λ q. IsFitFor program.now.fields (tree_of q)) }
 {
     let Some(over) = program.find(name) else {

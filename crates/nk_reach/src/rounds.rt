@@ -29,7 +29,9 @@ pub fn next_level(
     requires last { ArePairs st.old ss.old (length states.now) last.now }
     ensures grows { Grows st.old st.new }
     ensures sets { SetsGrow ss.old ss.new }
-    ensures ok { IfOk result (λ level. IsNextLevel st.old ss.old states.now met.now.entries last.now st.new ss.new level) }
+    ensures ok { IfOk result
+        (λ level. IsNextLevel st.old ss.old states.now met.now.entries last.now st.new ss.new
+        level) }
 {
     let found = follow_level(st, ss, states, last)?;
     let raw = listed(st.alloc(), found)?;

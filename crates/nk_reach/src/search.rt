@@ -33,10 +33,14 @@ pub fn levels<G: Goal>(
     requires packets { IsSet st.old start }
     ensures grows { Grows st.old st.new }
     ensures sets { SetsGrow ss.old ss.new }
-    ensures ok { IfOk result (λ l. AreLevels st.old st.new ss.new states.now s start (G.violations_of g.old st.old) l.levels l.broken) }
+    ensures ok { IfOk result
+        (λ l. AreLevels st.old st.new ss.new states.now s start
+        (G.violations_of g.old st.old) l.levels l.broken) }
     ensures fits { OnOk result (G.fits g.new st.new) }
     ensures labels { OnOk result (G.labels g.new ≡ G.labels g.old) }
-    ensures same { OnOk result ((st : StoreState) (set pk : Items ℕ) → G.violations_of g.new st set pk ≡ G.violations_of g.old st set pk) }
+    ensures same { OnOk result
+        ((st : StoreState) (set pk : Items ℕ)
+        → G.violations_of g.new st set pk ≡ G.violations_of g.old st set pk) }
 {
     let mut met = IndexMap::new(st.alloc());
     let mut all = List::new(st.alloc());
@@ -66,10 +70,14 @@ fn put_levels<G: Goal>(
     requires no_level { all.old ≡ [] }
     ensures grows { Grows st.old st.new }
     ensures sets { SetsGrow ss.old ss.new }
-    ensures ok { IfOk result (λ b. AreLevels st.old st.new ss.new states.now s start (G.violations_of g.old st.old) all.new b) }
+    ensures ok { IfOk result
+        (λ b. AreLevels st.old st.new ss.new states.now s start
+        (G.violations_of g.old st.old) all.new b) }
     ensures fits { OnOk result (G.fits g.new st.new) }
     ensures labels { OnOk result (G.labels g.new ≡ G.labels g.old) }
-    ensures same { OnOk result ((st : StoreState) (set pk : Items ℕ) → G.violations_of g.new st set pk ≡ G.violations_of g.old st set pk) }
+    ensures same { OnOk result
+        ((st : StoreState) (set pk : Items ℕ)
+        → G.violations_of g.new st set pk ≡ G.violations_of g.old st set pk) }
 {
     met.insert(s, start)?;
     all.push(first_level(st.alloc(), s, start)?)?;

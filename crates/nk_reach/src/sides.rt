@@ -66,9 +66,14 @@ impl OneSide {
         ensures grows { Grows st.old st.new }
         ensures ids { IfOk result (λ g. AreIds st.new g.ends) }
         ensures fits { IfOk result (λ g. IsPropertyOfEnds st.new g.ends g.seen.entries) }
-        ensures marked { IfOk result (λ g. AreSideFinals st.old states.now left right bound (length states.now) st.new g.ends) }
-        ensures alone { IfOk result (λ g. (set pk : Items ℕ) → AreLabelsBelow (length states.now) set → IsStorePacket st.old pk →
-            AreOneSided st.old states.now left right bound set pk (alone (ends_of st.new g.ends set pk))) }
+        ensures marked { IfOk result
+            (λ g. AreSideFinals st.old states.now left right bound
+            (length states.now) st.new g.ends) }
+        ensures alone { IfOk result
+            (λ g. (set pk : Items ℕ) → AreLabelsBelow (length states.now) set
+            → IsStorePacket st.old pk →
+            AreOneSided st.old states.now left right bound set pk
+            (alone (ends_of st.new g.ends set pk))) }
     {
         st.laws();
         let mut marks = MarkedStates::new(st.alloc());
@@ -119,8 +124,12 @@ fn marked_state(
     requires of_left { AreFinalsOfSide st.old 1 marks.old.left.entries }
     requires of_right { AreFinalsOfSide st.old 2 marks.old.right.entries }
     ensures grows { Grows st.old st.new }
-    ensures start { IfOk result (λ d. l ≡ 0 → HasLeaves st.new d (λ pk. merged (finals_of_side st.old left 1 pk) (finals_of_side st.old right 2 pk))) }
-    ensures rest { IfOk result (λ d. 0 < l → HasLeaves st.new d (λ pk. finals_of_side st.old (slice_index states.now l) (label_side bound l) pk)) }
+    ensures start { IfOk result
+        (λ d. l ≡ 0 → HasLeaves st.new d
+        (λ pk. merged (finals_of_side st.old left 1 pk) (finals_of_side st.old right 2 pk))) }
+    ensures rest { IfOk result
+        (λ d. 0 < l → HasLeaves st.new d
+        (λ pk. finals_of_side st.old (slice_index states.now l) (label_side bound l) pk)) }
     ensures of_left { OnOk result (AreFinalsOfSide st.new 1 marks.new.left.entries) }
     ensures of_right { OnOk result (AreFinalsOfSide st.new 2 marks.new.right.entries) }
 {
@@ -136,7 +145,9 @@ fn marked_starts(st: &mut Store, left: Id, right: Id) -> Result<Id, AllocError>
     requires left { IsId st.old left }
     requires right { IsId st.old right }
     ensures grows { Grows st.old st.new }
-    ensures ok { IfOk result (λ d. HasLeaves st.new d (λ pk. merged (finals_of_side st.old left 1 pk) (finals_of_side st.old right 2 pk))) }
+    ensures ok { IfOk result
+        (λ d. HasLeaves st.new d
+        (λ pk. merged (finals_of_side st.old left 1 pk) (finals_of_side st.old right 2 pk))) }
 {
     let first = marked_ends(st, left, 1)?;
     let second = marked_ends(st, right, 2)?;
@@ -155,7 +166,8 @@ fn marked_label(
     requires of_left { AreFinalsOfSide st.old 1 marks.old.left.entries }
     requires of_right { AreFinalsOfSide st.old 2 marks.old.right.entries }
     ensures grows { Grows st.old st.new }
-    ensures ok { IfOk result (λ r. HasLeaves st.new r (λ pk. finals_of_side st.old state (label_side bound l) pk)) }
+    ensures ok { IfOk result
+        (λ r. HasLeaves st.new r (λ pk. finals_of_side st.old state (label_side bound l) pk)) }
     ensures of_left { OnOk result (AreFinalsOfSide st.new 1 marks.new.left.entries) }
     ensures of_right { OnOk result (AreFinalsOfSide st.new 2 marks.new.right.entries) }
 {

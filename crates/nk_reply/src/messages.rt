@@ -28,7 +28,8 @@ pub fn push_found(
     start: &Packet,
     history: &History,
 ) -> Result<(), AllocError>
-    ensures { OnOk result (out.new.items ≡ out.old.items ++ way_lines fields.now start.now history.now) }
+    ensures { OnOk result (out.new.items
+        ≡ out.old.items ++ way_lines fields.now start.now history.now) }
 {
     push_start(alloc, out, fields, start)?;
     let packets = history_text(alloc, fields, history, true)?;

@@ -43,7 +43,8 @@ pub enum Reply {
 impl Reply {
     /// The answer where not all of the input was read.
     pub fn unread(error: ReadError) -> Reply
-        ensures { (source : Use) → IsCause limit source.old source.new source.before source.now error
+        ensures { (source : Use)
+            → IsCause limit source.old source.new source.before source.now error
             → IsUnread source (answer_in result) }
     {
         match error {

@@ -18,8 +18,10 @@ pub fn at_packets(st: &mut Store, s: Id, d: Id) -> Result<Id, AllocError>
     requires set { IsId st.old s }
     requires diagram { IsId st.old d }
     ensures grows { Grows st.old st.new }
-    ensures ok { IfOk result (λ r. HasLeaves st.new r (λ pk. guarded (look st.old s pk) (look st.old d pk))) }
-    ensures later { IfOk result (λ r. min (root_field st.old s) (root_field st.old d) ≤ root_field st.new r) }
+    ensures ok { IfOk result
+        (λ r. HasLeaves st.new r (λ pk. guarded (look st.old s pk) (look st.old d pk))) }
+    ensures later { IfOk result
+        (λ r. min (root_field st.old s) (root_field st.old d) ≤ root_field st.new r) }
 {
     if let Some(r) = known_later(st, s, d) {
         return Ok(r);
@@ -52,8 +54,10 @@ fn cut_case(st: &mut Store, f: Fid, s: Id, d: Id) -> Result<Id, AllocError>
     requires diagram { IsId st.old d }
     requires first { IsFirst st.old s d f }
     ensures grows { Grows st.old st.new }
-    ensures ok { IfOk result (λ r. HasLeaves st.new r (λ pk. guarded (look st.old s pk) (look st.old d pk))) }
-    ensures later { IfOk result (λ r. min (root_field st.old s) (root_field st.old d) ≤ root_field st.new r) }
+    ensures ok { IfOk result
+        (λ r. HasLeaves st.new r (λ pk. guarded (look st.old s pk) (look st.old d pk))) }
+    ensures later { IfOk result
+        (λ r. min (root_field st.old s) (root_field st.old d) ≤ root_field st.new r) }
 {
     let parts = cut_parts(st, f, s, d)?;
     let r = st.case(f, parts)?;
@@ -65,8 +69,10 @@ fn cut_case(st: &mut Store, f: Fid, s: Id, d: Id) -> Result<Id, AllocError>
 fn known_later(st: &Store, s: Id, d: Id) -> Option<Id>
     requires set { IsId st.now s }
     requires diagram { IsId st.now d }
-    ensures leaves { IfSome result (λ r. HasLeaves st.now r (λ pk. guarded (look st.now s pk) (look st.now d pk))) }
-    ensures later { IfSome result (λ r. min (root_field st.now s) (root_field st.now d) ≤ root_field st.now r) }
+    ensures leaves { IfSome result
+        (λ r. HasLeaves st.now r (λ pk. guarded (look st.now s pk) (look st.now d pk))) }
+    ensures later { IfSome result
+        (λ r. min (root_field st.now s) (root_field st.now d) ≤ root_field st.now r) }
 {
     st.laws();
     known(st, s, d)
@@ -77,7 +83,8 @@ fn known_later(st: &Store, s: Id, d: Id) -> Option<Id>
 fn known(st: &Store, s: Id, d: Id) -> Option<Id>
     requires set { IsId st.now s }
     requires diagram { IsId st.now d }
-    ensures { IfSome result (λ r. HasLeaves st.now r (λ pk. guarded (look st.now s pk) (look st.now d pk))) }
+    ensures { IfSome result (λ r.
+        HasLeaves st.now r (λ pk. guarded (look st.now s pk) (look st.now d pk))) }
 {
     if s == d || st.drops(d) {
         return Some(d);
@@ -96,7 +103,11 @@ fn cut_parts(st: &mut Store, f: Fid, s: Id, d: Id) -> Result<List<(u64, Id)>, Al
     requires first { IsFirst st.old s d f }
     ensures grows { Grows st.old st.new }
     ensures parts { IfOk result (λ ps. AreParts st.new f ps) }
-    ensures ok { IfOk result (λ ps. (v : ℕ) (pk : Items ℕ) → IsWhole pk → look st.new (child_at 0 ps v) pk ≡ guarded (look st.old (cofactor st.old f v s) pk) (look st.old (cofactor st.old f v d) pk)) }
+    ensures ok { IfOk result
+        (λ ps. (v : ℕ) (pk : Items ℕ) → IsWhole pk
+        → look st.new (child_at 0 ps v) pk
+        ≡ guarded (look st.old (cofactor st.old f v s) pk)
+        (look st.old (cofactor st.old f v d) pk)) }
 {
     let max = st.max(f);
     let mut parts = List::new(st.alloc());

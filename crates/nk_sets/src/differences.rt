@@ -12,7 +12,8 @@ pub fn minus(st: &mut Store, a: Id, b: Id) -> Result<Id, AllocError>
     requires left { IsSet st.old a }
     requires right { IsId st.old b }
     ensures grows { Grows st.old st.new }
-    ensures ok { IfOk result (λ r. IsPacketSetOf st.new r (λ pk. is_in st.old a pk && not (is_in st.old b pk))) }
+    ensures ok { IfOk result
+        (λ r. IsPacketSetOf st.new r (λ pk. is_in st.old a pk && not (is_in st.old b pk))) }
 {
     let others = negate(st, b)?;
     both(st, others, a)

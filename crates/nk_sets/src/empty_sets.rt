@@ -9,7 +9,8 @@ use nk_store::{Id, Store};
 pub fn is_empty(st: &Store, s: Id) -> bool
     requires { IsId st.now s }
     ensures yes { result ≡ true → (pk : Items ℕ) → IsWhole pk → is_in st.now s pk ≡ false }
-    ensures no { result ≡ false → (pk : Items ℕ) × IsStorePacket st.now pk × (is_in st.now s pk ≡ true) }
+    ensures no { result ≡ false → (pk : Items ℕ) × IsStorePacket st.now pk
+        × (is_in st.now s pk ≡ true) }
 {
     let _laws = st.laws();
     st.drops(s)

@@ -127,7 +127,8 @@ fn forget_case(
 /// The field that a set tests first, with the set's parts.
 fn choice(st: &Store, s: Id) -> Result<Option<(Fid, List<(u64, Id)>)>, AllocError>
     requires { IsId st.now s }
-    ensures parts { IfOk result (λ o. MatchOption o (root_field st.now s ≡ 18) (λ x. IsCase st.now s x.0 x.1)) }
+    ensures parts { IfOk result
+        (λ o. MatchOption o (root_field st.now s ≡ 18) (λ x. IsCase st.now s x.0 x.1)) }
     ensures still { IsStill st.now s }
 {
     match st.view(s) {

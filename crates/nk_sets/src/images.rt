@@ -59,7 +59,8 @@ fn assigned(st: &mut Store, a: &Act, s: Id) -> Result<Id, AllocError>
 pub fn preimage(st: &mut Store, a: &Act, s: Id) -> Result<Id, AllocError>
     requires { IsSet st.old s }
     ensures grows { Grows st.old st.new }
-    ensures ok { IfOk result (λ r. IsPacketSetOf st.new r (λ pk. is_in st.old s (applied a.now pk))) }
+    ensures ok { IfOk result
+        (λ r. IsPacketSetOf st.new r (λ pk. is_in st.old s (applied a.now pk))) }
 {
     shift(st, s, a)
 }

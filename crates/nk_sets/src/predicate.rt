@@ -65,7 +65,8 @@ fn everything(alloc: Global) -> Pol
 fn choice_policy(st: &Store, s: Id, f: Fid, parts: &[(u64, Id)]) -> Result<Pol, AllocError>
     requires set { IsSet st.now s }
     requires case { IsCase st.now s f parts.now }
-    ensures { IfOk result (λ p. tree_of p ≡ predicate_of (case f (branches_of parts.now (set_tree st.now)))) }
+    ensures { IfOk result (λ p. tree_of p
+        ≡ predicate_of (case f (branches_of parts.now (set_tree st.now)))) }
 {
     let _laws = st.laws();
     let high = st.max(f);
@@ -117,7 +118,8 @@ fn push_part(
     requires child { IsSet st.now c }
     requires other { IsSet st.now other }
     ensures { OnOk result (map tree_of terms.new.items
-        ≡ map tree_of terms.old.items ++ terms_of f (set_tree st.now other) (interval_at st.now first last c)) }
+        ≡ map tree_of terms.old.items
+        ++ terms_of f (set_tree st.now other) (interval_at st.now first last c)) }
 {
     let _laws = st.laws();
     if c == other {
@@ -158,7 +160,8 @@ fn guarded(st: &Store, condition: Pol, c: Id) -> Result<Pol, AllocError>
 /// One policy and then another.
 #[tactic(auto, using(nk_policy::proofs::Trees::tree_of_seq))]
 fn pair(alloc: Global, first: Pol, second: Pol) -> Result<Pol, AllocError>
-    ensures { IfOk result (λ p. tree_of p ≡ seq_of (part (tree_of first) (part (tree_of second) no_part))) }
+    ensures { IfOk result (λ p. tree_of p
+        ≡ seq_of (part (tree_of first) (part (tree_of second) no_part))) }
 {
     let parts = vec![in alloc; first, second]?;
     Ok(Pol::Seq(Pols::new(parts)))
@@ -195,7 +198,8 @@ fn push_condition(
     requires child { IsSet st.now c }
     requires other { IsSet st.now other }
     ensures { OnOk result (map tree_of conditions.new.items
-        ≡ map tree_of conditions.old.items ++ conditions_of f (set_tree st.now other) (interval_at st.now first last c)) }
+        ≡ map tree_of conditions.old.items
+        ++ conditions_of f (set_tree st.now other) (interval_at st.now first last c)) }
 {
     let _laws = st.laws();
     if c == other {

@@ -37,7 +37,8 @@ impl Finder {
 
 /// The place of the first table of each switch.
 fn places_of(alloc: Global, tables: &[Table]) -> Result<Vec<Option<usize>>, AllocError>
-    ensures { IfOk result (λ places. (switch : ℕ) → found_by places.items tables.now switch ≡ table_of tables.now switch) }
+    ensures { IfOk result (λ places. (switch : ℕ)
+        → found_by places.items tables.now switch ≡ table_of tables.now switch) }
 {
     let mut places = Vec::new(alloc);
     let mut i = tables.len();
@@ -61,7 +62,9 @@ fn set_place(places: &mut Vec<Option<usize>>, switch: u16, place: usize) -> Resu
 /// Makes room for a switch's place; no switch gets one.
 fn make_room(places: &mut Vec<Option<usize>>, switch: u16) -> Result<(), AllocError>
     ensures room { OnOk result (switch < length places.new.items) }
-    ensures kept { OnOk result ((other : ℕ) → slice_index_or places.new.items other None ≡ slice_index_or places.old.items other None) }
+    ensures kept { OnOk result
+        ((other : ℕ) → slice_index_or places.new.items other None
+        ≡ slice_index_or places.old.items other None) }
 {
     let at = usize::from(switch);
     if at < places.len() {

@@ -6,5 +6,6 @@ ghost use Rattle.nk_sim.specs.Traces.{IsTrace};
 
 /// A packet has one trace: the histories' order and how often each one stands leave no choice.
 pub fn a_packet_has_one_trace()
-    ensures { (t : Tables) (hops : ℕ) (pk : List ℕ) (a b : Traced) → IsTrace t hops pk a → IsTrace t hops pk b → a ≡ b }
+    ensures { (t : Tables) (hops : ℕ) (pk : List ℕ) (a b : Traced) → IsTrace t hops pk a
+        → IsTrace t hops pk b → a ≡ b }
 {}

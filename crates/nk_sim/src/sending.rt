@@ -46,7 +46,8 @@ fn sent_by_table(
     table: &Table,
     p: &Packet,
 ) -> Result<Vec<Packet>, AllocError>
-    ensures { IfOk result (λ sent. sent.items ≡ emitted.sent_by_table fields.now.maxima p.now table.now) }
+    ensures { IfOk result (λ sent. sent.items
+        ≡ emitted.sent_by_table fields.now.maxima p.now table.now) }
 {
     match acting_row(fields, table.rows.as_slice(), p) {
         Some(row) => sent_by_target(alloc, table.groups.as_slice(), &row.target, p),
@@ -73,7 +74,8 @@ fn sent_by_target(
     target: &Target,
     p: &Packet,
 ) -> Result<Vec<Packet>, AllocError>
-    ensures { IfOk result (λ sent. sent.items ≡ sent_by_all p.now (buckets_for groups.now target.now)) }
+    ensures { IfOk result (λ sent. sent.items
+        ≡ sent_by_all p.now (buckets_for groups.now target.now)) }
 {
     let mut out = Vec::new(alloc);
     push_target(&mut out, groups, target, p)?;
@@ -87,7 +89,8 @@ fn push_target(
     target: &Target,
     p: &Packet,
 ) -> Result<(), AllocError>
-    ensures { OnOk result (out.new.items ≡ out.old.items ++ sent_by_all p.now (buckets_for groups.now target.now)) }
+    ensures { OnOk result (out.new.items
+        ≡ out.old.items ++ sent_by_all p.now (buckets_for groups.now target.now)) }
 {
     match target {
         Target::Bucket(bucket) => push_bucket(out, bucket, p),
@@ -141,7 +144,8 @@ fn sent_by_bucket(bucket: &Bucket, p: &Packet) -> Option<Packet>
 
 /// The packet at the port where it is sent, unless that is where it came in.
 fn sent_to(port: u64, sent: Packet, p: &Packet) -> Option<Packet>
-    ensures { result ≡ (if port == slice_index p.now 1 then None else Some (slice_set sent 1 port)) }
+    ensures { result ≡ (if port == slice_index p.now 1 then None else Some
+        (slice_set sent 1 port)) }
 {
     if port == p.get(Fid::PORT) {
         return None;

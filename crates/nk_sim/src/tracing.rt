@@ -87,7 +87,8 @@ fn step(
 ) -> Result<State, AllocError>
     requires finder { Finds finder.now t.now.tables }
     requires trails { HaveTrails state.crossings.items k state.waiting.items }
-    ensures { IfOk result (λ next. (pk : Items ℕ) → IsAt t.now pk k state → IsAt t.now pk (k + 1) next) }
+    ensures { IfOk result (λ next. (pk : Items ℕ) → IsAt t.now pk k state
+        → IsAt t.now pk (k + 1) next) }
 {
     let mut crossings = state.crossings;
     let sent = send(alloc, finder, t, state.waiting.as_slice())?;

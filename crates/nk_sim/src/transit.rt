@@ -55,7 +55,8 @@ pub(crate) fn send(
 
 /// Appends copies of these packets.
 fn push_sent(out: &mut Vec<Flying>, last: usize, packets: &[Packet]) -> Result<(), AllocError>
-    ensures { OnOk result (out.new.items ≡ out.old.items ++ map (λ y. record { last = last; packet = y }) packets.now) }
+    ensures { OnOk result (out.new.items
+        ≡ out.old.items ++ map (λ y. record { last = last; packet = y }) packets.now) }
 {
     for packet in packets {
         out.push(Flying {
@@ -93,7 +94,8 @@ fn cross_one(
     ensures crossings { OnOk result (crossings.new.items
         ≡ crossings.old.items ++ crossing_by t.now sent.now (link_of_sent t.now sent.now)) }
     ensures next { OnOk result (next.new.items
-        ≡ next.old.items ++ flying_by (length crossings.old.items) sent.now (link_of_sent t.now sent.now)) }
+        ≡ next.old.items ++ flying_by (length crossings.old.items) sent.now
+        (link_of_sent t.now sent.now)) }
 {
     match link_at(&t.topo, &sent.packet) {
         Some(to) => {
@@ -119,7 +121,11 @@ fn moved(p: &Packet, to: (u16, u16)) -> Packet
 
 /// The crossing of a sent copy to a packet.
 fn crossing_to(fields: &Fields, sent: &Flying, to: &Packet) -> Crossing
-    ensures { result ≡ record { earlier = sent.now.last; before = erased fields.now sent.now.packet; after = erased fields.now to.now } }
+    ensures { result ≡ record {
+      earlier = sent.now.last;
+      before = erased fields.now sent.now.packet;
+      after = erased fields.now to.now;
+    } }
 {
     let mut before = sent.packet;
     let mut after = *to;
@@ -141,7 +147,8 @@ pub(crate) fn leave(
     sent: &[Flying],
 ) -> Result<Vec<History>, AllocError>
     requires { HaveTrails crossings.now k sent.now }
-    ensures { IfOk result (λ left. left.items ≡ flat_map (left_by_hops t.now crossings.now k) sent.now) }
+    ensures { IfOk result (λ left. left.items
+        ≡ flat_map (left_by_hops t.now crossings.now k) sent.now) }
 {
     let mut left = Vec::new(alloc);
     for copy in sent {
@@ -160,7 +167,8 @@ fn leave_one(
     left: &mut Vec<History>,
 ) -> Result<(), AllocError>
     requires { HasTrail crossings.now k sent.now.last }
-    ensures { OnOk result (left.new.items ≡ left.old.items ++ left_by_hops t.now crossings.now k sent.now) }
+    ensures { OnOk result (left.new.items
+        ≡ left.old.items ++ left_by_hops t.now crossings.now k sent.now) }
 {
     if leaves_at(&t.topo, &sent.packet) {
         let records = trail(alloc, crossings, k, sent.last)?;

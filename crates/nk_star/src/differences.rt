@@ -35,7 +35,8 @@ impl Join for Difference {
 fn known_missing(st: &Store, a: Id, b: Id) -> Option<Id>
     requires left { IsId st.now a }
     requires right { IsId st.now b }
-    ensures { IfSome result (λ d. HasLeaves st.now d (λ pk. lacking (look st.now a pk) (look st.now b pk))) }
+    ensures { IfSome result (λ d.
+        HasLeaves st.now d (λ pk. lacking (look st.now a pk) (look st.now b pk))) }
 {
     if st.drops(a) {
         return Some(a);
@@ -70,7 +71,8 @@ pub fn missing(st: &mut Store, a: Id, b: Id) -> Result<Id, AllocError>
     requires left { IsId st.old a }
     requires right { IsId st.old b }
     ensures grows { Grows st.old st.new }
-    ensures ok { IfOk result (λ d. HasLeaves st.new d (λ pk. lacking (look st.old a pk) (look st.old b pk))) }
+    ensures ok { IfOk result
+        (λ d. HasLeaves st.new d (λ pk. lacking (look st.old a pk) (look st.old b pk))) }
 {
     merge(st, &Difference, a, b)
 }

@@ -24,10 +24,12 @@ pub fn star(st: &mut Store, d: Id) -> Result<Id, AllocError>
     ensures id { IfOk result (λ r. IsId st.new r) }
     ensures ends { IfOk result (λ r. HasOnlyFinals (look st.new r)) }
     ensures steps { IfOk result (λ r. (pk : Items ℕ) (g : Items (ℕ × ℕ)) → IsWhole pk →
-        Contains (look st.new r pk) (record { act = g; target = 0 }) ↔ ((n : ℕ) × Steps (look st.old d) n pk g)) }
+        Contains (look st.new r pk) (record { act = g; target = 0 }) ↔
+        ((n : ℕ) × Steps (look st.old d) n pk g)) }
     ensures leads { IfOk result (λ r. (pk y : Items ℕ) → IsWhole pk →
         Makes (look st.new r) pk y ↔ ((n : ℕ) × Leads (look st.old d) n pk y)) }
-    ensures predicate { IfOk result (λ r. IsPredicate st.old d → HasLeaves st.new r (λ pk. no_out ∷ [])) }
+    ensures predicate { IfOk result
+        (λ r. IsPredicate st.old d → HasLeaves st.new r (λ pk. no_out ∷ [])) }
     ensures later { IfOk result (λ r. root_field st.old d ≤ root_field st.new r) }
 {
     let all = last_round(st, d)?;
@@ -70,7 +72,9 @@ fn missing_all(st: &mut Store, d: Id, all: &[Id]) -> Result<Id, AllocError>
     requires id { IsId st.old d }
     requires ids { AreIds st.old all.now }
     ensures grows { Grows st.old st.new }
-    ensures ok { IfOk result (λ r. HasLeaves st.new r (λ pk. lacking (look st.old d pk) (unions st.old all.now 0 (length all.now) pk))) }
+    ensures ok { IfOk result
+        (λ r. HasLeaves st.new r
+        (λ pk. lacking (look st.old d pk) (unions st.old all.now 0 (length all.now) pk))) }
 {
     st.laws();
     let mut rest = d;
@@ -88,7 +92,9 @@ fn put_to(st: &mut Store, all: &[Id], new: Id, n: usize) -> Result<List<Id>, All
     requires ids { AreIds st.old all.now }
     requires id { IsId st.old new }
     ensures grows { Grows st.old st.new }
-    ensures ok { IfOk result (λ r. AreTogether st.new r (λ pk. merged (unions st.old all.now 0 (length all.now) pk) (look st.old new pk))) }
+    ensures ok { IfOk result
+        (λ r. AreTogether st.new r
+        (λ pk. merged (unions st.old all.now 0 (length all.now) pk) (look st.old new pk))) }
 {
     let kept = (n.count_ones() as usize).min(all.len());
     let (first, following) = all.split_at(kept);
@@ -105,7 +111,9 @@ fn from_the_last(st: &mut Store, ds: &[Id], d: Id) -> Result<Id, AllocError>
     requires ids { AreIds st.old ds.now }
     requires id { IsId st.old d }
     ensures grows { Grows st.old st.new }
-    ensures ok { IfOk result (λ r. HasLeaves st.new r (λ pk. merged (unions st.old ds.now 0 (length ds.now) pk) (look st.old d pk))) }
+    ensures ok { IfOk result
+        (λ r. HasLeaves st.new r
+        (λ pk. merged (unions st.old ds.now 0 (length ds.now) pk) (look st.old d pk))) }
 {
     st.laws();
     let mut all = d;
@@ -120,7 +128,8 @@ fn from_the_last(st: &mut Store, ds: &[Id], d: Id) -> Result<Id, AllocError>
 
 /// States a law, and does nothing: what a diagram makes of a packet of the fields is a packet of the fields too.
 pub fn laws(st: &Store)
-    ensures { (d : ℕ) (pk y : Items ℕ) → IsStorePacket st.now pk → Makes (look st.now d) pk y → IsStorePacket st.now y }
+    ensures { (d : ℕ) (pk y : Items ℕ) → IsStorePacket st.now pk → Makes (look st.now d) pk y
+        → IsStorePacket st.now y }
 {
     st.laws();
 }

@@ -27,7 +27,8 @@ const MOST_ACTS: usize = 8;
 pub(crate) fn acts_of(st: &Store, diagrams: &[Id]) -> Result<Option<List<Act>>, AllocError>
     requires { AreIds st.now diagrams.now }
     ensures leaves { IfOk result (λ acts. IfSome acts (λ gs. AreFrom st.now 18 diagrams.now)) }
-    ensures acts { IfOk result (λ acts. IfSome acts (λ gs. AreActsOf (outs_in_turn st.now diagrams.now) gs)) }
+    ensures acts { IfOk result
+        (λ acts. IfSome acts (λ gs. AreActsOf (outs_in_turn st.now diagrams.now) gs)) }
 {
     let mut acts = List::new(st.alloc());
     for d in diagrams {
@@ -43,7 +44,9 @@ pub(crate) fn acts_of(st: &Store, diagrams: &[Id]) -> Result<Option<List<Act>>, 
 fn add_acts_of(st: &Store, acts: &mut List<Act>, d: Id) -> Result<bool, AllocError>
     requires { IsId st.now d }
     ensures leaf { IfOk result (λ b. b ≡ true → 18 ≤ root_field st.now d) }
-    ensures acts { IfOk result (λ b. b ≡ true → (before : Items Out) → AreActsOf before acts.old → AreActsOf (before ++ outs_of st.now d) acts.new) }
+    ensures acts { IfOk result
+        (λ b. b ≡ true → (before : Items Out) → AreActsOf before acts.old
+        → AreActsOf (before ++ outs_of st.now d) acts.new) }
 {
     match st.view(d) {
         Node::Leaf(outs) => add_acts(acts, outs.as_slice()),
@@ -54,7 +57,8 @@ fn add_acts_of(st: &Store, acts: &mut List<Act>, d: Id) -> Result<bool, AllocErr
 /// Puts in the acts of these outs that are no finals. Not where there are many acts, or where two of them assign different
 /// fields.
 fn add_acts(acts: &mut List<Act>, outs: &[Out]) -> Result<bool, AllocError>
-    ensures { IfOk result (λ b. b ≡ true → (before : Items Out) → AreActsOf before acts.old → AreActsOf (before ++ outs.now) acts.new) }
+    ensures { IfOk result (λ b. b ≡ true → (before : Items Out) → AreActsOf before acts.old
+        → AreActsOf (before ++ outs.now) acts.new) }
 {
     for o in outs {
         if !add_act(acts, o)? {
@@ -67,7 +71,8 @@ fn add_acts(acts: &mut List<Act>, outs: &[Out]) -> Result<bool, AllocError>
 /// Puts in the act of an out that is no final, unless it is there. Not where there are many acts, or where the first of them
 /// assigns other fields.
 fn add_act(acts: &mut List<Act>, o: &Out) -> Result<bool, AllocError>
-    ensures { IfOk result (λ b. b ≡ true → (before : Items Out) → AreActsOf before acts.old → AreActsOf (before ++ o.now ∷ []) acts.new) }
+    ensures { IfOk result (λ b. b ≡ true → (before : Items Out) → AreActsOf before acts.old
+        → AreActsOf (before ++ o.now ∷ []) acts.new) }
 {
     if o.target == 0 || has_act(acts.as_slice(), &o.act) {
         return Ok(true);
@@ -93,7 +98,8 @@ fn has_act(acts: &[Act], act: &Act) -> bool
 
 /// Whether an act assigns the same fields as the first of these, if there is one.
 fn goes_with(acts: &[Act], act: &Act) -> bool
-    ensures { result ≡ true → 0 < length acts.now → fields_in (slice_index_or acts.now 0 []) ≡ fields_in act.now }
+    ensures { result ≡ true → 0 < length acts.now
+        → fields_in (slice_index_or acts.now 0 []) ≡ fields_in act.now }
 {
     acts.is_empty() || assigns_same(acts[0].as_slice(), act.as_slice())
 }
@@ -111,7 +117,8 @@ pub(crate) fn steps_by_act(
     ensures grows { Grows st.old st.new }
     ensures sets { SetsGrow ss.old ss.new }
     ensures id { IfOk result (λ r. IsId st.new r) }
-    ensures leads { IfOk result (λ r. (pk y : Items ℕ) (i : ℕ) → IsStorePacket st.old pk → Sends st.new r pk y (i + 1) →
+    ensures leads { IfOk result
+        (λ r. (pk y : Items ℕ) (i : ℕ) → IsStorePacket st.old pk → Sends st.new r pk y (i + 1) →
         AreLedTo ss.new st.old diagrams.now pk y i) }
     ensures led { IfOk result (λ r. (pk y : Items ℕ) (l : ℕ) → IsStorePacket st.old pk → 0 < l →
         SomeLeads st.old diagrams.now pk y l → (i : ℕ) × Sends st.new r pk y (i + 1)) }
@@ -131,7 +138,8 @@ fn outs_by_act(
     requires ids { AreIds st.now diagrams.now }
     requires acts { AreActsOf (outs_in_turn st.now diagrams.now) acts }
     ensures grows { SetsGrow ss.old ss.new }
-    ensures is { IfOk result (λ outs. AreOutsByAct ss.new (outs_in_turn st.now diagrams.now) acts outs) }
+    ensures is { IfOk result
+        (λ outs. AreOutsByAct ss.new (outs_in_turn st.now diagrams.now) acts outs) }
 {
     let mut outs = List::with_capacity(st.alloc(), acts.len())?;
     for act in acts.into_vec() {
@@ -145,7 +153,8 @@ fn outs_by_act(
 /// isn't there.
 fn target_of(st: &Store, ss: &mut Sets, diagrams: &[Id], act: &Act) -> Result<u64, AllocError>
     requires ids { AreIds st.now diagrams.now }
-    requires some { (l : ℕ) × (0 < l) × Contains (outs_in_turn st.now diagrams.now) (record { act = act.now; target = l }) }
+    requires some { (l : ℕ) × (0 < l)
+        × Contains (outs_in_turn st.now diagrams.now) (record { act = act.now; target = l }) }
     ensures grows { SetsGrow ss.old ss.new }
     ensures is { IfOk result (λ t. IsTargetOf ss.new (outs_in_turn st.now diagrams.now) act.now t) }
 {

@@ -33,7 +33,8 @@ pub fn local_state(
     ensures grows { Grows st.old st.new }
     ensures sets { SetsGrow ss.old ss.new }
     ensures differ { OnOk result (HasEachSetOnce ss.new) }
-    ensures ok { IfOk result (λ d. IsStateAt st.old states.now (slice_index_or ss.old s []) x st.new ss.new d) }
+    ensures ok { IfOk result
+        (λ d. IsStateAt st.old states.now (slice_index_or ss.old s []) x st.new ss.new d) }
 {
     if go_together(st, states, ss.members(s)) {
         cut_last(st, ss, states, s, x)
@@ -102,7 +103,8 @@ fn cut_last(st: &mut Store, ss: &mut Sets, states: &[Id], s: SetId, x: Id) -> Re
     ensures grows { Grows st.old st.new }
     ensures sets { SetsGrow ss.old ss.new }
     ensures differ { OnOk result (HasEachSetOnce ss.new) }
-    ensures ok { IfOk result (λ d. IsStateAt st.old states.now (slice_index_or ss.old s []) x st.new ss.new d) }
+    ensures ok { IfOk result
+        (λ d. IsStateAt st.old states.now (slice_index_or ss.old s []) x st.new ss.new d) }
 {
     let all = states_at(st.alloc(), states, ss.members(s))?;
     let once = each_once(all);
@@ -128,7 +130,8 @@ fn cut_first(
     ensures grows { Grows st.old st.new }
     ensures sets { SetsGrow ss.old ss.new }
     ensures differ { OnOk result (HasEachSetOnce ss.new) }
-    ensures ok { IfOk result (λ d. IsStateAt st.old states.now (slice_index_or ss.old s []) x st.new ss.new d) }
+    ensures ok { IfOk result
+        (λ d. IsStateAt st.old states.now (slice_index_or ss.old s []) x st.new ss.new d) }
 {
     let cut = cut_states(st, states, ss.members(s), x)?;
     let d = steps_together(st, ss, cut.as_slice())?;
@@ -145,7 +148,8 @@ fn cut_states(st: &mut Store, states: &[Id], labels: &[u64], x: Id) -> Result<Li
     ensures grows { Grows st.old st.new }
     ensures len { IfOk result (λ ds. length ds ≡ length labels.now) }
     ensures ok { IfOk result (λ ds. HaveEach st.new ds
-        (λ k pk. guarded (look st.old x pk) (look st.old (slice_index states.now (slice_index labels.now k)) pk)) (length ds)) }
+        (λ k pk. guarded (look st.old x pk)
+        (look st.old (slice_index states.now (slice_index labels.now k)) pk)) (length ds)) }
 {
     let mut ds = List::with_capacity(st.alloc(), labels.len())?;
     for l in labels {

@@ -103,7 +103,8 @@ pub(crate) fn have_label(outs: &[Out], label: u64) -> bool
 
 /// Whether each out is a final or assigns the same fields as that act.
 fn assign_all(outs: &[Out], act: &[(Fid, u64)]) -> bool
-    ensures { result ≡ true → (p : Out) → Contains outs.now p → 0 < p.target → fields_in act.now ≡ fields_in p.act }
+    ensures { result ≡ true → (p : Out) → Contains outs.now p → 0 < p.target
+        → fields_in act.now ≡ fields_in p.act }
 {
     for o in outs {
         if o.target != 0 && !assigns_same(act, o.act.as_slice()) {

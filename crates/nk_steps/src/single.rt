@@ -24,9 +24,11 @@ pub(crate) fn steps_single(st: &mut Store, ss: &mut Sets, d: Id) -> Result<Optio
     ensures grows { Grows st.old st.new }
     ensures sets { SetsGrow ss.old ss.new }
     ensures id { IfOk result (λ o. IfSome o (λ r. IsId st.new r)) }
-    ensures leads { IfOk result (λ o. IfSome o (λ r. (pk y : Items ℕ) (i : ℕ) → IsStorePacket st.old pk →
+    ensures leads { IfOk result
+        (λ o. IfSome o (λ r. (pk y : Items ℕ) (i : ℕ) → IsStorePacket st.old pk →
         Sends st.new r pk y (i + 1) → AreLedTo ss.new st.old (d ∷ []) pk y i)) }
-    ensures led { IfOk result (λ o. IfSome o (λ r. (pk y : Items ℕ) (l : ℕ) → IsStorePacket st.old pk → 0 < l →
+    ensures led { IfOk result
+        (λ o. IfSome o (λ r. (pk y : Items ℕ) (l : ℕ) → IsStorePacket st.old pk → 0 < l →
         SomeLeads st.old (d ∷ []) pk y l → (i : ℕ) × Sends st.new r pk y (i + 1))) }
 {
     if st.drops(d) {
@@ -205,7 +207,9 @@ fn label_in(outs: &[Out]) -> u64
 /// The target of the set of a label alone, which is put in where it isn't there.
 fn target_single(alloc: Global, ss: &mut Sets, label: u64) -> Result<u64, AllocError>
     ensures sets { SetsGrow ss.old ss.new }
-    ensures ok { IfOk result (λ t. (later : Items (Items ℕ)) → SetsGrow ss.new later → t ≡ place_in later (label ∷ []) + 1) }
+    ensures ok { IfOk result
+        (λ t. (later : Items (Items ℕ)) → SetsGrow ss.new later
+        → t ≡ place_in later (label ∷ []) + 1) }
     ensures there { OnOk result (holds ss.new (label ∷ []) ≡ true) }
 {
     let mut labels = List::with_capacity(alloc, 1)?;

@@ -22,7 +22,8 @@ pub(crate) fn steps_of(st: &mut Store, ss: &mut Sets, diagrams: &[Id]) -> Result
     ensures grows { Grows st.old st.new }
     ensures sets { SetsGrow ss.old ss.new }
     ensures id { IfOk result (λ r. IsId st.new r) }
-    ensures leads { IfOk result (λ r. (pk y : Items ℕ) (i : ℕ) → IsStorePacket st.old pk → Sends st.new r pk y (i + 1) →
+    ensures leads { IfOk result
+        (λ r. (pk y : Items ℕ) (i : ℕ) → IsStorePacket st.old pk → Sends st.new r pk y (i + 1) →
         AreLedTo ss.new st.old diagrams.now pk y i) }
     ensures led { IfOk result (λ r. (pk y : Items ℕ) (l : ℕ) → IsStorePacket st.old pk → 0 < l →
         SomeLeads st.old diagrams.now pk y l → (i : ℕ) × Sends st.new r pk y (i + 1)) }

@@ -78,7 +78,8 @@ fn values(counts: bool, n: u128) -> u128
 
 /// The second child where it is kept with a larger size than the first.
 fn larger(sizes: &HashMap<Id, u128>, best: Id, c: Id) -> Id
-    ensures { result ≡ (if nat_lt (kept sizes.now.entries best) (kept sizes.now.entries c) then c else best) }
+    ensures { result ≡ (if nat_lt (kept sizes.now.entries best)
+        (kept sizes.now.entries c) then c else best) }
 {
     if size(sizes, best) < size(sizes, c) {
         c

@@ -95,7 +95,8 @@ impl Store {
         ensures still { (d : ℕ) → IsId self.now d → IsStill self.now d }
         ensures reduced { (d : ℕ) → IsId self.now d → IsReduced self.now d }
         ensures tidy { AreTidy self.now }
-        ensures answers { (operation : Operation) (a b d : ℕ) → recalled self.now operation a b ≡ Some d → IsKeptAnswer self.now operation a b d }
+        ensures answers { (operation : Operation) (a b d : ℕ)
+            → recalled self.now operation a b ≡ Some d → IsKeptAnswer self.now operation a b d }
     {
         self.table.laws();
     }
@@ -145,7 +146,8 @@ impl Store {
         requires { Every (Suits self.old.maxes) outs }
         ensures grows { Grows self.old self.new }
         ensures kept { self.new.kept ≡ self.old.kept }
-        ensures ok { IfOk result (λ d. (r : Items Out) × AreOrdered outs r × HasLeaves self.new d (λ pk. r)) }
+        ensures ok { IfOk result
+            (λ d. (r : Items Out) × AreOrdered outs r × HasLeaves self.new d (λ pk. r)) }
         ensures later { IfOk result (λ d. root_field self.new d ≡ 18) }
     {
         self.leaf_in_order(in_order(outs))
@@ -240,7 +242,9 @@ impl Store {
         requires { IsKeptAnswer self.old operation a b d }
         ensures ok { OnOk result (self.new ≡ keeping self.old operation a b d) }
         ensures kept { OnOk result (recalled self.new operation a b ≡ Some d) }
-        ensures others { OnOk result ((o : Operation) (x y : ℕ) → (key_of o x y ≡ key_of operation a b → ⊥) → recalled self.new o x y ≡ recalled self.old o x y) }
+        ensures others { OnOk result
+            ((o : Operation) (x y : ℕ) → (key_of o x y ≡ key_of operation a b → ⊥)
+            → recalled self.new o x y ≡ recalled self.old o x y) }
         ensures nodes { self.new.nodes ≡ self.old.nodes }
         ensures grows { Grows self.old self.new }
         ensures err { OnErr result (self.new ≡ self.old) }

@@ -23,7 +23,9 @@ fn either(st: &mut Store, s: Id, first: Id, second: Id) -> Result<Id, AllocError
     requires first { IsId st.old first }
     requires second { IsId st.old second }
     ensures grows { Grows st.old st.new }
-    ensures ok { IfOk result (λ r. HasLeaves st.new r (λ pk. cond (is_in st.old s pk) (look st.old first pk) (look st.old second pk))) }
+    ensures ok { IfOk result
+        (λ r. HasLeaves st.new r
+        (λ pk. cond (is_in st.old s pk) (look st.old first pk) (look st.old second pk))) }
 {
     let others = negate(st, s)?;
     let inside = both(st, s, first)?;
@@ -49,7 +51,9 @@ fn in_front(
     requires field { tag < 18 }
     ensures grows { Grows st.old st.new }
     ensures sets { SetsGrow ss.old ss.new }
-    ensures front { IfOk result (λ d. (e : ℕ) × IsStateAtSwitch st.new ss.new states.now (members_of ss.old tags.now a.tag) sw e × IsInFront st.new tag a e rest d) }
+    ensures front { IfOk result
+        (λ d. (e : ℕ) × IsStateAtSwitch st.new ss.new states.now
+        (members_of ss.old tags.now a.tag) sw e × IsInFront st.new tag a e rest d) }
 {
     let e = tag_state(st, ss, states, tags, sw, a.tag)?;
     let here = restrict(st, a.packets, tag, 0)?;
@@ -72,7 +76,8 @@ fn acting_state(
     requires field { tag < 18 }
     ensures grows { Grows st.old st.new }
     ensures sets { SetsGrow ss.old ss.new }
-    ensures state { IfOk result (λ d. IsActingState st.new ss.new states.now tags.now tag sw h.now.acting h.now.other d) }
+    ensures state { IfOk result
+        (λ d. IsActingState st.new ss.new states.now tags.now tag sw h.now.acting h.now.other d) }
 {
     let acting = h.acting.as_slice();
     let mut d = tag_state(st, ss, states, tags, sw, h.other)?;
@@ -99,7 +104,8 @@ fn class_states(
     requires field { tag < 18 }
     ensures grows { Grows st.old st.new }
     ensures sets { SetsGrow ss.old ss.new }
-    ensures tag_states { IfOk result (AreClassStates st.new ss.new states.now tags.now tag stop.now) }
+    ensures tag_states { IfOk result
+        (AreClassStates st.new ss.new states.now tags.now tag stop.now) }
 {
     let mut tag_states = List::new(st.alloc());
     for h in stop.classes.as_slice() {
@@ -130,7 +136,8 @@ pub fn all_class_states(
     requires field { tag < 18 }
     ensures grows { Grows st.old st.new }
     ensures sets { SetsGrow ss.old ss.new }
-    ensures tag_states { IfOk result (Matched (AreClassStates st.new ss.new states.now tags.now tag) stops.now) }
+    ensures tag_states { IfOk result
+        (Matched (AreClassStates st.new ss.new states.now tags.now tag) stops.now) }
 {
     let mut all = List::new(st.alloc());
     for stop in stops {

@@ -44,7 +44,8 @@ fn cut_states(
     ensures grows { Grows st.old st.new }
     ensures len { IfOk result (λ ds. length ds ≡ length members.now) }
     ensures ok { IfOk result (λ ds. HaveEach st.new ds
-        (λ k pk. look st.old (slice_index states.now (slice_index members.now k)) (slice_set pk 0 sw)) (length ds)) }
+        (λ k pk. look st.old (slice_index states.now (slice_index members.now k))
+        (slice_set pk 0 sw)) (length ds)) }
 {
     let mut ds = List::new(st.alloc());
     for l in members {

@@ -38,7 +38,8 @@ pub fn class_tables(
     requires known { All (λ s. s < length ss.old) tags.now }
     requires once { AreOnce ss.old tags.now }
     requires classes { length classes.now ≡ length tags.now }
-    requires stops { (tag : ℕ) → st.old.tag ≡ Some tag → All (IsClassStop st.old ss.old states.now tags.now tag) stops.now }
+    requires stops { (tag : ℕ) → st.old.tag ≡ Some tag
+        → All (IsClassStop st.old ss.old states.now tags.now tag) stops.now }
     ensures { IfOk result (λ ts. (tag : ℕ) → st.old.tag ≡ Some tag →
         Matched (IsClassTableAt st.old ss.old states.now tags.now classes.now tag) stops.now ts) }
 {

@@ -29,7 +29,8 @@ pub trait TableSink: RowSink {
     /// Ends the table that was begun last: it has the rows that were put since then, and their groups. The only error is that
     /// memory ran out; nothing is said of what was taken then.
     fn end(&mut self) -> Result<(), AllocError>
-        ensures { (s t : Self) (sw : ℕ) (rows : List Plain) → begins s sw t → Self.puts t rows self.old
+        ensures { (s t : Self) (sw : ℕ) (rows : List Plain) → begins s sw t
+            → Self.puts t rows self.old
             → OnOk result (takes s (grouped_table sw rows ∷ []) self.new) };
 
     /// Between a state and itself none were taken.
@@ -53,7 +54,7 @@ pub struct TableList {
 impl TableList {
     /// No table yet.
     pub fn new(alloc: Global) -> TableList
-        ensures { result.tables ≡ [] }
+        ensures { (result.tables ≡ []) × (result.rows ≡ []) }
     {
         TableList {
             tables: List::new(alloc),

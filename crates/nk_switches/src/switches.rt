@@ -35,9 +35,11 @@ pub fn switch_tables<S: TableSink>(
     requires states { AreIds st.old states.now }
     requires known { All (λ s. s < length ss.old) tags.now }
     requires once { AreOnce ss.old tags.now }
-    requires stops { (tag : ℕ) → st.old.tag ≡ Some tag → All (IsStop st.old ss.old states.now tags.now tag) stops.now }
+    requires stops { (tag : ℕ) → st.old.tag ≡ Some tag
+        → All (IsStop st.old ss.old states.now tags.now tag) stops.now }
     ensures { OnOk result ((ts : Items Table) × S.takes sink.old ts sink.new
-        × ((tag : ℕ) → st.old.tag ≡ Some tag → Matched (IsTableAt st.old ss.old states.now tags.now tag) stops.now ts)) }
+        × ((tag : ℕ) → st.old.tag ≡ Some tag
+        → Matched (IsTableAt st.old ss.old states.now tags.now tag) stops.now ts)) }
 {
     let tag_states = all_states(st, ss, states, tags, stops)?;
     let table = tag_table(st.alloc(), ss, tags)?;

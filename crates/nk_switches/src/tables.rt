@@ -26,8 +26,11 @@ fn tag_rows<S: RowSink>(
     requires frame { (tag : ℕ) × (st.old.tag ≡ Some tag) × IsFrame st.old st.old.width tag }
     requires printable { (tag : ℕ) → st.old.tag ≡ Some tag → IsPrintableState st.old tag sw state }
     ensures grows { Grows st.old st.new }
-    ensures rows { OnOk result ((rows : Items Plain) × S.puts sink.old rows sink.new × ((tag : ℕ) → st.old.tag ≡ Some tag → (e : TagTree)
-        × IsTreeBy st.old table.now tag sw state e × (rows ≡ rows_for (take st.old.width st.old.maxes) tag e.tag e.tree))) }
+    ensures rows { OnOk result
+        ((rows : Items Plain) × S.puts sink.old rows sink.new
+        × ((tag : ℕ) → st.old.tag ≡ Some tag → (e : TagTree)
+        × IsTreeBy st.old table.now tag sw state e
+        × (rows ≡ rows_for (take st.old.width st.old.maxes) tag e.tag e.tree))) }
 {
     let d = retarget(st, state.diagram, table)?;
     rows_to(st, d, sw, state.tag, sink)
@@ -43,7 +46,8 @@ fn switch_rows<S: RowSink>(
     requires frame { (tag : ℕ) × (st.old.tag ≡ Some tag) × IsFrame st.old st.old.width tag }
     requires printable { (tag : ℕ) → st.old.tag ≡ Some tag → ArePrintableStates st.old tag s.now }
     ensures grows { Grows st.old st.new }
-    ensures rows { OnOk result ((rows : Items Plain) × S.puts sink.old rows sink.new × ((tag : ℕ) → st.old.tag ≡ Some tag →
+    ensures rows { OnOk result
+        ((rows : Items Plain) × S.puts sink.old rows sink.new × ((tag : ℕ) → st.old.tag ≡ Some tag →
         AreRowsBy st.old table.now tag s.now.switch s.now.tag_states rows)) }
 {
     for state in s.tag_states.as_slice() {
@@ -78,10 +82,12 @@ pub fn all_tables<S: TableSink>(
     sink: &mut S,
 ) -> Result<(), AllocError>
     requires frame { (tag : ℕ) × (st.old.tag ≡ Some tag) × IsFrame st.old st.old.width tag }
-    requires printable { (tag : ℕ) → st.old.tag ≡ Some tag → All (ArePrintableStates st.old tag) all.now }
+    requires printable { (tag : ℕ) → st.old.tag ≡ Some tag
+        → All (ArePrintableStates st.old tag) all.now }
     ensures grows { Grows st.old st.new }
     ensures tables { OnOk result ((ts : Items Table) × S.takes sink.old ts sink.new
-        × ((tag : ℕ) → st.old.tag ≡ Some tag → Matched (IsTableBy st.old table.now tag) all.now ts)) }
+        × ((tag : ℕ) → st.old.tag ≡ Some tag
+        → Matched (IsTableBy st.old table.now tag) all.now ts)) }
 {
     for s in all {
         switch_table(st, table, s, sink)?;

@@ -31,7 +31,8 @@ pub fn tag_state(
     requires places { All (λ l. l < length states.now) (members_of ss.old tags.now tag) }
     ensures grows { Grows st.old st.new }
     ensures sets { SetsGrow ss.old ss.new }
-    ensures state { IfOk result (λ d. IsStateAtSwitch st.new ss.new states.now (members_of ss.old tags.now tag) sw d) }
+    ensures state { IfOk result
+        (λ d. IsStateAtSwitch st.new ss.new states.now (members_of ss.old tags.now tag) sw d) }
 {
     let places = members(st.alloc(), ss, tags, states.len(), tag)?;
     let d = switch_state(st, ss, states, places.as_slice(), sw)?;
@@ -77,7 +78,8 @@ pub fn all_states(
     requires places { All (TagsHaveLabelsBelow ss.old (length states.now) tags.now) stops.now }
     ensures grows { Grows st.old st.new }
     ensures sets { SetsGrow ss.old ss.new }
-    ensures tag_states { IfOk result (Matched (AreStatesAt st.new ss.new states.now tags.now) stops.now) }
+    ensures tag_states { IfOk result
+        (Matched (AreStatesAt st.new ss.new states.now tags.now) stops.now) }
 {
     let mut all = List::new(st.alloc());
     for stop in stops {

@@ -9,9 +9,11 @@ ghost use Rattle.nk_table.specs.Worked.{CrossesOnce, TiesDrop, SendsToAnotherPor
 /// as lists in order.
 pub fn the_first_crossing()
     ensures waiting { (t : Tables) (k : ℕ) (pk : List ℕ) → waiting t (suc k) pk
-        ≡ flat_map (λ (c : Copy). map (with_earlier_records c.records) (waiting t k c.packet)) (waiting t 1 pk) }
+        ≡ flat_map (λ (c : Copy). map (with_earlier_records c.records) (waiting t k c.packet))
+        (waiting t 1 pk) }
     ensures left { (t : Tables) (k : ℕ) (pk : List ℕ) → left_after t (suc k) pk
-        ≡ flat_map (λ (c : Copy). map (with_earlier_records c.records) (left_after t k c.packet)) (waiting t 1 pk) }
+        ≡ flat_map (λ (c : Copy). map (with_earlier_records c.records) (left_after t k c.packet))
+        (waiting t 1 pk) }
 {}
 
 /// What small tables do, worked out by hand: a crossing, a tie, exits, a group and prefixes.

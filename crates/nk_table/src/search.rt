@@ -19,7 +19,8 @@ pub fn lookup<'a>(t: &'a Tables, switch: u16, p: &Packet) -> Option<&'a Row>
 /// The row of these that acts on a packet of the fields: of the rows that match, the one of the highest priority. None
 /// where none matches, or several share the highest priority.
 pub fn acting_row<'a>(fields: &Fields, rows: &'a [Row], p: &Packet) -> Option<&'a Row>
-    ensures { option_copied result ≡ rules_of.highest [] (filter (rules_of.agrees fields.now.maxima p.now) rows.now) }
+    ensures { option_copied result
+        ≡ rules_of.highest [] (filter (rules_of.agrees fields.now.maxima p.now) rows.now) }
 {
     let mut best: Option<&'a Row> = None;
     let mut tied = false;

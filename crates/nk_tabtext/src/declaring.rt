@@ -78,7 +78,8 @@ impl Declaring {
 
     /// The name of a field.
     pub(crate) fn field_name(&mut self, alloc: Global, token: &Token) -> Result<(), ReadError>
-        ensures told { TableParseReturns (λ _. declaring_in self.new) result (field_name_told (declaring_in self.old) token.now) }
+        ensures told { TableParseReturns (λ _. declaring_in self.new) result
+            (field_name_told (declaring_in self.old) token.now) }
         ensures kept { StaysWithoutMemory result (declaring_in self.old) (declaring_in self.new) }
     {
         self.name = ident_of(alloc, token)?;
@@ -87,7 +88,8 @@ impl Declaring {
 
     /// The largest value of the field.
     pub(crate) fn field_max(&mut self, token: &Token) -> Result<(), ReadError>
-        ensures told { TableParseReturns (λ _. declaring_in self.new) result (field_max_told (declaring_in self.old) token.now) }
+        ensures told { TableParseReturns (λ _. declaring_in self.new) result
+            (field_max_told (declaring_in self.old) token.now) }
         ensures kept { StaysWithoutMemory result (declaring_in self.old) (declaring_in self.new) }
     {
         match self.said.add_field(&self.name, number_in(token)) {
@@ -98,7 +100,8 @@ impl Declaring {
 
     /// The name of the tag.
     pub(crate) fn tag(&mut self, token: &Token) -> Result<(), ReadError>
-        ensures told { TableParseReturns (λ _. declaring_in self.new) result (tag_told (declaring_in self.old) token.now) }
+        ensures told { TableParseReturns (λ _. declaring_in self.new) result
+            (tag_told (declaring_in self.old) token.now) }
         ensures kept { StaysWithoutMemory result (declaring_in self.old) (declaring_in self.new) }
     {
         match self.said.add_tag(token.text.as_slice(), token.line) {
@@ -109,7 +112,8 @@ impl Declaring {
 
     /// The number of a switch.
     pub(crate) fn switch(&mut self, alloc: Global, token: &Token) -> Result<(), ReadError>
-        ensures told { TableParseReturns (λ _. declaring_in self.new) result (switch_told (declaring_in self.old) token.now) }
+        ensures told { TableParseReturns (λ _. declaring_in self.new) result
+            (switch_told (declaring_in self.old) token.now) }
         ensures kept { StaysWithoutMemory result (declaring_in self.old) (declaring_in self.new) }
     {
         match self.said.new_switch(number_in(token)) {
@@ -124,7 +128,8 @@ impl Declaring {
 
     /// A port of the switch.
     pub(crate) fn port(&mut self, token: &Token) -> Result<(), ReadError>
-        ensures told { TableParseReturns (λ _. declaring_in self.new) result (port_told (declaring_in self.old) token.now) }
+        ensures told { TableParseReturns (λ _. declaring_in self.new) result
+            (port_told (declaring_in self.old) token.now) }
         ensures kept { StaysWithoutMemory result (declaring_in self.old) (declaring_in self.new) }
     {
         match self.ports.add(number_in(token)) {
@@ -135,7 +140,8 @@ impl Declaring {
 
     /// The switch has no further port. It is new, as its number was looked at.
     pub(crate) fn switch_ends(&mut self) -> Result<(), AllocError>
-        ensures ok { OnOk result (declaring_in self.new ≡ switch_ends_told (declaring_in self.old)) }
+        ensures ok { OnOk result
+            (declaring_in self.new ≡ switch_ends_told (declaring_in self.old)) }
         ensures kept { OnErr result (declaring_in self.new ≡ declaring_in self.old) }
     {
         if self.said.topo.is_switch(self.switch) {
@@ -146,28 +152,32 @@ impl Declaring {
 
     /// The source's switch of a link.
     pub(crate) fn link_switch(&mut self, token: &Token)
-        ensures { declaring_in self.new ≡ record (declaring_in self.old) { from_switch = number_of_token token.now } }
+        ensures { declaring_in self.new
+            ≡ record (declaring_in self.old) { from_switch = number_of_token token.now } }
     {
         self.from_switch = number_in(token);
     }
 
     /// The source's port.
     pub(crate) fn link_port(&mut self, token: &Token)
-        ensures { declaring_in self.new ≡ record (declaring_in self.old) { from_port = number_of_token token.now } }
+        ensures { declaring_in self.new
+            ≡ record (declaring_in self.old) { from_port = number_of_token token.now } }
     {
         self.from_port = number_in(token);
     }
 
     /// The target's switch.
     pub(crate) fn link_to_switch(&mut self, token: &Token)
-        ensures { declaring_in self.new ≡ record (declaring_in self.old) { to_switch = number_of_token token.now } }
+        ensures { declaring_in self.new
+            ≡ record (declaring_in self.old) { to_switch = number_of_token token.now } }
     {
         self.to_switch = number_in(token);
     }
 
     /// The target's port.
     pub(crate) fn link_to_port(&mut self, token: &Token) -> Result<(), ReadError>
-        ensures told { TableParseReturns (λ _. declaring_in self.new) result (link_told (declaring_in self.old) token.now) }
+        ensures told { TableParseReturns (λ _. declaring_in self.new) result
+            (link_told (declaring_in self.old) token.now) }
         ensures kept { StaysWithoutMemory result (declaring_in self.old) (declaring_in self.new) }
     {
         let to_port = number_in(token);

@@ -131,8 +131,10 @@ impl Filling {
 
     /// The table that is read, if one is, is whole, and goes among the others.
     pub(crate) fn finish(&mut self, alloc: Global, tables: &mut Tabled) -> Result<(), AllocError>
-        ensures ok { OnOk result (tables.new.entries ≡ finished tables.old.entries (filling_in self.old)) }
-        ensures rest { OnOk result (record (filling_in self.new) { switch = None; groups = []; rows = [] }
+        ensures ok { OnOk result
+            (tables.new.entries ≡ finished tables.old.entries (filling_in self.old)) }
+        ensures rest { OnOk result
+            (record (filling_in self.new) { switch = None; groups = []; rows = [] }
             ≡ record (filling_in self.old) { switch = None; groups = []; rows = [] }) }
         ensures kept { OnErr result (filling_in self.new ≡ filling_in self.old) }
         ensures same { OnErr result (tables.new.entries ≡ tables.old.entries) }
@@ -157,7 +159,8 @@ impl Filling {
     /// The number of a group.
     #[inline(never)]
     pub(crate) fn group(&mut self, alloc: Global, token: &Token) -> Result<(), ReadError>
-        ensures told { TableParseReturns (λ _. filling_in self.new) result (group_told (filling_in self.old) token.now) }
+        ensures told { TableParseReturns (λ _. filling_in self.new) result
+            (group_told (filling_in self.old) token.now) }
         ensures kept { StaysWithoutMemory result (filling_in self.old) (filling_in self.new) }
     {
         let number = token.value;
@@ -203,7 +206,8 @@ impl Filling {
 
     /// The name of a field that the bucket assigns.
     pub(crate) fn set_name(&mut self, fields: &Fields, token: &Token) -> Result<(), ReadError>
-        ensures told { TableParseReturns (λ _. filling_in self.new) result (set_name_told fields.now (filling_in self.old) token.now) }
+        ensures told { TableParseReturns (λ _. filling_in self.new) result
+            (set_name_told fields.now (filling_in self.old) token.now) }
         ensures kept { StaysWithoutMemory result (filling_in self.old) (filling_in self.new) }
     {
         match field_with(fields, token.text.as_slice()) {
@@ -221,7 +225,8 @@ impl Filling {
     /// The value of the assigned field.
     #[inline(never)]
     pub(crate) fn set_value(&mut self, alloc: Global, token: &Token) -> Result<(), ReadError>
-        ensures told { TableParseReturns (λ _. filling_in self.new) result (set_value_told (filling_in self.old) token.now) }
+        ensures told { TableParseReturns (λ _. filling_in self.new) result
+            (set_value_told (filling_in self.old) token.now) }
         ensures kept { StaysWithoutMemory result (filling_in self.old) (filling_in self.new) }
     {
         refuse_if(self.max < token.value, token.line)?;
@@ -232,7 +237,8 @@ impl Filling {
 
     /// The port to which the bucket sends.
     pub(crate) fn out_port(&mut self, token: &Token) -> Result<(), ReadError>
-        ensures told { TableParseReturns (λ _. filling_in self.new) result (out_port_told (filling_in self.old) token.now) }
+        ensures told { TableParseReturns (λ _. filling_in self.new) result
+            (out_port_told (filling_in self.old) token.now) }
         ensures kept { StaysWithoutMemory result (filling_in self.old) (filling_in self.new) }
     {
         self.exit = Exit::Port(small(number_in(token))?);
@@ -248,7 +254,8 @@ impl Filling {
 
     /// The priority of a row.
     pub(crate) fn row(&mut self, token: &Token) -> Result<(), ReadError>
-        ensures told { TableParseReturns (λ _. filling_in self.new) result (row_told (filling_in self.old) token.now) }
+        ensures told { TableParseReturns (λ _. filling_in self.new) result
+            (row_told (filling_in self.old) token.now) }
         ensures kept { StaysWithoutMemory result (filling_in self.old) (filling_in self.new) }
     {
         self.priority = small(number_in(token))?;
@@ -257,7 +264,8 @@ impl Filling {
 
     /// The name of a field that the row matches.
     pub(crate) fn match_name(&mut self, fields: &Fields, token: &Token) -> Result<(), ReadError>
-        ensures told { TableParseReturns (λ _. filling_in self.new) result (match_name_told fields.now (filling_in self.old) token.now) }
+        ensures told { TableParseReturns (λ _. filling_in self.new) result
+            (match_name_told fields.now (filling_in self.old) token.now) }
         ensures kept { StaysWithoutMemory result (filling_in self.old) (filling_in self.new) }
     {
         match field_with(fields, token.text.as_slice()) {
@@ -274,7 +282,8 @@ impl Filling {
 
     /// The value of the matched field. The match is the exact one, unless a length follows.
     pub(crate) fn match_value(&mut self, token: &Token) -> Result<(), ReadError>
-        ensures told { TableParseReturns (λ _. filling_in self.new) result (match_value_told (filling_in self.old) token.now) }
+        ensures told { TableParseReturns (λ _. filling_in self.new) result
+            (match_value_told (filling_in self.old) token.now) }
         ensures kept { StaysWithoutMemory result (filling_in self.old) (filling_in self.new) }
     {
         refuse_if(self.max < token.value, token.line)?;
@@ -286,7 +295,8 @@ impl Filling {
 
     /// How many digits of the value count.
     pub(crate) fn match_length(&mut self, version: u64, token: &Token) -> Result<(), ReadError>
-        ensures told { TableParseReturns (λ _. filling_in self.new) result (match_length_told version (filling_in self.old) token.now) }
+        ensures told { TableParseReturns (λ _. filling_in self.new) result
+            (match_length_told version (filling_in self.old) token.now) }
         ensures kept { StaysWithoutMemory result (filling_in self.old) (filling_in self.new) }
     {
         let digits = digits_of(self.max);
@@ -327,7 +337,8 @@ impl Filling {
     /// The row's target is a group.
     #[inline(never)]
     pub(crate) fn row_group(&mut self, alloc: Global, token: &Token) -> Result<(), ReadError>
-        ensures told { TableParseReturns (λ _. filling_in self.new) result (row_group_told (filling_in self.old) token.now) }
+        ensures told { TableParseReturns (λ _. filling_in self.new) result
+            (row_group_told (filling_in self.old) token.now) }
         ensures kept { StaysWithoutMemory result (filling_in self.old) (filling_in self.new) }
     {
         refuse_if(!self.groups.contains_key(&token.value), token.line)?;

@@ -50,7 +50,8 @@ fn fields(out: &mut Vec<u8>, fs: &Fields) -> Result<(), AllocError>
 /// The line of a field.
 fn field(out: &mut Vec<u8>, fs: &Fields, f: Fid) -> Result<(), AllocError>
     requires { f < length fs.now.maxima }
-    ensures { OnOk result (out.new.items ≡ out.old.items ++ field_text (name_of fs.now f) (slice_index fs.now.maxima f)) }
+    ensures { OnOk result (out.new.items
+        ≡ out.old.items ++ field_text (name_of fs.now f) (slice_index fs.now.maxima f)) }
 {
     out.extend_from_slice(b"field ")?;
     out.extend_from_slice(fs.name(f).as_bytes())?;
@@ -82,7 +83,8 @@ fn topology(out: &mut Vec<u8>, topo: &Topo) -> Result<(), AllocError>
 
 /// The lines of the switches.
 fn switches(out: &mut Vec<u8>, topo: &Topo) -> Result<(), AllocError>
-    ensures { OnOk result (out.new.items ≡ out.old.items ++ flat_map switch_text topo.now.switches) }
+    ensures { OnOk result (out.new.items
+        ≡ out.old.items ++ flat_map switch_text topo.now.switches) }
 {
     switch_lines(out, topo, topo.switches())
 }
@@ -90,7 +92,8 @@ fn switches(out: &mut Vec<u8>, topo: &Topo) -> Result<(), AllocError>
 /// The lines of the switches with these numbers.
 fn switch_lines(out: &mut Vec<u8>, topo: &Topo, numbers: &[u16]) -> Result<(), AllocError>
     ensures { OnOk result (out.new.items
-        ≡ out.old.items ++ flat_map (λ n. switch_text (record { switch = n; ports = ports_of topo.now n })) numbers.now) }
+        ≡ out.old.items ++ flat_map
+        (λ n. switch_text (record { switch = n; ports = ports_of topo.now n })) numbers.now) }
 {
     for n in numbers {
         switch(out, *n, topo.ports(*n))?;
@@ -100,7 +103,8 @@ fn switch_lines(out: &mut Vec<u8>, topo: &Topo, numbers: &[u16]) -> Result<(), A
 
 /// The line of a switch.
 fn switch(out: &mut Vec<u8>, n: u16, ports: &[u16]) -> Result<(), AllocError>
-    ensures { OnOk result (out.new.items ≡ out.old.items ++ switch_text (record { switch = n; ports = ports.now })) }
+    ensures { OnOk result (out.new.items
+        ≡ out.old.items ++ switch_text (record { switch = n; ports = ports.now })) }
 {
     out.extend_from_slice(b"switch ")?;
     number(out, n as u64)?;
@@ -125,7 +129,8 @@ fn commas(out: &mut Vec<u8>, ports: &[u16]) -> Result<(), AllocError>
 
 /// Ports, a comma before each.
 fn after_commas(out: &mut Vec<u8>, ports: &[u16]) -> Result<(), AllocError>
-    ensures { OnOk result (out.new.items ≡ out.old.items ++ flat_map (λ q. codes "," ++ decimal q) ports.now) }
+    ensures { OnOk result (out.new.items
+        ≡ out.old.items ++ flat_map (λ q. codes "," ++ decimal q) ports.now) }
 {
     for port in ports {
         out.extend_from_slice(b",")?;
@@ -136,7 +141,8 @@ fn after_commas(out: &mut Vec<u8>, ports: &[u16]) -> Result<(), AllocError>
 
 /// The lines of links.
 fn links(out: &mut Vec<u8>, links: &[(u16, u16, u16, u16)]) -> Result<(), AllocError>
-    ensures { OnOk result (out.new.items ≡ out.old.items ++ flat_map (λ l. link_text (link_of l)) links.now) }
+    ensures { OnOk result (out.new.items
+        ≡ out.old.items ++ flat_map (λ l. link_text (link_of l)) links.now) }
 {
     for l in links {
         link(out, *l)?;

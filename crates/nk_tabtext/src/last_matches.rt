@@ -44,7 +44,8 @@ impl LastMatches {
         after: &[(Fid, u64, u8)],
     ) -> Result<(), AllocError>
         ensures { (ms : List (ℕ × ℕ × ℕ)) → Remembers fs.now ms self.old
-            → OnOk result (Remembers fs.now (as_printed fs.now (before.now ++ between.now ∷ after.now)) self.new) }
+            → OnOk result (Remembers fs.now
+            (as_printed fs.now (before.now ++ between.now ∷ after.now)) self.new) }
     {
         let tagged = self.put_parted(fs, 0, before, between, after, true)?;
         let end = self.put_parted(fs, tagged, before, between, after, false)?;
@@ -64,7 +65,8 @@ impl LastMatches {
         tag: bool,
     ) -> Result<usize, AllocError>
         ensures { (row : List (ℕ × ℕ × ℕ)) → BeginsWith fs.now row place self.old
-            → IfOk result (λ n. BeginsWith fs.now (row ++ those fs.now tag (before.now ++ between.now ∷ after.now)) n self.new) }
+            → IfOk result (λ n. BeginsWith fs.now
+            (row ++ those fs.now tag (before.now ++ between.now ∷ after.now)) n self.new) }
     {
         let first = self.put_those(fs, place, before, tag)?;
         let middle = self.put_if(fs, first, between, tag)?;
@@ -100,7 +102,8 @@ impl LastMatches {
         tag: bool,
     ) -> Result<usize, AllocError>
         ensures { (row : List (ℕ × ℕ × ℕ)) → BeginsWith fs.now row place self.old
-            → IfOk result (λ n. BeginsWith fs.now (row ++ match_where (is_tag fs.now m.now.0) tag m.now) n self.new) }
+            → IfOk result (λ n. BeginsWith fs.now
+            (row ++ match_where (is_tag fs.now m.now.0) tag m.now) n self.new) }
     {
         let (f, _, _) = *m;
         if rules::is_the_tag(fs, f) == tag {
@@ -146,7 +149,8 @@ impl LastMatches {
 
     /// Puts a match after the others, and its text after theirs.
     fn print(&mut self, fs: &Fields, m: &(Fid, u64, u8)) -> Result<(), AllocError>
-        ensures { (ms : List (ℕ × ℕ × ℕ)) → Remembers fs.now ms self.old → OnOk result (Remembers fs.now (ms ++ m.now ∷ []) self.new) }
+        ensures { (ms : List (ℕ × ℕ × ℕ)) → Remembers fs.now ms self.old
+            → OnOk result (Remembers fs.now (ms ++ m.now ∷ []) self.new) }
     {
         let start = self.text.len();
         self.matches.push(PrintedMatch { matched: *m, start })?;
@@ -156,7 +160,8 @@ impl LastMatches {
 
     /// Forgets the matches from a place on, with their text.
     fn cut(&mut self, place: usize)
-        ensures { (fs : FieldTable) (ms : List (ℕ × ℕ × ℕ)) → Remembers fs ms self.old → Remembers fs (take place ms) self.new }
+        ensures { (fs : FieldTable) (ms : List (ℕ × ℕ × ℕ)) → Remembers fs ms self.old
+            → Remembers fs (take place ms) self.new }
     {
         let count = self.matches.len();
         if count <= place {

@@ -56,7 +56,8 @@ impl Partial {
 
     /// The number after the word `tables`.
     fn version(&mut self, token: &Token) -> Result<(), ReadError>
-        ensures told { TableParseReturns (λ _. partial_in self.new) result (version_told (partial_in self.old) token.now) }
+        ensures told { TableParseReturns (λ _. partial_in self.new) result
+            (version_told (partial_in self.old) token.now) }
         ensures kept { StaysWithoutMemory result (partial_in self.old) (partial_in self.new) }
     {
         refuse_if(token.value != 1 && token.value != 2, token.line)?;
@@ -71,7 +72,8 @@ impl Partial {
         tells: Tells,
         token: &Token,
     ) -> Result<(), ReadError>
-        ensures told { TableParseReturns (λ _. partial_in self.new) result (told tells (partial_in self.old) token.now) }
+        ensures told { TableParseReturns (λ _. partial_in self.new) result
+            (told tells (partial_in self.old) token.now) }
         ensures kept { StaysWithoutMemory result (partial_in self.old) (partial_in self.new) }
     {
         match tells {

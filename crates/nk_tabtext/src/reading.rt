@@ -50,7 +50,9 @@ impl Known {
         tells: Tells,
         token: &Token,
     ) -> Result<Option<u64>, AllocError>
-        ensures told { IfOk result (λ line. known_after (known_names_in self.old) tells token.now ≡ with_fault line (known_names_in self.new)) }
+        ensures told { IfOk result
+            (λ line. known_after (known_names_in self.old) tells token.now
+            ≡ with_fault line (known_names_in self.new)) }
         ensures err { OnErr result (known_names_in self.new ≡ known_names_in self.old) }
     {
         let told = match self {
@@ -78,7 +80,8 @@ impl Known {
 
     /// One more token, by what it tells. Where memory ran out, nothing changed.
     fn go_on(&mut self, alloc: Global, tells: Tells, token: &Token) -> Result<(), AllocError>
-        ensures ok { OnOk result (known_names_in self.new ≡ known_after (known_names_in self.old) tells token.now) }
+        ensures ok { OnOk result
+            (known_names_in self.new ≡ known_after (known_names_in self.old) tells token.now) }
         ensures kept { OnErr result (known_names_in self.new ≡ known_names_in self.old) }
     {
         let line = self.tell(alloc, tells, token)?;
@@ -159,8 +162,10 @@ impl TableReader {
     /// `AllocError` says that memory ran out, and then nothing changed, so the token can be taken again. Where no text goes on
     /// with the tokens so far, nothing changes any more and no memory is taken.
     pub fn take(&mut self, alloc: Global, token: &Token) -> Result<(), AllocError>
-        ensures tokens { (ts : List Token) → IsTaken ts self.old → OnOk result (IsTaken (ts ++ token.now ∷ []) self.new) }
-        ensures unmended { (ts : List Token) → IsTaken ts self.old → (TableTextGoesOn (table_terminals ts) → ⊥) → IsOk result × (self.new ≡ self.old) }
+        ensures tokens { (ts : List Token) → IsTaken ts self.old
+            → OnOk result (IsTaken (ts ++ token.now ∷ []) self.new) }
+        ensures unmended { (ts : List Token) → IsTaken ts self.old
+            → (TableTextGoesOn (table_terminals ts) → ⊥) → IsOk result × (self.new ≡ self.old) }
         ensures stopped { IsStopped self.old → IsOk result × (self.new ≡ self.old) }
         ensures err { OnErr result (self.new ≡ self.old) }
     {
@@ -198,8 +203,10 @@ impl TableReader {
     /// The tables of the tokens that were taken, or their first fault with its line, as `read_tables` says. It spends the value,
     /// refused or not.
     pub fn end(self, alloc: Global) -> Result<Tables, ReadError>
-        ensures tables { (ts : List Token) → IsTaken ts self → TableParseReturns (λ t. t) result (tables_of_tokens ts) }
-        ensures printable { (text : List ℕ) (ts : List Token) → tokens_of text ≡ Ok ts → IsTaken ts self → IfOk result ArePrintableTables }
+        ensures tables { (ts : List Token) → IsTaken ts self
+            → TableParseReturns (λ t. t) result (tables_of_tokens ts) }
+        ensures printable { (text : List ℕ) (ts : List Token) → tokens_of text ≡ Ok ts
+            → IsTaken ts self → IfOk result ArePrintableTables }
     {
         self.known_at_end(alloc)
     }

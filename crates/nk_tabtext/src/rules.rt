@@ -48,7 +48,8 @@ pub(crate) fn some_parted_prefix(
     between: &(Fid, u64, u8),
     after: &[(Fid, u64, u8)],
 ) -> bool
-    ensures { result ≡ list_any (λ m. not (text.is_exact fs.now m)) (before.now ++ between.now ∷ after.now) }
+    ensures { result ≡ list_any (λ m. not (text.is_exact fs.now m))
+        (before.now ++ between.now ∷ after.now) }
 {
     some_prefix(fs, before) || !is_exact(fs, between) || some_prefix(fs, after)
 }
@@ -68,7 +69,8 @@ fn have_prefix(fs: &Fields, rows: &[Row]) -> bool
 /// Whether some match in the tables of these switches is a prefix. Where switches and tables ascend, both are gone through
 /// together.
 fn some_table(t: &Tables, numbers: &[u16]) -> bool
-    ensures { result ≡ list_any (λ n. text.have_prefix t.now.fields (rows_of t.now.tables n)) numbers.now }
+    ensures { result ≡ list_any
+        (λ n. text.have_prefix t.now.fields (rows_of t.now.tables n)) numbers.now }
 {
     let mut rest = t.tables.as_slice();
     let mut last = 0;
@@ -175,7 +177,8 @@ fn some_matches(
 
 /// A match, where it is of the tag or not as is asked.
 fn match_if(out: &mut Vec<u8>, fs: &Fields, m: &(Fid, u64, u8), tag: bool) -> Result<(), AllocError>
-    ensures { OnOk result (out.new.items ≡ out.old.items ++ where_same (is_tag fs.now m.now.0) tag (match_text fs.now m.now)) }
+    ensures { OnOk result (out.new.items
+        ≡ out.old.items ++ where_same (is_tag fs.now m.now.0) tag (match_text fs.now m.now)) }
 {
     let (f, _, _) = *m;
     if is_the_tag(fs, f) == tag {
@@ -202,7 +205,8 @@ fn some_sets(
 
 /// An assignment, where it is of the tag or not as is asked.
 fn set_if(out: &mut Vec<u8>, fs: &Fields, f: Fid, n: u64, tag: bool) -> Result<(), AllocError>
-    ensures { OnOk result (out.new.items ≡ out.old.items ++ where_same (is_tag fs.now f) tag (set_text fs.now (f, n))) }
+    ensures { OnOk result (out.new.items
+        ≡ out.old.items ++ where_same (is_tag fs.now f) tag (set_text fs.now (f, n))) }
 {
     if is_the_tag(fs, f) == tag {
         one_set(out, fs, f, n)
@@ -279,7 +283,8 @@ pub(crate) fn row_line(
     matches: &[u8],
     what: &Target,
 ) -> Result<(), AllocError>
-    ensures { OnOk result (out.new.items ≡ out.old.items ++ row_line_text priority matches.now (target_text fs.now what.now)) }
+    ensures { OnOk result (out.new.items
+        ≡ out.old.items ++ row_line_text priority matches.now (target_text fs.now what.now)) }
 {
     short::piece(out, b"row ")?;
     number(out, priority as u64)?;
@@ -293,7 +298,8 @@ pub(crate) fn row_line(
 
 /// The buckets of a group, a space before each.
 fn spaced(out: &mut Vec<u8>, fs: &Fields, bs: &[Bucket]) -> Result<(), AllocError>
-    ensures { OnOk result (out.new.items ≡ out.old.items ++ flat_map (λ b. codes " " ++ bucket_text fs.now b) bs.now) }
+    ensures { OnOk result (out.new.items
+        ≡ out.old.items ++ flat_map (λ b. codes " " ++ bucket_text fs.now b) bs.now) }
 {
     for b in bs {
         out.push(b' ')?;

@@ -56,7 +56,8 @@ pub(crate) fn each(
 
 /// An empty table of a switch, so that its own can be put in without taking memory.
 pub(crate) fn make_place(alloc: Global, tables: &mut Tabled, switch: u16) -> Result<(), AllocError>
-    ensures ok { OnOk result (tables.new.entries ≡ insert_entry nat_cmp tables.old.entries switch (empty_table switch)) }
+    ensures ok { OnOk result
+        (tables.new.entries ≡ insert_entry nat_cmp tables.old.entries switch (empty_table switch)) }
     ensures kept { OnErr result (tables.new.entries ≡ tables.old.entries) }
 {
     if tables.insert(switch, empty(alloc, switch)).is_err() {

@@ -51,7 +51,8 @@ pub(crate) fn is_matched(matches: &[(Fid, u64, u8)], field: Fid) -> bool
 
 /// How many of so many digits count, where a length is written, in a text of a version.
 pub(crate) fn length_of(version: u64, digits: u8, length: Number) -> Result<u8, ReadError>
-    ensures is { result ≡ unless_at (length_fault version digits (Some length)) (length_in digits (Some length)) }
+    ensures is { result ≡ unless_at (length_fault version digits (Some length))
+        (length_in digits (Some length)) }
     ensures most { IfOk result (λ n. n ≤ digits) }
 {
     if version != 2 || length.value == 0 || (digits as u64) < length.value {

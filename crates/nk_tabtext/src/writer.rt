@@ -36,7 +36,8 @@ const DIGIT: usize = 7;
 
 /// Makes a text of the first version one of the second, whose number has one digit too.
 fn set_second(text: &mut Vec<u8>)
-    ensures { (rest : List ℕ) → text.old.items ≡ version_text 1 ++ rest → text.new.items ≡ version_text 2 ++ rest }
+    ensures { (rest : List ℕ) → text.old.items ≡ version_text 1 ++ rest
+        → text.new.items ≡ version_text 2 ++ rest }
 {
     if let Some(digit) = text.get_mut(DIGIT) {
         *digit = b'2';
@@ -62,7 +63,8 @@ impl<'a> TableWriter<'a> {
 
     /// Begins the table of one more switch: its rows come one by one, and then its groups.
     pub fn begin_table(&mut self, switch: u16) -> Result<(), AllocError>
-        ensures { (fields : FieldTable) (topo : Topology) (tables : List Table) → HasWritten fields topo tables self.old
+        ensures { (fields : FieldTable) (topo : Topology) (tables : List Table)
+            → HasWritten fields topo tables self.old
             → OnOk result (IsWriting fields topo tables switch [] self.new) }
     {
         rules::switch_line(&mut self.text, switch)?;
@@ -80,9 +82,15 @@ impl<'a> TableWriter<'a> {
         after: &[(Fid, u64, u8)],
         target: &Target,
     ) -> Result<(), AllocError>
-        ensures { (fields : FieldTable) (topo : Topology) (tables : List Table) (sw : ℕ) (rows : List Row)
-            → IsWriting fields topo tables sw rows self.old → OnOk result (IsWriting fields topo tables sw
-            (rows ++ record { priority = priority; matches = before.now ++ between ∷ after.now; target = target.now } ∷ []) self.new) }
+        ensures { (fields : FieldTable) (topo : Topology) (tables : List Table) (sw : ℕ)
+            (rows : List Row)
+            → IsWriting fields topo tables sw rows self.old
+            → OnOk result (IsWriting fields topo tables sw
+            (rows ++ record {
+              priority = priority;
+              matches = before.now ++ between ∷ after.now;
+              target = target.now;
+            } ∷ []) self.new) }
     {
         self.tell_matches(before, &between, after);
         self.last.set(self.fields, before, &between, after)?;
@@ -101,8 +109,10 @@ impl<'a> TableWriter<'a> {
         ensures start { self.new.start ≡ self.old.start }
         ensures last { self.new.last ≡ self.old.last }
         ensures prefixes { self.new.prefixes
-            ≡ (self.old.prefixes || list_any (λ m. not (is_exact self.old.fields.now m)) (before.now ++ between.now ∷ after.now)) }
-        ensures text { (rest : List ℕ) → self.old.text.items ≡ version_text (version_with self.old.prefixes) ++ rest
+            ≡ (self.old.prefixes || list_any (λ m. not (is_exact self.old.fields.now m))
+            (before.now ++ between.now ∷ after.now)) }
+        ensures text { (rest : List ℕ)
+            → self.old.text.items ≡ version_text (version_with self.old.prefixes) ++ rest
             → self.new.text.items ≡ version_text (version_with self.new.prefixes) ++ rest }
     {
         if !self.prefixes && rules::some_parted_prefix(self.fields, before, between, after) {
@@ -113,7 +123,8 @@ impl<'a> TableWriter<'a> {
 
     /// Ends the table that was begun, with its groups.
     pub fn end_table(&mut self, groups: &[Group]) -> Result<(), AllocError>
-        ensures { (fields : FieldTable) (topo : Topology) (tables : List Table) (sw : ℕ) (rows : List Row)
+        ensures { (fields : FieldTable) (topo : Topology) (tables : List Table) (sw : ℕ)
+            (rows : List Row)
             → IsWriting fields topo tables sw rows self.old → OnOk result (HasWritten fields topo
             (tables ++ record { switch = sw; groups = groups.now; rows = rows } ∷ []) self.new) }
     {
@@ -128,8 +139,10 @@ impl<'a> TableWriter<'a> {
         ensures fields { OnOk result (self.new.fields.now ≡ self.old.fields.now) }
         ensures prefixes { OnOk result (self.new.prefixes ≡ self.old.prefixes) }
         ensures last { OnOk result (self.new.last ≡ self.old.last) }
-        ensures text { self.old.start ≤ length self.old.text.items → OnOk result (self.new.text.items ≡ take self.old.start self.old.text.items
-            ++ flat_map (group_text self.old.fields.now) groups.now ++ drop self.old.start self.old.text.items) }
+        ensures text { self.old.start ≤ length self.old.text.items
+            → OnOk result (self.new.text.items ≡ take self.old.start self.old.text.items
+            ++ flat_map (group_text self.old.fields.now) groups.now
+            ++ drop self.old.start self.old.text.items) }
     {
         let place = self.start.min(self.text.len());
         let rows = self.text.split_off(place)?;
@@ -140,9 +153,11 @@ impl<'a> TableWriter<'a> {
 
     /// The whole text.
     pub fn end(self) -> Vec<u8>
-        ensures { (fields : FieldTable) (topo : Topology) (tables : List Table) → HasWritten fields topo tables self.entry → IsTopology topo
+        ensures { (fields : FieldTable) (topo : Topology) (tables : List Table)
+            → HasWritten fields topo tables self.entry → IsTopology topo
             → map (λ t. t.switch) tables ≡ map (λ s. s.switch) topo.switches
-            → result.items ≡ table_bytes (record { fields = fields; topo = topo; tables = tables }) }
+            → result.items ≡ table_bytes
+            (record { fields = fields; topo = topo; tables = tables }) }
     {
         let TableWriter {
             fields: _,

@@ -95,7 +95,8 @@ fn add_level(
 ) -> Result<(), AllocError>
     requires place { i < length lv.now.levels }
     requires entries { AreEntries ss.now lv.now.levels }
-    ensures { OnOk result (IsAdded ss.now (slice_index_or lv.now.levels i []) all.old.keys all.new.keys) }
+    ensures { OnOk result (IsAdded ss.now
+        (slice_index_or lv.now.levels i []) all.old.keys all.new.keys) }
 {
     let level = lv.levels.at(i);
     add_sets(alloc, ss, level.as_slice(), all)
@@ -158,7 +159,8 @@ fn sort_sets(sets: &mut Vec<(List<u64>, usize)>)
 
 /// Gives the sets numbers after all others.
 fn append(sets: &[(List<u64>, usize)], all: &mut IndexSet<usize>) -> Result<(), AllocError>
-    ensures { OnOk result (all.new.keys ≡ insert_all nat_eq all.old.keys (map (λ x. x.1) sets.now)) }
+    ensures { OnOk result (all.new.keys
+        ≡ insert_all nat_eq all.old.keys (map (λ x. x.1) sets.now)) }
 {
     for set in sets {
         all.insert(set.1)?;

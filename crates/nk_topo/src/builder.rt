@@ -156,7 +156,8 @@ impl TopoBuilder {
         requires target { declared.is_port self.old target.0 target.1 ≡ true }
         requires one_from { IsNone (declared.link_from self.old source.0 source.1) }
         requires one_to { declared.is_target self.old target.0 target.1 ≡ false }
-        ensures ok { OnOk result (self.new ≡ with_link self.old (link_of (four_of (source, target)))) }
+        ensures ok { OnOk result
+            (self.new ≡ with_link self.old (link_of (four_of (source, target)))) }
         ensures err { OnErr result (self.new ≡ self.old) }
     {
         self.targets.reserve(1)?;
@@ -192,7 +193,8 @@ fn listed(
     switches: BTreeMap<u16, Vec<u16>>,
 ) -> Result<(Vec<u16>, Vec<Vec<u16>>), AllocError>
     ensures numbers { IfOk result (λ r. r.0.items ≡ map (λ e. e.0) switches.entries) }
-    ensures ports { IfOk result (λ r. map (λ p. p.items) r.1.items ≡ map (λ e. e.1.items) switches.entries) }
+    ensures ports { IfOk result
+        (λ r. map (λ p. p.items) r.1.items ≡ map (λ e. e.1.items) switches.entries) }
 {
     let mut numbers = Vec::new(alloc);
     let mut lists = Vec::new(alloc);

@@ -38,7 +38,8 @@ fn begins_below(link: &(u16, u16, u16, u16), sw: u16, pt: u16) -> bool
 
 /// How many of the links, ascending by source, begin below the port.
 pub(crate) fn link_place(links: &[(u16, u16, u16, u16)], sw: u16, pt: u16) -> usize
-    requires { AllPairs (λ k l. IsTrue (starts_below l.from_switch l.from_port k)) (map link_of links.now) }
+    requires { AllPairs (λ k l. IsTrue (starts_below l.from_switch l.from_port k))
+        (map link_of links.now) }
     ensures place { result ≡ prefix_len (starts_below sw pt) (map link_of links.now) }
     ensures within { result ≤ length links.now }
 {
@@ -50,7 +51,8 @@ pub(crate) fn sorted(alloc: Global, numbers: &[u16]) -> Result<Vec<u16>, AllocEr
     ensures numbers { IfOk result (λ v. v.items ≡ ascending numbers.now) }
     ensures climbs { IfOk result (λ v. AllPairs (λ p q. p ≤ q) v.items) }
     ensures doubles { IfOk result (λ v. has_double v.items ≡ has_double numbers.now) }
-    ensures rises { IfOk result (λ v. has_double v.items ≡ false → AllPairs (λ p q. p < q) v.items) }
+    ensures rises { IfOk result
+        (λ v. has_double v.items ≡ false → AllPairs (λ p q. p < q) v.items) }
 {
     let mut sorted = Vec::from_slice(alloc, numbers)?;
     sorted.sort_unstable();

@@ -104,7 +104,8 @@ impl Topo {
     pub fn ports(&self, sw: u16) -> &[u16]
         ensures ports { result.now ≡ ports_of self.now sw }
         ensures ascend { AllPairs (λ p q. p < q) result.now }
-        ensures each { (pt : ℕ) → declared.is_port self.now sw pt ≡ list_any (λ p. p == pt) result.now }
+        ensures each { (pt : ℕ) → declared.is_port self.now sw pt
+            ≡ list_any (λ p. p == pt) result.now }
     {
         match find_in(self.numbers.as_slice(), sw) {
             Some(place) => self.ports[place].as_slice(),

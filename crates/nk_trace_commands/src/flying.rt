@@ -71,7 +71,8 @@ fn push_left(
     fields: &Fields,
     left: &[Left],
 ) -> Result<(), AllocError>
-    ensures { OnOk result (out.new.items ≡ out.old.items ++ flat_map (left_line fields.now) left.now) }
+    ensures { OnOk result (out.new.items
+        ≡ out.old.items ++ flat_map (left_line fields.now) left.now) }
 {
     for gone in left {
         push_history(alloc, out, fields, &gone.history)?;

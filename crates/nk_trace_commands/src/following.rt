@@ -119,7 +119,8 @@ fn answer_to_tokens<F: Follow>(
     reader: TableReader,
 ) -> Result<CommandAnswer, AllocError>
     ensures { (tokens : List Token) → IsTaken tokens reader
-        → IfOk result (λ s. ToTables (F.tells how.now) (tables_of_tokens tokens) word.now (outcome_of s)) }
+        → IfOk result (λ s. ToTables (F.tells how.now) (tables_of_tokens tokens) word.now
+        (outcome_of s)) }
 {
     match reader.end(alloc) {
         Ok(tables) => answer_to_word(alloc, how, &tables, word),
@@ -138,7 +139,8 @@ pub fn answer_to_word<F: Follow>(
     t: &Tables,
     word: &str,
 ) -> Result<CommandAnswer, AllocError>
-    ensures { IfOk result (λ s. ToPacket (F.tells how.now) t.now (packet_of t.now.fields word.now) (outcome_of s)) }
+    ensures { IfOk result (λ s.
+        ToPacket (F.tells how.now) t.now (packet_of t.now.fields word.now) (outcome_of s)) }
 {
     match read_packet(alloc, &t.fields, word) {
         Ok(packet) => answer_to_packet(alloc, how, t, &packet),

@@ -39,7 +39,8 @@ fn each_switch(
     tag: Fid,
 ) -> Result<List<PlanTables>, AllocError>
     requires { NumbersInOrder new.now }
-    ensures { IfOk result (λ all. all ≡ map (plan_steps_of old.now new.now tag) (switches_of old.now)) }
+    ensures { IfOk result (λ all. all
+        ≡ map (plan_steps_of old.now new.now tag) (switches_of old.now)) }
 {
     let mut all = List::new(alloc);
     for switch in old.topo.switches() {

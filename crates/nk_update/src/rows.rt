@@ -116,7 +116,8 @@ fn keep_new(
 ) -> Result<(), AllocError>
     requires named { plans.NamesOneOf most row.now.target }
     requires few { most + n ≤ u64.MAX }
-    ensures { OnOk result (rows.new ≡ rows.old ++ (if stands then plans.plan_row_on n row.now ∷ [] else [])) }
+    ensures { OnOk result (rows.new
+        ≡ rows.old ++ (if stands then plans.plan_row_on n row.now ∷ [] else [])) }
 {
     if stands {
         rows.push(numbered_on(row, n, most)?)?;
@@ -138,7 +139,9 @@ pub(crate) fn rows_after(
 ) -> Result<List<Row>, AllocError>
     requires named { All (λ r. plans.NamesOneOf most r.target) news.now }
     requires few { most + n ≤ u64.MAX }
-    ensures { IfOk result (λ rows. rows ≡ filter (plans.old_stands digits f steps) olds.now ++ map (plans.plan_row_on n) (filter (plans.new_stands digits f steps) news.now)) }
+    ensures { IfOk result (λ rows. rows
+        ≡ filter (plans.old_stands digits f steps) olds.now
+        ++ map (plans.plan_row_on n) (filter (plans.new_stands digits f steps) news.now)) }
 {
     let mut rows = standing(alloc, olds, digits, f, steps)?;
     for row in news {

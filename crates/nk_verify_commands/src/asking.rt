@@ -35,7 +35,8 @@ pub fn waypoint_query<'a>(
     middle: &'a Bytes,
     target: &'a Bytes,
 ) -> Query<'a>
-    ensures { asked_in result ≡ waypoint name.entry.now from.entry.now middle.entry.now target.entry.now }
+    ensures { asked_in result
+        ≡ waypoint name.entry.now from.entry.now middle.entry.now target.entry.now }
 {
     Query::Waypoint {
         name: name.as_str(),
@@ -62,7 +63,8 @@ fn answer_to_program(
     program: &Program,
 ) -> Result<CommandAnswer, AllocError>
     requires is { IsProgram program.now.fields program.now.topo program.now.lets }
-    ensures { IfOk result (λ s. ToAsked (program_by program.now) (asked_in query.now) (outcome_of s)) }
+    ensures { IfOk result (λ s.
+        ToAsked (program_by program.now) (asked_in query.now) (outcome_of s)) }
 {
     // This is a law: what is printed for two policies is read back.
     certificates_of_policies_are_read();

@@ -38,7 +38,9 @@ pub(crate) trait Judge {
     ) -> Result<CommandAnswer, AllocError>
         requires is { IsProgram program.fields program.topo program.lets }
         requires predicates { HasPredicates (certificate_value certificate.now) }
-        ensures { IfOk result (λ s. TellsNoFault (tells self.now (program_by program) (certificate_value certificate.now)) (outcome_of s)) };
+        ensures { IfOk result (λ s.
+            TellsNoFault (tells self.now (program_by program) (certificate_value certificate.now))
+            (outcome_of s)) };
 }
 
 /// A text with a certificate whose tokens are taken one by one.
@@ -59,7 +61,8 @@ impl TokenReader for CertifiedTokens {
 
 /// What judging a certificate means to say, over a source that gives a text with one, whose tokens are taken as they come.
 pub(crate) fn judge_text<S: Source, J: Judge>(alloc: Global, how: &J, source: &mut S) -> Reply
-    ensures { IsMeantBy (ToCertified (J.tells how.now)) (use_of S.left S.faults source.old source.new) (answer_in result) }
+    ensures { IsMeantBy (ToCertified (J.tells how.now))
+        (use_of S.left S.faults source.old source.new) (answer_in result) }
 {
     let mut tokens = match CertReader::new(alloc) {
         Ok(reader) => CertifiedTokens { reader },
@@ -73,7 +76,8 @@ pub(crate) fn judge_text<S: Source, J: Judge>(alloc: Global, how: &J, source: &m
 
 /// The same over a text that has a lexical fault, or all of whose tokens the reader has taken.
 fn reply_to_text<J: Judge>(alloc: Global, how: &J, lexed: Lexed, reader: CertReader) -> Reply
-    requires cut { (bytes : List ℕ) × IsLexedAs (λ tokens. IsTaken tokens reader) lexed (tokens_of bytes) }
+    requires cut { (bytes : List ℕ)
+        × IsLexedAs (λ tokens. IsTaken tokens reader) lexed (tokens_of bytes) }
     ensures { (bytes : List ℕ) → IsLexedAs (λ tokens. IsTaken tokens reader) lexed (tokens_of bytes)
         → IsReplyOf (ToCertified (J.tells how.now) bytes) result }
 {
@@ -90,7 +94,8 @@ fn answer_to_text<J: Judge>(
     lexed: Lexed,
     reader: CertReader,
 ) -> Result<CommandAnswer, AllocError>
-    requires cut { (bytes : List ℕ) × IsLexedAs (λ tokens. IsTaken tokens reader) lexed (tokens_of bytes) }
+    requires cut { (bytes : List ℕ)
+        × IsLexedAs (λ tokens. IsTaken tokens reader) lexed (tokens_of bytes) }
     ensures { (bytes : List ℕ) → IsLexedAs (λ tokens. IsTaken tokens reader) lexed (tokens_of bytes)
         → IfOk result (λ s. ToCertified (J.tells how.now) bytes (outcome_of s)) }
 {
@@ -109,7 +114,8 @@ fn answer_to_tokens<J: Judge>(
     how: &J,
     reader: CertReader,
 ) -> Result<CommandAnswer, AllocError>
-    requires small { (tokens : List Token) × IsTaken tokens reader × All (λ t. t.value ≤ largest) tokens }
+    requires small { (tokens : List Token) × IsTaken tokens reader
+        × All (λ t. t.value ≤ largest) tokens }
     ensures { (tokens : List Token) → IsTaken tokens reader
         → IfOk result (λ s. ToCertifiedTokens (J.tells how.now) tokens (outcome_of s)) }
 {

@@ -62,7 +62,9 @@ fn answer_to_certificate(
 ) -> Result<CommandAnswer, AllocError>
     requires is { IsProgram program.fields program.topo program.lets }
     requires predicates { HasPredicates (certificate_value certificate.now) }
-    ensures { IfOk result (λ s. TellsNoFault (λ o. ToChecked (program_by program) left.now right.now (certificate_value certificate.now) o) (outcome_of s)) }
+    ensures { IfOk result (λ s.
+        TellsNoFault (λ o. ToChecked (program_by program) left.now right.now
+        (certificate_value certificate.now) o) (outcome_of s)) }
 {
     // This is a law: policies with a certificate give the same histories.
     a_certificate_shows_equality();

@@ -77,7 +77,9 @@ fn answer_to_certificate(
 ) -> Result<CommandAnswer, AllocError>
     requires is { IsProgram program.now.fields program.now.topo program.now.lets }
     requires predicates { HasPredicates (certificate_value certificate.now) }
-    ensures { IfOk result (λ s. TellsNoFault (λ o. ToJudged (program_by program.now) (asked_in query.now) (certificate_value certificate.now) o) (outcome_of s)) }
+    ensures { IfOk result (λ s.
+        TellsNoFault (λ o. ToJudged (program_by program.now) (asked_in query.now)
+        (certificate_value certificate.now) o) (outcome_of s)) }
 {
     match check_query(alloc, program, query, certificate) {
         Ok(Verdict::Valid) => Ok(CommandAnswer::Done(Vec::from_slice(alloc, b"valid\n")?)),

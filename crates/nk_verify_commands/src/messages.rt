@@ -22,7 +22,8 @@ pub fn difference_message(
     fields: &Fields,
     found: &Found,
 ) -> Result<Vec<u8>, AllocError>
-    ensures { IfOk result (λ v. v.items ≡ difference_lines fields.now (whose found.now.side) (found_of found.now)) }
+    ensures { IfOk result (λ v. v.items
+        ≡ difference_lines fields.now (whose found.now.side) (found_of found.now)) }
 {
     let mut message = Vec::from_slice(alloc, b"different\n")?;
     message.extend_from_slice(side_words(found.side))?;

@@ -87,7 +87,8 @@ fn through(
     mark: u32,
 ) -> Result<Pol, AllocError>
     requires { map link_of ends.now.keys ≡ map (λ k. k.ends) links.now }
-    ensures { IfOk result (λ q. tree_of q ≡ link_through links.now literal.0 literal.1 literal.2 literal.3 mark) }
+    ensures { IfOk result (λ q. tree_of q
+        ≡ link_through links.now literal.0 literal.1 literal.2 literal.3 mark) }
 {
     match place_of(links, ends, literal) {
         Some(place) => through_fabric(alloc, &links[place]),

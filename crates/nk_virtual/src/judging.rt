@@ -114,8 +114,10 @@ fn least_from(
     start: &Packet,
 ) -> Result<(Packet, History), AllocError>
     requires askable { IsAskable fields.now (virtual_link_of k.now) }
-    requires some { (f : Found) × IsOffTarget fields.now (virtual_link_of k.now) f × (f.start ≡ start.now) }
-    ensures { IfOk result (λ r. IsLeastFrom fields.now (virtual_link_of k.now) start.now (history_from r.0 r.1)) }
+    requires some { (f : Found) × IsOffTarget fields.now (virtual_link_of k.now) f
+        × (f.start ≡ start.now) }
+    ensures { IfOk result (λ r.
+        IsLeastFrom fields.now (virtual_link_of k.now) start.now (history_from r.0 r.1)) }
 {
     let others = elsewhere(alloc, fields, k, start)?;
     let nothing = dropping(alloc);

@@ -30,12 +30,14 @@ ghost use Rattle.nk_virtual.specs.Worked.{one_to_three, across_virtual, virtual_
 pub fn physical_histories_lie_over_virtual_ones()
     ensures histories { (fields : FieldTable) (links : List VirtualLink) (p : Policy)
         → IsFieldTable fields → IsVirtual fields links p
-        → (pk : Packet) (w : List Packet) (last : Packet) → IsPacket fields pk → IsUntagged fields pk
+        → (pk : Packet) (w : List Packet) (last : Packet) → IsPacket fields pk
+        → IsUntagged fields pk
         → Gives (physical links p) pk w last
         → (v : List Packet) × Gives p pk v last × LiesOver links w v }
     ensures numbered { (fields : FieldTable) (links : List VirtualLink) (p : Policy)
         → IsFieldTable fields → IsVirtual fields links p
-        → (n : ℕ) (pk : Packet) (w : List Packet) (last : Packet) → IsPacket fields pk → IsUntagged fields pk
+        → (n : ℕ) (pk : Packet) (w : List Packet) (last : Packet) → IsPacket fields pk
+        → IsUntagged fields pk
         → Gives (marked_from (physical links p) n) pk w last
         → (v : List Packet) × Gives p pk v last × LiesOver links w v }
 {}
@@ -45,14 +47,17 @@ pub fn physical_histories_lie_over_virtual_ones()
 pub fn virtual_histories_have_physical_ones()
     ensures histories { (fields : FieldTable) (links : List VirtualLink) (p : Policy)
         → IsFieldTable fields → IsVirtual fields links p
-        → (pk : Packet) (v : List Packet) (last : Packet) → IsPacket fields pk → IsUntagged fields pk
+        → (pk : Packet) (v : List Packet) (last : Packet) → IsPacket fields pk
+        → IsUntagged fields pk
         → Gives p pk v last
         → (w : List Packet) × Gives (physical links p) pk w last × LiesOver links w v }
     ensures numbered { (fields : FieldTable) (links : List VirtualLink) (p : Policy)
         → IsFieldTable fields → IsVirtual fields links p
-        → (n : ℕ) (pk : Packet) (v : List Packet) (last : Packet) → IsPacket fields pk → IsUntagged fields pk
+        → (n : ℕ) (pk : Packet) (v : List Packet) (last : Packet) → IsPacket fields pk
+        → IsUntagged fields pk
         → Gives p pk v last
-        → (w : List Packet) × Gives (marked_from (physical links p) n) pk w last × LiesOver links w v }
+        → (w : List Packet) × Gives (marked_from (physical links p) n) pk w last
+        × LiesOver links w v }
 {}
 
 /// So packets leave the physical policy exactly where they leave the virtual one.
@@ -60,7 +65,8 @@ pub fn packets_leave_where_the_virtual_policy_says()
     ensures { (fields : FieldTable) (links : List VirtualLink) (p : Policy)
         → IsFieldTable fields → IsVirtual fields links p
         → (pk last : Packet) → IsPacket fields pk → IsUntagged fields pk
-        → ((w : List Packet) × Gives (physical links p) pk w last) ↔ ((v : List Packet) × Gives p pk v last) }
+        → ((w : List Packet) × Gives (physical links p) pk w last) ↔
+        ((v : List Packet) × Gives p pk v last) }
 {}
 
 /// A physical policy is over the fields where the virtual policy and the fabrics are, and its complements are of predicates.
@@ -102,7 +108,8 @@ pub fn physical_policies_stay_plain()
 /// A policy without its dups records nothing, and ends where the policy does.
 pub fn a_fabric_ends_where_it_does_without_dups()
     ensures { (p : Policy) (pk : Packet) (w : List Packet) (last : Packet)
-        → Gives (without_records p) pk w last ↔ ((w ≡ []) × ((u : List Packet) × Gives p pk u last)) }
+        → Gives (without_records p) pk w last ↔
+        ((w ≡ []) × ((u : List Packet) × Gives p pk u last)) }
 {}
 
 /// So a virtual link is carried exactly where from each packet in range without a tag at its start the fabric without its
@@ -124,18 +131,22 @@ pub fn one_carriage()
     ensures on_target { (fields : FieldTable) (k : VirtualLink) → IsOnTarget fields k
         → (f : Found) → IsOffTarget fields k f → ⊥ }
     ensures carried { (fields : FieldTable) (k : VirtualLink) → IsCarried fields k
-        → ((f : Found) → IsOffTarget fields k f → ⊥) × ((x : Packet) → IsNotCarried fields k x → ⊥) }
+        → ((f : Found) → IsOffTarget fields k f → ⊥)
+        × ((x : Packet) → IsNotCarried fields k x → ⊥) }
 {}
 
 /// At most one thing is answered to a name, unless memory runs out, in programs that say the same: the first reason why it has no
 /// physical policy is one, there is none beside a physical policy, and of that there is one.
 pub fn one_thing_is_answered_of_a_name()
-    ensures reasons { (program other : Program) (name : List ℕ) (r s : VirtualRefusal) → program_by program ≡ program_by other
+    ensures reasons { (program other : Program) (name : List ℕ) (r s : VirtualRefusal)
+        → program_by program ≡ program_by other
         → AreVirtual program.fields program.topo program.fabrics program.virtuals
         → IsVirtualReason program name r → IsVirtualReason other name s → r ≡ s }
-    ensures none { (program other : Program) (name : List ℕ) (q : Policy) (r : VirtualRefusal) → program_by program ≡ program_by other
+    ensures none { (program other : Program) (name : List ℕ) (q : Policy) (r : VirtualRefusal)
+        → program_by program ≡ program_by other
         → IsPhysical program name q → IsVirtualReason other name r → ⊥ }
-    ensures policies { (program other : Program) (name : List ℕ) (q s : Policy) → program_by program ≡ program_by other
+    ensures policies { (program other : Program) (name : List ℕ) (q s : Policy)
+        → program_by program ≡ program_by other
         → IsPhysical program name q → IsPhysical other name s → q ≡ s }
 {}
 

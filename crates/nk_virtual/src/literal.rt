@@ -26,7 +26,8 @@ pub(crate) fn ends_of(alloc: Global, links: &[VirtualLink]) -> Result<IndexSet<E
 /// The place of the first virtual link with the ends of a literal.
 pub(crate) fn place_of(links: &[VirtualLink], ends: &IndexSet<Ends>, literal: Ends) -> Option<usize>
     requires { map link_of ends.now.keys ≡ map (λ k. k.ends) links.now }
-    ensures place { result ≡ position (has_ends literal.0 literal.1 literal.2 literal.3) (map (λ k. k.ends) links.now) }
+    ensures place { result ≡ position (has_ends literal.0 literal.1 literal.2 literal.3)
+        (map (λ k. k.ends) links.now) }
     ensures within { IfSome result (λ i. i < length links.now) }
 {
     ends.get_index_of(&literal)

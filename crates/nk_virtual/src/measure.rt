@@ -77,7 +77,8 @@ fn all_sizes(links: &[VirtualLink], ends: &IndexSet<Ends>, sizes: &[u64], ps: &[
 fn through_size(links: &[VirtualLink], ends: &IndexSet<Ends>, sizes: &[u64], literal: Ends) -> u64
     requires ends { map link_of ends.now.keys ≡ map (λ k. k.ends) links.now }
     requires sizes { sizes.now ≡ map fabric_size links.now }
-    ensures { (l : ℕ) → result ≡ size_within (link_through links.now literal.0 literal.1 literal.2 literal.3 l) }
+    ensures { (l : ℕ) → result
+        ≡ size_within (link_through links.now literal.0 literal.1 literal.2 literal.3 l) }
 {
     match place_of(links, ends, literal) {
         Some(place) => sizes[place].saturating_add(3),

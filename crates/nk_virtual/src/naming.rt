@@ -33,7 +33,8 @@ pub fn physical(alloc: Global, program: &Program, name: &str) -> Result<Pol, Vir
 /// The same of a policy.
 fn answer_for(alloc: Global, program: &Program, policy: &NamedPolicy) -> Result<Pol, VirtualError>
     requires { IsLet program.now.fields policy.now }
-    ensures { IsAnswerFor program.now.fields program.now.topo program.now.virtuals policy.now result }
+    ensures { IsAnswerFor program.now.fields program.now.topo program.now.virtuals policy.now
+        result }
 {
     let Some(tag) = program.fields.tag() else {
         return Err(VirtualError::Refused(VirtualRefusal::NoTag));
@@ -53,7 +54,8 @@ fn answer_over(alloc: Global, program: &Program, tag: Fid, p: &Pol) -> Result<Po
     requires declared { program.now.fields.tag ≡ Some tag }
     requires usable { All (IsUsable program.now.fields program.now.topo tag) program.now.virtuals }
     requires fit { IsLet program.now.fields (tree_of p.now) }
-    ensures { IsAnswerOver program.now.fields program.now.topo program.now.virtuals tag (tree_of p.now) result }
+    ensures { IsAnswerOver program.now.fields program.now.topo program.now.virtuals tag
+        (tree_of p.now) result }
 {
     let links = program.virtual_links();
     let ends = ends_of(alloc, links)?;

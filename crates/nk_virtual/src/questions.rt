@@ -14,7 +14,8 @@ use std::alloc::{AllocError, Global};
 
 /// From the packets that enter: the move.
 pub(crate) fn moves(alloc: Global, fields: &Fields, k: &FabricLink) -> Result<Pol, AllocError>
-    ensures { IfOk result (λ q. tree_of q ≡ from_entry_of fields.now.tag (virtual_link_of k.now) (move_of (virtual_link_of k.now))) }
+    ensures { IfOk result (λ q. tree_of q
+        ≡ from_entry_of fields.now.tag (virtual_link_of k.now) (move_of (virtual_link_of k.now))) }
 {
     let there = going(alloc, k)?;
     from_entry(alloc, fields, k, there)
@@ -23,7 +24,8 @@ pub(crate) fn moves(alloc: Global, fields: &Fields, k: &FabricLink) -> Result<Po
 /// From the packets that enter: the fabric's ends.
 pub(crate) fn ends(alloc: Global, fields: &Fields, k: &FabricLink) -> Result<Pol, AllocError>
     ensures { IfOk result (λ q. tree_of q
-        ≡ from_entry_of fields.now.tag (virtual_link_of k.now) (bare_of (virtual_link_of k.now).fabric)) }
+        ≡ from_entry_of fields.now.tag (virtual_link_of k.now)
+        (bare_of (virtual_link_of k.now).fabric)) }
 {
     let bare = without_records(alloc, &k.fabric)?;
     from_entry(alloc, fields, k, bare)
@@ -36,7 +38,8 @@ pub(crate) fn ends_and_move(
     k: &FabricLink,
 ) -> Result<Pol, AllocError>
     ensures { IfOk result (λ q. tree_of q
-        ≡ from_entry_of fields.now.tag (virtual_link_of k.now) (ends_or_move_of (virtual_link_of k.now))) }
+        ≡ from_entry_of fields.now.tag (virtual_link_of k.now)
+        (ends_or_move_of (virtual_link_of k.now))) }
 {
     let both = ends_or_move(alloc, k)?;
     from_entry(alloc, fields, k, both)
@@ -45,7 +48,8 @@ pub(crate) fn ends_and_move(
 /// A policy from the packets that enter alone.
 #[tactic(auto, using(nk_policy::proofs::Trees::tree_of_seq))]
 fn from_entry(alloc: Global, fields: &Fields, k: &FabricLink, p: Pol) -> Result<Pol, AllocError>
-    ensures { IfOk result (λ q. tree_of q ≡ from_entry_of fields.now.tag (virtual_link_of k.now) (tree_of p)) }
+    ensures { IfOk result (λ q. tree_of q
+        ≡ from_entry_of fields.now.tag (virtual_link_of k.now) (tree_of p)) }
 {
     let first = entry(alloc, fields, k)?;
     let parts = vec![in alloc; first, p]?;

@@ -52,7 +52,8 @@ fn off_target_message(
     start: &Packet,
     history: &History,
 ) -> Result<Vec<u8>, AllocError>
-    ensures { IfOk result (λ v. v.items ≡ codes "refused C11: off target, " ++ link_message_text link.0 link.1
+    ensures { IfOk result (λ v. v.items
+        ≡ codes "refused C11: off target, " ++ link_message_text link.0 link.1
         ++ way_lines fields.now start.now history.now) }
 {
     let head = link_message(alloc, b"refused C11: off target, ", link.0, link.1)?;
@@ -66,7 +67,8 @@ fn not_carried_message(
     link: (u16, u16),
     start: &Packet,
 ) -> Result<Vec<u8>, AllocError>
-    ensures { IfOk result (λ v. v.items ≡ codes "refused C12: not carried, " ++ link_message_text link.0 link.1
+    ensures { IfOk result (λ v. v.items
+        ≡ codes "refused C12: not carried, " ++ link_message_text link.0 link.1
         ++ start_line fields.now start.now) }
 {
     let mut message = link_message(alloc, b"refused C12: not carried, ", link.0, link.1)?;

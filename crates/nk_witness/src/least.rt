@@ -34,20 +34,28 @@ pub fn least_history<G: Goal>(
     requires fits { G.fits g.old st.old }
     requires labels { length states.now ≤ G.labels g.old }
     requires states { AreStates st.old states.now }
-    requires levels { AreLevels st.old st.old ss.old states.now (first_set l.now.levels) (first_packets l.now.levels) (G.violations_of g.old st.old) l.now.levels l.now.broken }
+    requires levels { AreLevels st.old st.old ss.old states.now (first_set l.now.levels)
+        (first_packets l.now.levels) (G.violations_of g.old st.old) l.now.levels l.now.broken }
     requires broken { l.now.broken ≡ true }
     ensures grows { Grows st.old st.new }
     ensures sets { SetsGrow ss.old ss.new }
     ensures breaks { IfOk result (λ f.
-        IsBreak st.old states.now (slice_index_or ss.old (first_set l.now.levels) []) (first_packets l.now.levels) (G.violations_of g.old st.old) (target_of f.side) (found_of f)) }
+        IsBreak st.old states.now (slice_index_or ss.old (first_set l.now.levels) [])
+        (first_packets l.now.levels) (G.violations_of g.old st.old) (target_of f.side)
+        (found_of f)) }
     ensures least { IfOk result (λ f.
-        IsLeast (Breaks st.old states.now (slice_index_or ss.old (first_set l.now.levels) []) (first_packets l.now.levels) (G.violations_of g.old st.old)) (found_of f)) }
+        IsLeast (Breaks st.old states.now (slice_index_or ss.old (first_set l.now.levels) [])
+        (first_packets l.now.levels) (G.violations_of g.old st.old)) (found_of f)) }
     ensures left { IfOk result (λ f.
-        IsBreak st.old states.now (slice_index_or ss.old (first_set l.now.levels) []) (first_packets l.now.levels) (G.violations_of g.old st.old) 0 (found_of f) → f.side ≡ Side.Left) }
+        IsBreak st.old states.now (slice_index_or ss.old (first_set l.now.levels) [])
+        (first_packets l.now.levels) (G.violations_of g.old st.old) 0 (found_of f)
+        → f.side ≡ Side.Left) }
     ensures range { IfOk result (λ f. IsStorePacket st.old f.history.last) }
     ensures fits { OnOk result (G.fits g.new st.new) }
     ensures labels { OnOk result (G.labels g.new ≡ G.labels g.old) }
-    ensures same { OnOk result ((st : StoreState) (set pk : Items ℕ) → G.violations_of g.new st set pk ≡ G.violations_of g.old st set pk) }
+    ensures same { OnOk result
+        ((st : StoreState) (set pk : Items ℕ)
+        → G.violations_of g.new st set pk ≡ G.violations_of g.old st set pk) }
 {
     let mut backs = List::new(st.alloc());
     let found = go_forward(st, ss, states, &mut backs, l, g)?;
@@ -66,20 +74,28 @@ fn go_forward<G: Goal>(
     requires fits { G.fits g.old st.old }
     requires labels { length states.now ≤ G.labels g.old }
     requires states { AreStates st.old states.now }
-    requires levels { AreLevels st.old st.old ss.old states.now (first_set l.now.levels) (first_packets l.now.levels) (G.violations_of g.old st.old) l.now.levels l.now.broken }
+    requires levels { AreLevels st.old st.old ss.old states.now (first_set l.now.levels)
+        (first_packets l.now.levels) (G.violations_of g.old st.old) l.now.levels l.now.broken }
     requires broken { l.now.broken ≡ true }
     ensures grows { Grows st.old st.new }
     ensures sets { SetsGrow ss.old ss.new }
     ensures breaks { IfOk result (λ f.
-        IsBreak st.old states.now (slice_index_or ss.old (first_set l.now.levels) []) (first_packets l.now.levels) (G.violations_of g.old st.old) (target_of f.side) (found_of f)) }
+        IsBreak st.old states.now (slice_index_or ss.old (first_set l.now.levels) [])
+        (first_packets l.now.levels) (G.violations_of g.old st.old) (target_of f.side)
+        (found_of f)) }
     ensures least { IfOk result (λ f.
-        IsLeast (Breaks st.old states.now (slice_index_or ss.old (first_set l.now.levels) []) (first_packets l.now.levels) (G.violations_of g.old st.old)) (found_of f)) }
+        IsLeast (Breaks st.old states.now (slice_index_or ss.old (first_set l.now.levels) [])
+        (first_packets l.now.levels) (G.violations_of g.old st.old)) (found_of f)) }
     ensures left { IfOk result (λ f.
-        IsBreak st.old states.now (slice_index_or ss.old (first_set l.now.levels) []) (first_packets l.now.levels) (G.violations_of g.old st.old) 0 (found_of f) → f.side ≡ Side.Left) }
+        IsBreak st.old states.now (slice_index_or ss.old (first_set l.now.levels) [])
+        (first_packets l.now.levels) (G.violations_of g.old st.old) 0 (found_of f)
+        → f.side ≡ Side.Left) }
     ensures range { IfOk result (λ f. IsStorePacket st.old f.history.last) }
     ensures fits { OnOk result (G.fits g.new st.new) }
     ensures labels { OnOk result (G.labels g.new ≡ G.labels g.old) }
-    ensures same { OnOk result ((st : StoreState) (set pk : Items ℕ) → G.violations_of g.new st set pk ≡ G.violations_of g.old st set pk) }
+    ensures same { OnOk result
+        ((st : StoreState) (set pk : Items ℕ)
+        → G.violations_of g.new st set pk ≡ G.violations_of g.old st set pk) }
 {
     let made = backs_of(st, ss, states, l, g)?;
     *backs = made;
@@ -137,15 +153,21 @@ fn backs_of<G: Goal>(
     requires fits { G.fits g.old st.old }
     requires labels { length states.now ≤ G.labels g.old }
     requires states { AreStates st.old states.now }
-    requires levels { AreLevels st.old st.old ss.old states.now (first_set l.now.levels) (first_packets l.now.levels) (G.violations_of g.old st.old) l.now.levels l.now.broken }
+    requires levels { AreLevels st.old st.old ss.old states.now (first_set l.now.levels)
+        (first_packets l.now.levels) (G.violations_of g.old st.old) l.now.levels l.now.broken }
     ensures grows { Grows st.old st.new }
     ensures sets { SetsGrow ss.old ss.new }
     ensures differ { OnOk result (HasEachSetOnce ss.new) }
     ensures count { IfOk result (λ backs. length backs ≡ length l.now.levels) }
-    ensures ok { IfOk result (λ backs. AreBacks st.old st.new ss.old ss.new states.now (G.violations_of g.old st.old) l.now.levels (length l.now.levels - 1) (length l.now.levels) backs) }
+    ensures ok { IfOk result
+        (λ backs. AreBacks st.old st.new ss.old ss.new states.now
+        (G.violations_of g.old st.old) l.now.levels (length l.now.levels - 1)
+        (length l.now.levels) backs) }
     ensures fits { OnOk result (G.fits g.new st.new) }
     ensures labels { OnOk result (G.labels g.new ≡ G.labels g.old) }
-    ensures same { OnOk result ((st : StoreState) (set pk : Items ℕ) → G.violations_of g.new st set pk ≡ G.violations_of g.old st set pk) }
+    ensures same { OnOk result
+        ((st : StoreState) (set pk : Items ℕ)
+        → G.violations_of g.new st set pk ≡ G.violations_of g.old st set pk) }
 {
     let last = l.levels.len() - 1;
     let level = l.levels.at(last);

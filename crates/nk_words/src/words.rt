@@ -282,10 +282,13 @@ fn command_named(alloc: Global, name: &str, found: &ArgMatches) -> Result<Comman
 
 /// The same for a name that is none of the commands about tables and about two policies.
 fn query_named(alloc: Global, name: &str, found: &ArgMatches) -> Result<Command, WordsError>
-    ensures { Reads (if bytes_eq name.now (codes "apart") then apart_of (rows_of (found_of found.now))
+    ensures { Reads (if bytes_eq name.now (codes "apart") then apart_of
+        (rows_of (found_of found.now))
         else if bytes_eq name.now (codes "waypoint") then waypoint_of (rows_of (found_of found.now))
-        else if bytes_eq name.now (codes "check_apart") then check_apart_of (rows_of (found_of found.now))
-        else if bytes_eq name.now (codes "check_waypoint") then check_waypoint_of (rows_of (found_of found.now))
+        else if bytes_eq name.now (codes "check_apart") then check_apart_of
+        (rows_of (found_of found.now))
+        else if bytes_eq name.now (codes "check_waypoint") then check_waypoint_of
+        (rows_of (found_of found.now))
         else if bytes_eq name.now (codes "gen") then gen_of (rows_of (found_of found.now))
         else if bytes_eq name.now (codes "job") then job_of (rows_of (found_of found.now))
         else if bytes_eq name.now (codes "update") then update_of (rows_of (found_of found.now))
