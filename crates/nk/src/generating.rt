@@ -55,7 +55,7 @@ pub(crate) fn job_answer(alloc: Global, size: u64, seed: u64) -> Result<CommandA
     job_over(alloc, text)
 }
 
-/// The same over the bytes of a text.
+/// What the job answers over the bytes of a text.
 fn job_over(alloc: Global, bytes: Vec<u8>) -> Result<CommandAnswer, AllocError>
     ensures { IfOk result (λ s. IsJobOver bytes.items (outcome_of s)) }
 {
@@ -65,7 +65,8 @@ fn job_over(alloc: Global, bytes: Vec<u8>) -> Result<CommandAnswer, AllocError>
     }
 }
 
-/// The same over a program: the first answer that isn't that its command is done, or else the lines of all three.
+/// What the job answers over a program: the first answer that isn't that its command is done, or else the lines of all three
+/// commands.
 fn job_of_program(alloc: Global, program: &Program) -> Result<CommandAnswer, AllocError>
     requires is { IsProgram program.now.fields program.now.topo program.now.lets }
     requires declared { CanBeDeclared (program_by program.now) }

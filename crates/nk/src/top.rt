@@ -109,7 +109,7 @@ fn reply_from<S: Source>(alloc: Global, command: &Command, source: &mut S) -> Re
     }
 }
 
-/// The same for a command that reads nothing, or all of the input before it answers.
+/// What the run means to say to a command that reads nothing, or that reads all of the input before it answers.
 fn reply_to_whole<S: Source>(alloc: Global, command: &Command, source: &mut S) -> Reply
     requires within { IsWithinLimits command.now }
     requires whole { reads_in_pieces command.now ≡ false }

@@ -83,7 +83,8 @@ impl Asked {
         println!(rt; "status {status}\n[{printed}][{told}]")
     }
 
-    /// The same, with the number of the bytes that `out` took in place of these bytes. No call of `out` fails.
+    /// Asks for the answer to words, and prints it with the number of the bytes that `out` took in place of these bytes. No
+    /// call of `out` fails.
     pub(crate) fn count(&self, rt: &HostRuntime, words: &str) -> io::Result<()> {
         let alloc = rt.alloc();
         let words = listed(alloc, words)?;

@@ -70,7 +70,7 @@ fn seq_blocks(
     union_later(st, left, right)
 }
 
-/// The same at once: all outs are made, then put in order.
+/// The sequence for some of the first leaf's outs, at once: all outs are made, then put in order.
 fn seq_block(st: &mut Store, a: Id, b: Id, from: usize, to: usize) -> Result<Id, AllocError>
     requires left { IsId st.old a }
     requires right { IsId st.old b }

@@ -139,7 +139,7 @@ fn is_wide(st: &Store, d: Id) -> bool
     has_many(st, d, STEPS)
 }
 
-/// The same, so many steps below the first node at most.
+/// Whether a node of a diagram has many parts by its field: the first node, or one that is so many steps below it at most.
 #[cycle(has_many)]
 fn has_many(st: &Store, d: Id, steps: u64) -> bool
     requires { IsId st.now d }
@@ -150,7 +150,8 @@ fn has_many(st: &Store, d: Id, steps: u64) -> bool
     }
 }
 
-/// The same of some parts, if there is a step left.
+/// Whether one of these parts leads to a diagram that `has_many` finds wide with one step less. Where no step is left, none
+/// does.
 #[cycle(has_many)]
 fn some_has_many(st: &Store, parts: &[(u64, Id)], steps: u64) -> bool
     requires { Each (IsId st.now) parts.now }
@@ -176,7 +177,7 @@ fn may_keep(st: &Store, a: Id) -> bool
     }
 }
 
-/// The same of some parts.
+/// Whether some out of one of these parts may leave the field as it is.
 fn some_keeps(st: &Store, f: Fid, parts: &[(u64, Id)]) -> bool
     requires { Each (IsId st.now) parts.now }
 {
@@ -188,7 +189,8 @@ fn some_keeps(st: &Store, f: Fid, parts: &[(u64, Id)]) -> bool
     false
 }
 
-/// The same of one part's diagram.
+/// Whether some out of a part's diagram may leave the field as it is. The outs of a leaf are looked at; any other diagram may
+/// have one.
 fn part_keeps(st: &Store, f: Fid, d: Id) -> bool
     requires { IsId st.now d }
 {
@@ -256,7 +258,7 @@ fn first_keeps(st: &Store, d: Id, f: Fid, steps: u64) -> Option<bool>
     }
 }
 
-/// The same of some parts, if there is a step left.
+/// Whether the first out of these parts leaves the field as it is, if one is found in the steps that are left.
 #[cycle(first_keeps)]
 fn keeps_below(st: &Store, parts: &[(u64, Id)], f: Fid, steps: u64) -> Option<bool>
     requires { Each (IsId st.now) parts.now }
@@ -413,7 +415,8 @@ fn seq_to_values(st: &mut Store, f: Fid, a: Id, b: Id) -> Result<Id, AllocError>
     }
 }
 
-/// The same, with so many turns left.
+/// The sequence of a diagram that doesn't test the field. What goes on at one value of the field is put through by itself, at
+/// most as often as turns are left.
 #[cycle(partition_diagram)]
 fn seq_by_values(st: &mut Store, f: Fid, a: Id, b: Id, turns: u64) -> Result<Id, AllocError>
     requires left { IsId st.old a }
@@ -435,7 +438,8 @@ fn seq_by_values(st: &mut Store, f: Fid, a: Id, b: Id, turns: u64) -> Result<Id,
     }
 }
 
-/// The same: first what goes on at this value of the field or at one of its part, and then the others.
+/// The sequence of a diagram that doesn't test the field. What goes on at this value of the field, or at a later value of the
+/// same part, is put through by itself; the others follow.
 #[cycle(partition_diagram)]
 fn seq_at_value(st: &mut Store, f: Fid, n: u64, a: Id, b: Id, turns: u64) -> Result<Id, AllocError>
     requires left { IsId st.old a }
@@ -488,7 +492,7 @@ fn value_in(st: &Store, d: Id, f: Fid, steps: u64) -> Option<u64>
     }
 }
 
-/// The same of some parts, if there is a step left.
+/// A value that an out of these parts assigns to the field at last, if one is found in the steps that are left.
 #[cycle(value_in)]
 fn value_below(st: &Store, parts: &[(u64, Id)], f: Fid, steps: u64) -> Option<u64>
     requires { Each (IsId st.now) parts.now }

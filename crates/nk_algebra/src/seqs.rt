@@ -141,7 +141,8 @@ pub(crate) fn sequence(st: &mut Store, a: Id, b: Id) -> Result<Id, AllocError>
     Ok(d)
 }
 
-/// The same, where nothing of these two is known at once or has to be kept here; of what stands below them it is.
+/// The sequence, by its leaves, made anew: what is known of these two diagrams isn't looked up, and the answer isn't kept.
+/// Below these two, answers are looked up and kept.
 #[cycle(seq)]
 pub(crate) fn sequence_anew(st: &mut Store, a: Id, b: Id) -> Result<Id, AllocError>
     requires left { IsId st.old a }

@@ -82,7 +82,8 @@ pub fn merge<J: Join>(st: &mut Store, j: &J, a: Id, b: Id) -> Result<Id, AllocEr
     Ok(d)
 }
 
-/// The same, where nothing of these two is known at once or has to be kept here; of what stands below them it is.
+/// The diagram whose leaf at each packet is both leaves put together, made anew: what is known of these two diagrams isn't
+/// looked up, and the answer isn't kept. Below these two, answers are looked up and kept.
 #[cycle(merge)]
 pub(crate) fn merge_anew<J: Join>(st: &mut Store, j: &J, a: Id, b: Id) -> Result<Id, AllocError>
     requires left { IsId st.old a }

@@ -32,8 +32,9 @@ pub fn part_at(st: &Store, d: Id, f: Fid, v: u64) -> (u64, Id)
     part_near(st, d, f, v, &mut near)
 }
 
-/// The same as `part_at`. The search begins at the place `near` and leaves there the place that it found, so values that
-/// rise are found in few steps. No clause speaks of that place.
+/// Which diagram it is at a value of the field, and up to which value that stays so: the last such value, then the diagram. The
+/// search begins at the place `near` among the parts and leaves there the place that it found, so values that rise are found in
+/// few steps. No clause speaks of that place.
 pub fn part_near(st: &Store, d: Id, f: Fid, v: u64, near: &mut usize) -> (u64, Id)
     requires id { IsId st.now d }
     requires first { f ≤ root_field st.now d }

@@ -75,7 +75,7 @@ pub fn map_nodes<M: NodeMap>(st: &mut Store, m: &M, d: Id) -> Result<Id, AllocEr
     }
 }
 
-/// The same of a diagram that tests a field which is kept.
+/// What is made of a diagram that tests a field which is kept. Each node is visited once.
 fn map_below<M: NodeMap>(st: &mut Store, m: &M, g: Fid, d: Id) -> Result<Id, AllocError>
     requires id { IsId st.old d }
     requires field { g < 18 }
@@ -203,7 +203,7 @@ fn walk_case<M: NodeMap>(
     Ok(r)
 }
 
-/// The same, made anew.
+/// What is made of a diagram that tests a field which is kept, made anew.
 #[cycle(walk)]
 fn walk_node<M: NodeMap>(
     st: &mut Store,
@@ -319,7 +319,7 @@ fn made_before(before: Option<(Id, Id)>, d: Id) -> Option<Id>
     }
 }
 
-/// The same of a pair.
+/// What was made of the diagram, if this pair is the diagram's.
 fn made_by(pair: (Id, Id), d: Id) -> Option<Id>
     ensures { IfSome result (λ r. pair ≡ (d, r)) }
 {

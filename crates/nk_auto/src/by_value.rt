@@ -83,7 +83,7 @@ fn tests_later(p: &Pol, f: Fid) -> bool {
     }
 }
 
-/// The same of the policies from a place on.
+/// Whether all policies from a place on test fields after this one alone.
 #[cycle(tests_later)]
 fn all_test_later(ps: &[Pol], from: usize, f: Fid) -> bool {
     for i in from..ps.len() {

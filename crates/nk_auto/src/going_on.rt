@@ -111,7 +111,7 @@ fn holds_wide_sum(p: &Pol, steps: u64) -> bool {
     }
 }
 
-/// The same of some parts, if there is a step left.
+/// Whether `holds_wide_sum` holds of one of these policies with one step less. Where no step is left, it holds of none.
 #[cycle(holds_wide_sum)]
 fn some_hold_wide_sum(ps: &[Pol], steps: u64) -> bool {
     if steps == 0 {

@@ -49,7 +49,7 @@ pub fn put_together(st: &mut Store, following: Behind) -> Result<Id, AllocError>
     Ok(d)
 }
 
-/// The same with one more predicate, `d`, before the others.
+/// Puts one more predicate, `d`, before the predicates; what is after them stays.
 pub fn guarded_by(st: &mut Store, d: Id, following: Behind) -> Result<Behind, AllocError>
     requires id { IsId st.old d }
     requires guard { IsId st.old following.guard }

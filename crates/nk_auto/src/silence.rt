@@ -195,7 +195,8 @@ fn arm_of(
     }
 }
 
-/// The same by the sequence's parts.
+/// The interval that a sequence of these parts begins with, and the diagram of what is after it. None where the sequence begins
+/// otherwise, or where an earlier field is tested after it.
 #[cycle(silent)]
 fn arm_of_all(
     st: &mut Store,
@@ -256,7 +257,7 @@ fn silent_all(st: &mut Store, ps: &[Pol]) -> Result<Id, AllocError>
     silent_from(st, ps, 0)
 }
 
-/// The same of the parts from a place on.
+/// The runs without a record of a sequence's parts from a place on, built from the last part to the first.
 #[cycle(silent)]
 fn silent_from(st: &mut Store, ps: &[Pol], from: usize) -> Result<Id, AllocError>
     requires { from ≤ length ps.now }
@@ -316,7 +317,7 @@ fn is_recording(p: &Pol) -> bool {
     }
 }
 
-/// The same of all parts of a sum.
+/// Whether each of these parts is a dup, a link literal, or a sum of these alone.
 #[cycle(is_recording)]
 fn all_recording(ps: &[Pol]) -> bool {
     for p in ps {

@@ -29,7 +29,8 @@ pub(crate) fn tests_of_sum(st: &mut Store, p: &Pol) -> Result<Option<Id>, AllocE
     }
 }
 
-/// The same by the parts of a sum.
+/// The diagram of the sum of these parts: three or more tests and ranges of one field, no two of which hold of one value. It is
+/// a predicate. None for other parts.
 pub(crate) fn tests_together(st: &mut Store, ps: &[Pol]) -> Result<Option<Id>, AllocError>
     ensures grows { Grows st.old st.new }
     ensures ok { IfOk result (λ o. IfSome o (λ d. IsSilent st.new d (sum_of (trees_of ps.now)))) }
@@ -45,7 +46,8 @@ pub(crate) fn tests_together(st: &mut Store, ps: &[Pol]) -> Result<Option<Id>, A
     }
 }
 
-/// The same of tests and ranges of this field.
+/// The diagram of the sum of these parts: tests and ranges of this field, no two of which hold of one value. It is a predicate.
+/// None for other parts.
 fn tests_of(st: &mut Store, f: Fid, ps: &[Pol]) -> Result<Option<Id>, AllocError>
     ensures grows { Grows st.old st.new }
     ensures ok { IfOk result (λ o. IfSome o (λ d. IsSilent st.new d (sum_of (trees_of ps.now)))) }

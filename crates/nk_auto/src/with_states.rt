@@ -34,10 +34,10 @@ pub fn continued(st: &mut Store, p: &Pol, next: Id) -> Result<Id, AllocError>
     continued_with_states(st, p, next, 0, &mut none)
 }
 
-/// The same diagram as that of `continued`, in the same pass from the right, which also writes the state of each dup of
-/// the policy that has a place: the state of dup l stands at the place l - base, and becomes the diagram of what is left
-/// of the policy after l, continued by the same diagram. Dups that have the same left after them have one diagram. The
-/// only error is that memory ran out.
+/// The diagram of a policy up to its first record, continued by a diagram, as `continued` gives it. The same pass from the
+/// right writes the state of each dup of the policy that has a place: the state of dup l stands at the place l - base, and
+/// becomes the diagram of what is left of the policy after l, continued by the diagram that comes next. Dups that have the same
+/// left after them have one diagram. The only error is that memory ran out.
 #[cycle(with_states)]
 #[tactic(auto, using(nk_policy::proofs::Trees::tree_of_sum, nk_policy::proofs::Trees::tree_of_seq, crate::proofs::Writing::test_written, crate::proofs::Writing::range_written, crate::proofs::Writing::set_written, crate::proofs::Writing::not_written))]
 pub fn continued_with_states(

@@ -72,7 +72,8 @@ fn close_all(
     Ok(())
 }
 
-/// The same by the transitions into each set, which are made when they are first needed.
+/// Adds all packets from where transitions lead into the entries, by the transitions into each set. These are made when they
+/// are first needed.
 fn close_rest(
     st: &mut Store,
     ts: &List<Transitions>,
@@ -98,7 +99,7 @@ fn close_rest(
     Ok(())
 }
 
-/// The same by the transitions into each set as they were made.
+/// Adds all packets from where transitions lead into the entries, by the transitions into each set, which are made already.
 fn close_by(
     st: &mut Store,
     ts: &List<Transitions>,

@@ -28,7 +28,9 @@ pub fn compare(
     }
 }
 
-/// The same of a program whose policies are dropped once both are written out, and the program's fields.
+/// Whether two named policies give the same histories on every packet in range, as `compare` answers it, and the program's
+/// fields. The policies of the program are dropped once both are written out. A name that is no policy's is refused; the only
+/// other error is that memory ran out.
 pub fn compare_owned_program(
     alloc: Global,
     program: Program,

@@ -47,8 +47,9 @@ pub fn compare_policies(
     compare_by_levels(&mut st, &both, bound as usize)
 }
 
-/// The same of policies that are dropped once their automaton is made. The right one's dups are numbered on from the left one's
-/// already, and the answer is that of each policy that is the right one once it is so numbered.
+/// Whether two policies give the same histories on every packet in range, as `compare_policies` answers it. Both are dropped
+/// once their automaton is made. The right one's dups are numbered on from the left one's already, and the answer is that of
+/// each policy that is the right one once it is so numbered. The only error is that memory ran out.
 pub fn compare_owned(alloc: Global, fields: &Fields, p: Pol, q: Pol) -> Result<Compared, AllocError>
     requires numbered { marked_from (tree_of p) 1 ≡ tree_of p }
     requires following { marked_from (tree_of q) (1 + dups_of (tree_of p)) ≡ tree_of q }

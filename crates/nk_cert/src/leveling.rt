@@ -50,7 +50,8 @@ pub fn levels_of_both(
     levels_of_states(st, ss, both.states.as_slice(), both.left, both.right, bound)
 }
 
-/// The same by states, and the diagrams of both starts.
+/// The levels of these states from all packets, up to an end of one policy alone; `left` and `right` are the diagrams of both
+/// starts. Labels below `bound` are the left policy's, the others the right one's.
 fn levels_of_states(
     st: &mut Store,
     ss: &mut Sets,

@@ -22,7 +22,8 @@ pub fn cert_text(alloc: Global, program: &Program, c: &Certificate) -> Result<Ve
     certificate_text(alloc, &program.fields, c)
 }
 
-/// The same by the fields alone.
+/// The text of a certificate over these fields: `certificate`, then `row start : ` and its predicate, then `row N N .. : ` and
+/// the predicate of each later row, one per line. The only error is that memory ran out.
 pub fn certificate_text(
     alloc: Global,
     fields: &Fields,

@@ -31,7 +31,7 @@ pub fn impact_answer(
     }
 }
 
-/// The same over a program. Its policies are dropped once both are written out.
+/// Which packets two named policies of a program differ on. The program's policies are dropped once both are written out.
 fn answer_to_program(
     alloc: Global,
     left: &str,

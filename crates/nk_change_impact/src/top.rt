@@ -67,7 +67,8 @@ pub fn impact<S: Source, O: Sink, E: Sink>(
     answer_words(alloc, words, source, out, err)
 }
 
-/// The same. What else `impact` promises follows from how the run ends.
+/// Tells which packets differ between the two policies that the words name. What else `impact` promises follows from how the
+/// run ends.
 fn answer_words<S: Source, O: Sink, E: Sink>(
     alloc: Global,
     words: &[String],

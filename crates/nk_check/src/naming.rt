@@ -43,7 +43,8 @@ pub fn check(
     }
 }
 
-/// The same of a program whose policies are dropped once both are written out.
+/// What is found of a certificate of two named policies, as `check` answers it. The policies of the program are dropped once
+/// both are written out. Names that are no policy's are refused; the only other error is that memory ran out.
 pub fn check_owned(
     alloc: Global,
     program: Program,

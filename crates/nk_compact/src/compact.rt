@@ -132,7 +132,8 @@ fn compact_of(
     )
 }
 
-/// The same of its automaton's states, its sets and its levels.
+/// The merged tables of a policy, by its automaton's states, its sets and its levels, and by the numbers of its tag sets in
+/// order.
 fn compact_tables(
     st: &mut Store,
     ss: &mut Sets,

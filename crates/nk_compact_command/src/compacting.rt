@@ -35,7 +35,7 @@ pub fn compact_answer(
     }
 }
 
-/// The same over a program.
+/// What compacting the policy of this name answers, over a program.
 fn answer_to_program(
     alloc: Global,
     name: &str,

@@ -37,7 +37,7 @@ pub fn compile_answer(
     }
 }
 
-/// The same over a program.
+/// What compiling the policy of this name answers, over a program.
 fn answer_to_program(
     alloc: Global,
     name: &str,

@@ -81,7 +81,7 @@ pub fn update_answer(
     }
 }
 
-/// The same over a program.
+/// What updating from the policy of the one name to that of the other answers, over a program.
 fn answer_to_program(
     alloc: Global,
     program: &Program,
@@ -103,7 +103,7 @@ fn answer_to_program(
     }
 }
 
-/// The same over the tables of both policies.
+/// What updating answers, over the tables of both policies.
 fn answer_to_pair(
     alloc: Global,
     pair: &TablePair,

@@ -168,7 +168,7 @@ pub fn regroup(st: &mut Store, ss: &mut Sets, d: Id) -> Result<Id, AllocError>
     regroup_new(st, ss, &mut seen, d)
 }
 
-/// The same, which is looked up where it was made before.
+/// The diagram with the outs of each act to the set of all labels of the act, which is looked up where it was made before.
 #[cycle(regroup)]
 fn regroup_once(
     st: &mut Store,
@@ -192,7 +192,7 @@ fn regroup_once(
     Ok(r)
 }
 
-/// The same, made anew.
+/// The diagram with the outs of each act to the set of all labels of the act, made anew.
 #[cycle(regroup)]
 fn regroup_new(
     st: &mut Store,

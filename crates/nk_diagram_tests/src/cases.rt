@@ -23,7 +23,7 @@ enum Case {
     StarOfADup,
     /// The automaton of `dup;dst:=1` has two states.
     ByPolicy,
-    /// The same of the one by its parts.
+    /// The automaton of `dup;dst:=1`, made by the policy's parts, has two states.
     ByParts,
     /// At `dst` 1 both acts of `id + dst:=1` are one that assigns nothing, at `dst` 0 they are two.
     UnchangedGoes,

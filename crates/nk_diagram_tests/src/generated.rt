@@ -80,7 +80,7 @@ fn nodes_and_states(st: &mut Store, switches: u16) -> Result<(usize, usize), All
     Ok((st.len(), states.len()))
 }
 
-/// The same in a store of its own.
+/// How many nodes a store of its own has once the automaton is made, and how many states the automaton has.
 fn nodes_and_states_alone(alloc: Global, switches: u16) -> Result<(usize, usize), Fail> {
     let mut st = store_of(alloc)?;
     Ok(nodes_and_states(&mut st, switches)?)

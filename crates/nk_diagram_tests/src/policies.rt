@@ -29,7 +29,7 @@ pub fn complement(alloc: Global, p: Pol) -> Result<Pol, AllocError> {
 /// The most dups of a policy that is numbered.
 const MOST_DUPS: u64 = 1_000_000;
 
-/// The same policy with its dups numbered in text order, from 1 on; nothing where it has more than a million.
+/// The policy with its dups numbered in text order, from 1 on; nothing where it has more than a million.
 #[tactic(auto, using(nk_policy::proofs::Remade::marked_again, nk_policy::proofs::Remade::marked_dups))]
 pub fn numbered(alloc: Global, raw: &Pol) -> Result<Option<Pol>, AllocError>
     ensures numbered { IfOk result (λ o. IfSome o (λ p. marked_from (tree_of p) 1 ≡ tree_of p)) }

@@ -200,7 +200,7 @@ fn place_of(names: &[String], name: &str) -> Option<usize>
     names.iter().position(|known| name == known.as_str())
 }
 
-/// The same texts once more.
+/// A copy of each text, in order.
 fn copies(alloc: Global, texts: &[String]) -> Result<Vec<String>, AllocError>
     ensures { IfOk result (λ all. map string_bytes all.items ≡ map string_bytes texts.now) }
 {

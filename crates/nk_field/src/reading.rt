@@ -75,7 +75,7 @@ fn packet_in(fields: &Fields, items: &[&str]) -> Result<Packet, PacketError>
     Ok(reading.packet)
 }
 
-/// The same with the value of one more field, unless it is the tag.
+/// What is read with the value of one more field, unless this field is the tag.
 fn with_field(fields: &Fields, items: &[&str], f: Fid, at: Reading) -> Result<Reading, PacketError>
     requires field { f < length fields.now.maxima }
     requires few { at.read ≤ f }
@@ -103,7 +103,7 @@ fn with_field(fields: &Fields, items: &[&str], f: Fid, at: Reading) -> Result<Re
     }
 }
 
-/// The same with one more value.
+/// What is read with one more value, this field's.
 fn and_value(at: &Reading, f: Fid, n: u64) -> Reading
     requires { at.now.read < 18 }
     ensures read { result.read ≡ at.now.read + 1 }

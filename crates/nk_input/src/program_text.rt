@@ -35,7 +35,8 @@ pub fn read_program(alloc: Global, bytes: Vec<u8>) -> Result<ReadText, AllocErro
     read_text(alloc, &bytes)
 }
 
-/// The same of a text that stays. Its tokens are taken as they come, and none is kept.
+/// The program of these bytes, or the line that tells the text's first fault. The text's tokens are taken as they come, and
+/// none is kept.
 fn read_text(alloc: Global, bytes: &[u8]) -> Result<ReadText, AllocError>
     ensures { IfOk result (λ r. IsReadOf bytes.now r) }
 {
@@ -51,7 +52,7 @@ fn read_text(alloc: Global, bytes: &[u8]) -> Result<ReadText, AllocError>
     }
 }
 
-/// The same where all tokens of the text were taken.
+/// The program of a text whose tokens were all taken, or the line that tells the text's first fault.
 fn read_tokens(alloc: Global, tokens: ProgramTokens) -> Result<ReadText, AllocError>
     requires small { (ts : List Token) × AreTaken ts tokens × All (λ t. t.value ≤ largest) ts }
     ensures { (ts : List Token) → AreTaken ts tokens → TokensSayDeclared ts
@@ -64,7 +65,8 @@ fn read_tokens(alloc: Global, tokens: ProgramTokens) -> Result<ReadText, AllocEr
     }
 }
 
-/// The same after the declaration that the end of the text completes, if it does.
+/// The program of a text, with the declaration that the end of the text completes, if it completes one, or the line that tells
+/// the first fault.
 fn read_last(
     alloc: Global,
     program: ProgramReader,
@@ -81,7 +83,7 @@ fn read_last(
     read_declared(alloc, program)
 }
 
-/// The same of all declarations of the text.
+/// The program of all declarations of a text, or the line that tells the first fault.
 fn read_declared(alloc: Global, program: ProgramReader) -> Result<ReadText, AllocError>
     requires written { (ds : List Declaration) × IsDeclared ds program × All IsWritten ds }
     ensures { (ds : List Declaration) → IsDeclared ds program → SayDeclared ds

@@ -174,7 +174,7 @@ fn stopped(alloc: Global, tokens: Vec<Token>, line: u64, fault: LexError) -> Nex
     }
 }
 
-/// The same, unless memory ran out.
+/// What is kept where the text has this fault. Where the error is that memory ran out, it is the answer.
 fn stop(alloc: Global, tokens: Vec<Token>, line: u64, error: LexError) -> Result<Next, AllocError>
     ensures fault { OnOk result (IsFaultOfText error) }
     ensures tokens { IfOk result (λ n. n.tokens.items ≡ tokens.items) }

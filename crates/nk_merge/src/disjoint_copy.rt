@@ -53,7 +53,7 @@ fn rows_twice(st: &mut Store, states: &[Id]) -> Result<List<Id>, AllocError>
     Ok(rows)
 }
 
-/// The same, by the table of labels that are marked again.
+/// The states, and after them each but the first again, its labels marked again by this table.
 fn rows_by(st: &mut Store, states: &[Id], table: &[Option<u64>]) -> Result<List<Id>, AllocError>
     requires states { AreStates st.old states.now }
     requires some { 0 < length states.now }

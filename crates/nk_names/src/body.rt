@@ -74,7 +74,7 @@ impl Shared {
         Ok(Shared { body })
     }
 
-    /// The same policy once more.
+    /// One more handle on the policy.
     pub(crate) fn again(&self) -> Result<Shared, AllocError>
         ensures { IfOk result (λ s. policy_of s ≡ policy_of self.now) }
     {
@@ -90,7 +90,7 @@ impl Shared {
         written(alloc, &self.body)
     }
 
-    /// The same, its dups numbered from `first` on.
+    /// The policy with all names written out, its dups numbered from `first` on.
     pub(crate) fn written_from(&self, alloc: Global, first: u32) -> Result<Pol, AllocError>
         requires positive { 1 ≤ first }
         requires fit { first + dups_of (policy_of self.now) ≤ 2 ^ 32 }
@@ -108,7 +108,7 @@ pub(crate) fn written(alloc: Global, body: &Body) -> Result<Pol, AllocError>
     written_from(alloc, body, 1)
 }
 
-/// The same, its dups numbered from `first` on.
+/// The policy of a body with all names written out, its dups numbered from `first` on.
 fn written_from(alloc: Global, body: &Body, first: u32) -> Result<Pol, AllocError>
     requires positive { 1 ≤ first }
     requires fit { first + dups_of (policy_in body.now) ≤ 2 ^ 32 }
@@ -118,7 +118,8 @@ fn written_from(alloc: Global, body: &Body, first: u32) -> Result<Pol, AllocErro
     written_on(alloc, body, &mut before)
 }
 
-/// The same, its dups numbered on after those that stand before.
+/// The policy of a body with all names written out, its dups numbered on after those that stand before. `before` counts the
+/// dups that stand before, and then also the policy's own.
 #[cycle(write)]
 #[tactic(auto, using(crate::proofs::Bodies::policy_in_sum, crate::proofs::Bodies::policy_in_seq, crate::proofs::Bodies::name_marked, crate::proofs::Bodies::name_dups, nk_policy::proofs::Trees::tree_of_sum, nk_policy::proofs::Trees::tree_of_seq))]
 fn written_on(alloc: Global, body: &Body, before: &mut u64) -> Result<Pol, AllocError>
@@ -148,7 +149,7 @@ fn written_on(alloc: Global, body: &Body, before: &mut u64) -> Result<Pol, Alloc
     }
 }
 
-/// The same of parts.
+/// The policies of the parts with all names written out, their dups numbered on after those that stand before.
 #[cycle(write)]
 #[tactic(auto, using(nk_policy::proofs::Trees::joined_push, nk_policy::proofs::Trees::joined_none))]
 fn all_written_on(alloc: Global, parts: &[Body], before: &mut u64) -> Result<Vec<Pol>, AllocError>

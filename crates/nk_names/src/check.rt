@@ -92,7 +92,7 @@ pub(crate) fn first_unknown(fields: &Fields, lets: &Lets, ast: &Ast) -> Option<N
     }
 }
 
-/// The same among parts.
+/// The first name of no policy, name of no field or number out of range in the parts, from left to right.
 #[cycle(unknown)]
 fn first_unknown_among(fields: &Fields, lets: &Lets, parts: &[Ast]) -> Option<NamesError>
     ensures { result ≡ unknown_among fields.now lets.now.entries.items (trees_of parts.now) }
@@ -161,7 +161,7 @@ pub(crate) fn first_misplaced(fields: &Fields, lets: &Lets, ast: &Ast) -> Option
     }
 }
 
-/// The same among parts.
+/// The first `~` over what is no predicate in the parts.
 #[cycle(misplaced)]
 fn first_misplaced_among(fields: &Fields, lets: &Lets, parts: &[Ast]) -> Option<NamesError>
     ensures { result ≡ misplaced_among fields.now lets.now.entries.items (trees_of parts.now) }

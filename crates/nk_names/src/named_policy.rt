@@ -39,14 +39,14 @@ impl NamedPolicy {
         NamedPolicy { policy }
     }
 
-    /// The same policy once more, for a body that has the name in it.
+    /// A handle on the policy, for a body that has the name in it.
     pub(crate) fn shared(&self) -> Result<Shared, AllocError>
         ensures { IfOk result (λ s. policy_of s ≡ self.now) }
     {
         self.policy.again()
     }
 
-    /// The same policy once more, for another that has it. The only error is that memory ran out.
+    /// The policy once more, for another owner. The only error is that memory ran out.
     pub(crate) fn again(&self) -> Result<NamedPolicy, AllocError>
         ensures { IfOk result (λ p. p ≡ self.now) }
     {
@@ -60,7 +60,8 @@ impl NamedPolicy {
         self.policy.written(alloc)
     }
 
-    /// The same, its dups numbered from `first` on in text order, a link counting as two. The only error is that memory ran out.
+    /// The policy with all names in it written out, its dups numbered from `first` on in text order, a link counting as two.
+    /// The only error is that memory ran out.
     pub fn written_from(&self, alloc: Global, first: u32) -> Result<Pol, AllocError>
         requires positive { 1 ≤ first }
         requires fit { first + dups_of self.now ≤ 2 ^ 32 }

@@ -71,7 +71,7 @@ impl<N: Notation> Cutter<N> {
         }
     }
 
-    /// The same where nothing is open.
+    /// Takes the front of the bytes that come next, where nothing is open, and says how many they are.
     #[inline(always)]
     fn take_lexeme(&mut self, out: &mut Vec<u8>, bytes: &[u8]) -> Result<usize, Stop>
         requires some { 0 < length bytes.now }
@@ -159,7 +159,7 @@ impl<N: Notation> Cutter<N> {
         }
     }
 
-    /// The same where nothing is open.
+    /// Takes the next byte of the text, where nothing is open.
     #[inline(always)]
     fn begin(&mut self, out: &mut Vec<u8>, byte: u8) -> Result<(), Stop>
         requires between { self.old.state ≡ Open.Between }
@@ -279,7 +279,7 @@ impl<N: Notation> Cutter<N> {
         }
     }
 
-    /// The same where a word is open.
+    /// Takes the end of the text, where a word is open.
     fn end_with_word(&mut self, out: &mut Vec<u8>) -> Result<(), Stop>
         requires word { self.old.state ≡ Open.Word }
         ensures { TranslationGoesOn result

@@ -133,7 +133,7 @@ impl Inward {
         }
     }
 
-    /// The same where no size is due.
+    /// Puts what a word is written as at the end, where no size is due.
     fn put_plain(&self, out: &mut Vec<u8>, text: &[u8]) -> Result<(), WordStop>
         ensures { Puts result (plain_in self.now text.now) out.old.items out.new.items }
     {
@@ -143,7 +143,7 @@ impl Inward {
         self.put_formed(out, text)
     }
 
-    /// The same of a word that may have a form.
+    /// Puts what a word is written as at the end, where no size is due and the word may have a form.
     #[tactic(auto, unfolding(crate::specs::Inward::plain_in, nk_number_forms::specs::Forms::first_byte))]
     fn put_formed(&self, out: &mut Vec<u8>, text: &[u8]) -> Result<(), WordStop>
         ensures { Puts result (plain_in self.now text.now) out.old.items out.new.items }
@@ -184,7 +184,7 @@ fn size_of_kind(text: &[u8]) -> Option<u64>
     }
 }
 
-/// The same of the kinds of fewer than 16 binary digits.
+/// The largest value of a field of the kind that a word stands for, of the kinds of fewer than 16 binary digits.
 #[tactic(auto, unfolding(crate::specs::Inward::small_size))]
 pub(crate) fn small_size(text: &[u8]) -> Option<u64>
     ensures { result ≡ small_size text.now }
@@ -280,7 +280,8 @@ fn put_led(out: &mut Vec<u8>, lead: &[u8], number: u64) -> Result<(), WordStop>
     put_decimal(out, number)
 }
 
-/// The same of any run, without trying first whether it is an address.
+/// Puts a run of bytes at the end, with these bytes before it, with each address as a number. It isn't tried first whether the
+/// run is an address.
 #[inline(never)]
 #[tactic(auto, unfolding(crate::specs::Inward::run_in))]
 fn put_other(
@@ -302,7 +303,7 @@ fn put_other(
     put_both(out, lead, atom_of(run), run, b"", Atom::Kept, b"")
 }
 
-/// The same of a run with `..` at a place.
+/// Puts a run with `..` at this place at the end, with these bytes before it, with each address as a number.
 #[tactic(auto, unfolding(crate::specs::Inward::range_in))]
 fn put_range(out: &mut Vec<u8>, lead: &[u8], run: &[u8], dots: usize) -> Result<(), WordStop>
     requires dots { dots ≡ place_of_dots run.now }
@@ -318,7 +319,7 @@ fn put_range(out: &mut Vec<u8>, lead: &[u8], run: &[u8], dots: usize) -> Result<
     put_both(out, lead, atom_of(low), low, b"..", atom_of(high), high)
 }
 
-/// The same of a run with a `/`.
+/// Puts what a run with a `/` is written as at the end, with these bytes before it.
 #[tactic(auto, unfolding(crate::specs::Inward::slash_in, crate::specs::Inward::prefix_with))]
 fn put_slash(
     out: &mut Vec<u8>,

@@ -207,7 +207,7 @@ fn put_held(out: &mut Vec<u8>, spot: Spot, bytes: &[u8]) -> Result<(), AllocErro
     put(out, bytes)
 }
 
-/// The same of a single byte.
+/// Puts the bytes that are held at the end, and then this byte.
 #[tactic(auto, unfolding(crate::specs::Outward::held))]
 fn put_single(out: &mut Vec<u8>, spot: Spot, byte: u8) -> Result<(), AllocError>
     ensures { OnOk result (out.new.items ≡ out.old.items ++ (held spot ++ byte ∷ [])) }
@@ -372,7 +372,7 @@ fn put_range(out: &mut Vec<u8>, tables: bool, form: Form, text: &[u8]) -> Result
     put(out, text)
 }
 
-/// The same where a `..` stands at a place.
+/// Puts what stands after ` in ` and a field's name at the end, with the ` in `, where a `..` stands at the place `dots`.
 #[tactic(auto, unfolding(crate::specs::Outward::ends_out))]
 fn put_ends(
     out: &mut Vec<u8>,

@@ -47,7 +47,7 @@ pub(crate) fn translate<N: Notation + Drop, S: Source, O: Sink>(
     translate_by(alloc, &mut cutter, source, out)
 }
 
-/// The same with a cutter before the first byte.
+/// Translates the text that the source has, after what the cutter has taken, and writes what comes of it as it comes.
 fn translate_by<N: Notation, S: Source, O: Sink>(
     alloc: Global,
     cutter: &mut Cutter<N>,

@@ -63,7 +63,8 @@ pub fn translate_by_words<S: Source, O: Sink, E: Sink>(
     translate_words(alloc, words, source, out, err)
 }
 
-/// The same. What else `translate_by_words` promises follows from how the run ends.
+/// Translates the text that the source has, as the words ask for. What else `translate_by_words` promises follows from how the
+/// run ends.
 fn translate_words<S: Source, O: Sink, E: Sink>(
     alloc: Global,
     words: &[String],
@@ -85,7 +86,7 @@ fn translate_words<S: Source, O: Sink, E: Sink>(
     }
 }
 
-/// The same of what the words ask for.
+/// Does what the words ask for: a translation, or the line that tells the usage.
 #[tactic(auto, unfolding(crate::specs::Words::direction_in))]
 fn answer<S: Source, O: Sink, E: Sink>(
     alloc: Global,

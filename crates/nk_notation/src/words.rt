@@ -34,7 +34,7 @@ pub(crate) fn read_words(alloc: Global, words: &[String]) -> Result<Asked, Alloc
     }
 }
 
-/// The same of the first word and the others.
+/// What the first word and the others ask for. The only error is that memory ran out.
 #[tactic(auto, unfolding(crate::specs::Words::direction_by, crate::specs::Words::direction_in, crate::specs::Words::outwards_of))]
 fn read_rest(alloc: Global, first: &str, rest: &[String]) -> Result<Asked, AllocError>
     ensures { IfOk result (λ a. direction_in a

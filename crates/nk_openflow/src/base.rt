@@ -95,7 +95,7 @@ pub(crate) fn base_named(word: &str) -> Option<Base>
     }
 }
 
-/// The same of the other words.
+/// The base of a word, if it is one, of those that `base_named` doesn't try itself.
 fn late_base(word: &str) -> Option<Base>
     ensures { result ≡ specs.late_base word.now }
 {

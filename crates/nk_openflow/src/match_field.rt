@@ -178,7 +178,7 @@ impl MatchField {
         }
     }
 
-    /// The same of what is no register.
+    /// The first and the last place that a match field takes up, where it is no register.
     fn unit(self) -> (u128, u128)
         ensures { result ≡ specs.unit_of self }
     {

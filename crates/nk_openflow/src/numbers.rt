@@ -20,7 +20,7 @@ pub(crate) fn number_upto(max: u64, digits: &str) -> Option<u64>
     }
 }
 
-/// The same, where it is written without zeros in front.
+/// The number that digits alone write, if it is at most `max` and is written without zeros in front.
 pub(crate) fn canonical_upto(max: u64, digits: &str) -> Option<u64>
     ensures { result ≡ specs.canonical_number max digits.now }
 {

@@ -83,7 +83,7 @@ fn answer_to_tables(
     }
 }
 
-/// The same by a mapping.
+/// The answer to tables, by a mapping.
 fn answer_to_mapping(
     alloc: Global,
     head: &Head,

@@ -53,7 +53,7 @@ fn said_to_words<S: Source>(alloc: Global, words: &[String], source: &mut S) -> 
     }
 }
 
-/// The same where the first words say what is asked for.
+/// What the run means to say, where the first words say what is asked for.
 fn reply_to_head<S: Source>(alloc: Global, head: &Head, words: &[String], source: &mut S) -> Reply
     requires within { head.now.count ≤ length words.now }
     ensures meant { IsFlowsMeantTo (asked_by (Some head.now) (map (λ w. string_bytes w) words.now))
@@ -69,7 +69,7 @@ fn reply_to_head<S: Source>(alloc: Global, head: &Head, words: &[String], source
     }
 }
 
-/// The same where a word is at fault. Nothing is read.
+/// What the run means to say, where a word is at fault. Nothing is read.
 fn reply_to_fault(alloc: Global, number: u64, fault: WordFault) -> Reply
     ensures { (left : Option (List ℕ)) (faults : ℕ)
         → IsMeantByWords (word_answer number fault) (nothing_done left faults)
@@ -81,7 +81,7 @@ fn reply_to_fault(alloc: Global, number: u64, fault: WordFault) -> Reply
     }
 }
 
-/// The same over a source, where no word is at fault.
+/// What the run means to say over a source, where no word is at fault.
 fn reply_to_source<S: Source>(alloc: Global, head: &Head, words: &[String], source: &mut S) -> Reply
     requires room { head.now.count + 1 + length words.now < 2 ^ 64 }
     ensures { IsMeantBy (IsLinesAnswer head.now (map (λ w. string_bytes w) words.now))

@@ -59,7 +59,7 @@ fn reply_to_words<S: Source>(alloc: Global, words: &[String], source: &mut S) ->
     }
 }
 
-/// The same of a way.
+/// What the run means to say to a way, over a source.
 fn reply_to_way<S: Source>(alloc: Global, way: &[Place], source: &mut S) -> Reply
     ensures { IsMeantWith (Ok way.now) (use_of S.left S.faults source.old source.new)
         (answer_in result) }
@@ -70,7 +70,7 @@ fn reply_to_way<S: Source>(alloc: Global, way: &[Place], source: &mut S) -> Repl
     }
 }
 
-/// The same of all of a text, where memory doesn't run out.
+/// What the run means to say to a way and all of a text.
 fn reply_to_text(alloc: Global, way: &[Place], bytes: Vec<u8>) -> Reply
     ensures { IsReplyOf (IsOutcomeOf way.now bytes.items) result }
 {

@@ -142,8 +142,9 @@ pub fn one_policys_sets()
         ↔ ((l : ℕ) × Contains s l × Gives (at_position p l) (last_from pk u) [] z) }
 {}
 
-/// The same for two policies that share no number: one set has the positions of both, the start of both is position 0,
-/// and each side's positions and histories are those of its own members.
+/// The set of positions of two policies that share no number, after any records, is the one to which stepping from position 0,
+/// set by set, leads. One set has the positions of both, the start of both is position 0, and each side's positions and
+/// histories are those of its own members.
 pub fn two_policies_sets()
     ensures start { (p q : Policy) → AreSides p q
         → (pk : Packet) → HasExactly (IsPositionOfEither p q pk []) (0 ∷ []) }

@@ -7,8 +7,8 @@ use crate::policy::{Pol, Pols};
 use nk_field::Fid;
 use std::alloc::{AllocError, Global};
 
-/// The same policy with its dups numbered from `first` on in text order, a link counting as two.
-/// The only error is that memory ran out.
+/// A copy of the policy with its dups numbered from `first` on in text order, a link counting as two. The only error is that
+/// memory ran out.
 pub fn marked(alloc: Global, p: &Pol, first: u32) -> Result<Pol, AllocError>
     requires positive { 1 ≤ first }
     requires fit { first + dups_of (tree_of p.now) ≤ 2 ^ 32 }
@@ -61,8 +61,7 @@ fn all_renumbered(alloc: Global, ps: &[Pol], next: &mut u64) -> Result<Vec<Pol>,
     Ok(out)
 }
 
-/// The same policy with each link literal written out as its six parts. The only error is that
-/// memory ran out.
+/// A copy of the policy with each link literal written out as its six parts. The only error is that memory ran out.
 #[cycle(expand)]
 #[tactic(auto, using(crate::proofs::Trees::tree_of_sum, crate::proofs::Trees::tree_of_seq))]
 pub fn expand_links(alloc: Global, p: &Pol) -> Result<Pol, AllocError>

@@ -284,7 +284,7 @@ fn push_alone(all: &mut List<Out>, outs: &[Out], o: &Out) -> Result<(), AllocErr
     Ok(())
 }
 
-/// The same end of the other side.
+/// The end of the other side with this end's act.
 fn twin_of(o: &Out) -> Result<Out, AllocError>
     ensures { IfOk result (λ p. p ≡ twin o.now) }
 {

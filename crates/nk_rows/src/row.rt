@@ -117,7 +117,7 @@ pub(crate) struct Row {
     pub(crate) is_cut: bool,
     /// How each cut ends that isn't among those below.
     pub(crate) elsewhere: Option<u64>,
-    /// The same by the cut's length.
+    /// The status with which each cut ends that isn't among those below, by the cut's length.
     pub(crate) ends: Option<Vec<u64>>,
     pub(crate) cuts: Vec<Wanted>,
 }

@@ -45,7 +45,7 @@ pub(crate) fn put_word(alloc: Global, text: &mut Vec<u8>, word: &str) -> Result<
     put_words(alloc, text, word, None)
 }
 
-/// The same; with a place numbers may be written.
+/// Puts words after the text, by what their signs stand for. Where a place is given, its numbers may be written.
 fn put_words(
     alloc: Global,
     text: &mut Vec<u8>,

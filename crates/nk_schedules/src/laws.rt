@@ -76,8 +76,9 @@ pub fn each_packet_keeps_to_one_policy()
         × (left_from (i + 1) s.flight.left ≡ []) }
 {}
 
-/// The same of an update in which draws from a seed say what happens in each of so many turns, and a packet comes in again and
-/// again: where that is in range, on a declared port and without a tag, each injection of it keeps to one policy.
+/// While the tables of a new policy take those of an old one's place by the plan of both, draws from a seed say what happens in
+/// each of so many turns, and one packet comes in again and again. Where this packet is in range, on a declared port and
+/// without a tag, each injection of it keeps to one policy.
 pub fn a_drawn_update_keeps_to_one_policy()
     ensures each { (program : Program) (old new : List ℕ) (r : TablePair)
         (both : IsCompiledPair program old new r)

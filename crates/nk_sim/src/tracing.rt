@@ -113,7 +113,7 @@ fn with_sorted(histories: Vec<History>, left: Vec<History>) -> Result<Vec<Histor
     Ok(histories)
 }
 
-/// The same histories in order.
+/// These histories in order.
 fn sorted(left: Vec<History>) -> Result<Vec<History>, AllocError>
     ensures { IfOk result (λ later. IsSortedFrom left.items later.items) }
 {

@@ -70,7 +70,8 @@ fn fields_in_all(st: &Store, d: Id, given: u32) -> Option<u32>
     }
 }
 
-/// The same of a leaf's outs.
+/// The fields that the acts of these outs assign, ends left out, as bits; those given where there are no such outs. None where
+/// two acts, or one and those given unless these are 0, assign different fields.
 fn fields_in_outs(outs: &[Out], given: u32) -> Option<u32> {
     let mut fields = given;
     for o in outs {
@@ -94,7 +95,8 @@ fn fields_in_act(act: &[(Fid, u64)]) -> u32 {
     fields
 }
 
-/// The same, put together at all packets, each state once, and cut to these packets at the end.
+/// The diagram of a set of labels at some packets alone: the states are put together at all packets, each state once, and cut
+/// to these packets at the end.
 fn cut_last(st: &mut Store, ss: &mut Sets, states: &[Id], s: SetId, x: Id) -> Result<Id, AllocError>
     requires states { AreStates st.old states.now }
     requires set { s < length ss.old }
@@ -115,7 +117,7 @@ fn cut_last(st: &mut Store, ss: &mut Sets, states: &[Id], s: SetId, x: Id) -> Re
     Ok(d)
 }
 
-/// The same, each state cut to these packets before they are put together.
+/// The diagram of a set of labels at some packets alone: each state is cut to these packets before the states are put together.
 fn cut_first(
     st: &mut Store,
     ss: &mut Sets,

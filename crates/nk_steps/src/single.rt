@@ -64,7 +64,7 @@ fn single_once(
     Ok(Some(r))
 }
 
-/// The same, made anew.
+/// The steps of a diagram, made anew.
 #[cycle(steps_single)]
 fn single_new(
     st: &mut Store,

@@ -37,7 +37,7 @@ pub(crate) fn steps_together(
     }
 }
 
-/// The same of one diagram whose leaves have one label each at most; `None` of others.
+/// The steps of these diagrams together, where they are one diagram whose leaves have one label each at most; else `None`.
 fn steps_of_one(st: &mut Store, ss: &mut Sets, diagrams: &[Id]) -> Result<Option<Id>, AllocError>
     requires { AreIds st.old diagrams.now }
     ensures grows { Grows st.old st.new }

@@ -90,7 +90,7 @@ impl Tables {
     }
 }
 
-/// The same buckets once more.
+/// A copy of each bucket, in order.
 fn buckets(alloc: Global, all: &[Bucket]) -> Result<List<Bucket>, AllocError>
     ensures { IfOk result (λ l. l ≡ all.now) }
 {
@@ -101,7 +101,7 @@ fn buckets(alloc: Global, all: &[Bucket]) -> Result<List<Bucket>, AllocError>
     Ok(copies)
 }
 
-/// The same groups once more.
+/// A copy of each group, in order.
 fn groups(alloc: Global, all: &[Group]) -> Result<List<Group>, AllocError>
     ensures { IfOk result (λ l. l ≡ all.now) }
 {
@@ -112,7 +112,7 @@ fn groups(alloc: Global, all: &[Group]) -> Result<List<Group>, AllocError>
     Ok(copies)
 }
 
-/// The same rows once more.
+/// A copy of each row, in order.
 fn rows(alloc: Global, all: &[Row]) -> Result<List<Row>, AllocError>
     ensures { IfOk result (λ l. l ≡ all.now) }
 {

@@ -260,7 +260,7 @@ impl Topo {
     }
 }
 
-/// The same lists once more.
+/// A copy of each list, in order.
 fn copies(alloc: Global, lists: &[Vec<u16>]) -> Result<Vec<Vec<u16>>, AllocError>
     ensures { IfOk result (λ all. map (λ p. p.items) all.items ≡ map (λ p. p.items) lists.now) }
 {

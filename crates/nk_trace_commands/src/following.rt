@@ -76,7 +76,7 @@ pub fn follow_word<S: Source, F: Follow>(
     }
 }
 
-/// The same over a text that has a lexical fault, or all of whose tokens the reader has taken.
+/// What following a packet means to say, over a text that has a lexical fault, or all of whose tokens the reader has taken.
 fn reply_to_text<F: Follow>(
     alloc: Global,
     how: &F,
@@ -111,7 +111,7 @@ fn answer_to_text<F: Follow>(
     }
 }
 
-/// The same where all tokens were taken.
+/// What following a packet answers, where all tokens of a text were taken.
 fn answer_to_tokens<F: Follow>(
     alloc: Global,
     how: &F,
@@ -132,7 +132,8 @@ fn answer_to_tokens<F: Follow>(
     }
 }
 
-/// The same over tables.
+/// What following the packet of a word answers, over tables. A word that gives no packet is refused. The only error is that
+/// memory ran out.
 pub fn answer_to_word<F: Follow>(
     alloc: Global,
     how: &F,
@@ -151,7 +152,7 @@ pub fn answer_to_word<F: Follow>(
     }
 }
 
-/// The same over a packet.
+/// What following a packet answers, over tables. A packet that isn't on a declared port is refused.
 fn answer_to_packet<F: Follow>(
     alloc: Global,
     how: &F,

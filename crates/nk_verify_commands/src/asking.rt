@@ -56,7 +56,7 @@ pub fn ask_answer(alloc: Global, query: &Query, bytes: Vec<u8>) -> Result<Comman
     }
 }
 
-/// The same over a program.
+/// What asking a query answers, over a program.
 fn answer_to_program(
     alloc: Global,
     query: &Query,

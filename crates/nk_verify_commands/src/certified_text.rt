@@ -74,7 +74,7 @@ pub(crate) fn judge_text<S: Source, J: Judge>(alloc: Global, how: &J, source: &m
     }
 }
 
-/// The same over a text that has a lexical fault, or all of whose tokens the reader has taken.
+/// What judging a certificate means to say, over a text that has a lexical fault, or all of whose tokens the reader has taken.
 fn reply_to_text<J: Judge>(alloc: Global, how: &J, lexed: Lexed, reader: CertReader) -> Reply
     requires cut { (bytes : List ℕ)
         × IsLexedAs (λ tokens. IsTaken tokens reader) lexed (tokens_of bytes) }
@@ -108,7 +108,7 @@ fn answer_to_text<J: Judge>(
     }
 }
 
-/// The same where all tokens were taken.
+/// What judging a certificate answers, where all tokens of a text were taken.
 fn answer_to_tokens<J: Judge>(
     alloc: Global,
     how: &J,

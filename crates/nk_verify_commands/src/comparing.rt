@@ -30,7 +30,7 @@ pub fn equal_answer(
     }
 }
 
-/// The same over a program. Its policies are dropped once both are written out.
+/// What comparing the policies of these names answers, over a program. Its policies are dropped once both are written out.
 fn answer_to_program(
     alloc: Global,
     left: &str,

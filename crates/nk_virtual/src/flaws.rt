@@ -42,7 +42,7 @@ pub(crate) fn first_flaw(
     }
 }
 
-/// The same with where the link begins.
+/// What is wrong with the first virtual link that isn't usable, and where this link begins.
 fn first_among(
     alloc: Global,
     fields: &Fields,

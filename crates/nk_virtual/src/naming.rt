@@ -30,7 +30,7 @@ pub fn physical(alloc: Global, program: &Program, name: &str) -> Result<Pol, Vir
     }
 }
 
-/// The same of a policy.
+/// The physical policy of a policy over the program's virtual links, or why it is refused.
 fn answer_for(alloc: Global, program: &Program, policy: &NamedPolicy) -> Result<Pol, VirtualError>
     requires { IsLet program.now.fields policy.now }
     ensures { IsAnswerFor program.now.fields program.now.topo program.now.virtuals policy.now
@@ -49,7 +49,7 @@ fn answer_for(alloc: Global, program: &Program, policy: &NamedPolicy) -> Result<
     }
 }
 
-/// The same where the virtual links are usable.
+/// The physical policy of a policy over the program's virtual links, which are usable, or why it is refused.
 fn answer_over(alloc: Global, program: &Program, tag: Fid, p: &Pol) -> Result<Pol, VirtualError>
     requires declared { program.now.fields.tag ≡ Some tag }
     requires usable { All (IsUsable program.now.fields program.now.topo tag) program.now.virtuals }

@@ -66,7 +66,7 @@ fn entry(alloc: Global, fields: &Fields, k: &FabricLink) -> Result<Pol, AllocErr
     }
 }
 
-/// The same where there is a tag.
+/// Keeps the packets that enter, where there is a tag: without a tag at the start of the virtual link.
 #[tactic(auto, using(nk_policy::proofs::Trees::tree_of_seq))]
 fn entry_by(alloc: Global, tag: Fid, k: &FabricLink) -> Result<Pol, AllocError>
     ensures { IfOk result (λ q. tree_of q ≡ entry_of (Some tag) (virtual_link_of k.now)) }
@@ -79,7 +79,7 @@ fn entry_by(alloc: Global, tag: Fid, k: &FabricLink) -> Result<Pol, AllocError>
     Ok(Pol::Seq(Pols::new(parts)))
 }
 
-/// The same where there is none.
+/// Keeps the packets that enter, where there is no tag: at the start of the virtual link.
 #[tactic(auto, using(nk_policy::proofs::Trees::tree_of_seq))]
 fn entry_at(alloc: Global, k: &FabricLink) -> Result<Pol, AllocError>
     ensures { IfOk result (λ q. tree_of q ≡ entry_of None (virtual_link_of k.now)) }

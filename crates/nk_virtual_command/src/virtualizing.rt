@@ -34,7 +34,7 @@ pub fn virtual_answer(
     }
 }
 
-/// The same over a program.
+/// What virtualizing the policy of this name answers, over a program.
 fn answer_to_program(
     alloc: Global,
     name: &str,
@@ -53,7 +53,7 @@ fn answer_to_program(
     }
 }
 
-/// The same where this is the physical policy of the name.
+/// What virtualizing the policy of this name answers, where its physical policy is this one.
 fn answer_to_physical(
     alloc: Global,
     name: &str,

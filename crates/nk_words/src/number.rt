@@ -17,7 +17,7 @@ fn number(word: &str, largest: u64) -> Option<u64>
     }
 }
 
-/// The same, where the value is at least the least one.
+/// The number, where the word is digits alone and the value is at least the least one and at most the largest one.
 pub(crate) fn number_from(word: &str, least: u64, largest: u64) -> Option<u64>
     ensures { result ≡ number_between least largest word.now }
 {

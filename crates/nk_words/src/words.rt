@@ -280,7 +280,8 @@ fn command_named(alloc: Global, name: &str, found: &ArgMatches) -> Result<Comman
     }
 }
 
-/// The same for a name that is none of the commands about tables and about two policies.
+/// The command of this name, with the arguments that were found. The name is none of the commands about tables and about two
+/// policies.
 fn query_named(alloc: Global, name: &str, found: &ArgMatches) -> Result<Command, WordsError>
     ensures { Reads (if bytes_eq name.now (codes "apart") then apart_of
         (rows_of (found_of found.now))
@@ -309,7 +310,8 @@ fn query_named(alloc: Global, name: &str, found: &ArgMatches) -> Result<Command,
     }
 }
 
-/// The same for a name that is none of the commands about queries either.
+/// The command of this name, with the arguments that were found. The name is none of the commands about tables, about two
+/// policies and about queries.
 fn network_named(alloc: Global, name: &str, found: &ArgMatches) -> Result<Command, WordsError>
     ensures { Reads (if bytes_eq name.now (codes "gen") then gen_of (rows_of (found_of found.now))
         else if bytes_eq name.now (codes "job") then job_of (rows_of (found_of found.now))
