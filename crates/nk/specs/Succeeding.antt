@@ -41,7 +41,8 @@ pub record AcceptsNamed (name bytes : List ℕ) : Type 0 where
   pub declared : Declares bytes (program_by program)
   pub accepted : IsAcceptedByName program name
 
--- the same, where tag sets whose states give the same histories share a tag
+-- the bytes are a program's text, and the program accepts its policy of this name where tag sets whose states give the same histories share
+-- a tag
 pub record AcceptsMerged (name bytes : List ℕ) : Type 0 where
   pub program : Program
   pub declared : Declares bytes (program_by program)

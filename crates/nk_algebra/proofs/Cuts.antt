@@ -48,7 +48,7 @@ cofactors_child st g v d w (p ∷ ps) =
       | false ↦ cofactors_child st g v p.1 w ps
     ]
 
--- the same of parts that are some
+-- the child of parts that are some is what the child was at that value
 cofactors_at : (st : StoreState) (g v w : ℕ) (ps : List (ℕ × ℕ)) → 0 < length ps →
     child_at 0 (part_cofactors st g v ps) w ≡ cofactor st g v (child_at 0 ps w)
 cofactors_at st g v w [] l = absurd (omega (arith, l))

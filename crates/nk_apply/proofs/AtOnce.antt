@@ -22,7 +22,7 @@ unfolding outs_of
 leaf_outs st d (Leaf outs) e k l pk = k.leaf pk ∙ ap node_outs e
 leaf_outs st d (Case f ps) e k l pk = absurd (omega (arith, l, k.root_field_is, k.parts_ok.field))
 
--- the same of each of many leaves
+-- each of many diagrams that test no field has its outs at each packet
 many_outs : (st : StoreState) (ds : List ℕ) (k : ℕ) (pk : List ℕ) → AreNodes st → AreIds st ds → AreFrom st 18 ds →
     k < length ds → look st (get_or ds k 0) pk ≡ outs_of st (get_or ds k 0)
 many_outs st ds k pk nodes ids first l =

@@ -79,7 +79,7 @@ flat_ordered F os s = record {
   );
 }
 
--- the same where one out is made of each
+-- where one out is made of each out, what is made comes in order to what is gathered
 pub map_ordered : (G : Out → Out) (os : List Out) → AreOrdered (map G os) (gathered (λ o. G o ∷ []) os)
 map_ordered G os =
     subst (λ xs. AreOrdered xs (gathered (λ o. G o ∷ []) os)) (flat_map_single G os)

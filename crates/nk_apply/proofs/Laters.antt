@@ -27,7 +27,7 @@ later_by J st a b d r sa sb h g =
           ∙ sym (g.leaf pk w)))
     ]
 
--- the same for an answer that may be none
+-- an answer that may be none tests no field before those of both
 pub known_later : (J : List Out → List Out → List Out) (st : StoreState) (a b : ℕ) (o : Option ℕ) →
     ((d : ℕ) → IsId st d → IsReduced st d) → ((d : ℕ) → IsId st d → IsStill st d) →
     ((d : ℕ) → IsId st d → IsNodeOf st d (node_of st d)) → IsId st a → IsId st b →

@@ -46,7 +46,7 @@ pub next_found : (high v i : ℕ) (ps : List (ℕ × ℕ)) (e d : ℕ × ℕ) �
 next_found high v i ps e d r l b m =
     place_found v (suc i) ps e d l (λ k n. omega (arith, b, ends_ordered high 0 ps r k i d (omega (arith, n)) (omega (arith, l)))) m
 
--- the same, by a test of the end before it
+-- a part is found where its end is not below the value and a test says that the end before it is
 pub found_after : (high v i : ℕ) (ps : List (ℕ × ℕ)) (x y e : ℕ × ℕ) → Rises high 0 ps → i ≢ 0 → i < length ps →
     nat_lt (get_or ps (i - 1) x).0 v ≡ true → v ≤ (get_or ps i y).0 → get_or ps i e ≡ found_in (0, 0) ps v
 found_after high v zero ps x y e r n l t u = absurd (n refl)

@@ -24,7 +24,7 @@ no_out = record { act = []; target = 0 }
 abbrev pub out_made : List Out → (List ℕ → List Out) → List ℕ → ℕ → List Out
 out_made outs B pk k = prefixed (slice_index_or outs k no_out).act (B (applied (slice_index_or outs k no_out).act pk))
 
--- the same where the second diagram has these outs at each packet: each of them after the act, in their order
+-- what the second diagram makes of the out at a place, where it has these outs at each packet: each of them after the act, in their order
 abbrev pub outs_made : List Out → List Out → ℕ → List Out
 outs_made outs seconds k = map (out_after (slice_index_or outs k no_out).act) seconds
 

@@ -96,7 +96,7 @@ arms_more st f x xs more p ps pushed one a = subst (λ l. AreArms st f l (sum_of
       );
     }
 
--- the same in another order
+-- arms in another order are arms of the policy too
 pub arms_moved : (st : StoreState) (f : ℕ) (xs ys : List Arm) (p : Policy) → IsPermutation xs ys → AreArms st f xs p → AreArms st f ys p
 arms_moved st f xs ys p moved a =
     let back = λ (x : Arm) (c : Contains ys x). Contains-permutation ys xs x (IsPermutation-sym xs ys moved) c in

@@ -213,7 +213,7 @@ none_at_end st d ps zero h b = b
 none_at_end st d [] (suc i) h b = b
 none_at_end st d (p ∷ ps) (suc i) h b = none_following st d (tree_of p) (trees_of ps) h (none_at_end st d ps i h b)
 
--- the same of the parts from a place on
+-- a diagram without outs that is silent for a sequence's parts from a later place on is so for the parts from an earlier place on
 pub none_between : (st : StoreState) (d : ℕ) (ps : List Pol) (from i : ℕ) → from ≤ i → HasLeaves st d (λ pk. []) →
     IsSilent st d (seq_of (trees_of (drop i ps))) → IsSilent st d (seq_of (trees_of (drop from ps)))
 none_between st d ps zero i le h b = none_at_end st d ps i h b

@@ -84,7 +84,7 @@ keeps_more f x values more p ps put one keeps pk y = (
     either : list_any (is_between v) more ≡ list_any (is_between v) values || list_any (is_between v) (x ∷ [])
     either = put v ∙ list_any-append (is_between v) values (x ∷ [])
 
--- the same intervals in another order
+-- intervals in another order keep what they kept
 pub keeps_moved : (f : ℕ) (xs ys : List (ℕ × ℕ)) (p : Policy) → IsPermutation xs ys → KeepsWhere f xs p → KeepsWhere f ys p
 keeps_moved f xs ys p moved keeps pk y =
     let same = list_any-IsPermutation (is_between (slice_index pk f)) xs ys moved in (

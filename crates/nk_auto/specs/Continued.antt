@@ -15,7 +15,7 @@ use Rattle.nk_auto.specs.Plain.{AssignsWithin, Sends}
 abbrev pub IsFit : List ℕ → Policy → Type 0
 IsFit maxes p = NegatesPredicates p × AssignsWithin maxes p
 
--- the same of each part
+-- each complement in the parts is over a predicate, and each assignment outside complements is to a value in range
 abbrev pub AreFit : List ℕ → Policies → Type 0
 AreFit maxes ps = AllNegatePredicates ps × AllAssignOnly (λ f n. n ≤ slice_index maxes f) ps
 

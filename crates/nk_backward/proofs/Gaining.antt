@@ -75,7 +75,7 @@ gained_then a st new One Two Both old before mid between all next g first second
     on : (z : List ℕ) → IsStorePacket a z → IsStorePacket st z
     on z w = packet_on a st z g w
 
--- the same packets came, in other words
+-- what was gained, in other words
 pub gained_as : (a new : StoreState) (One Two : ℕ → List ℕ → Type 0) (old before all next : List (ℕ × ℕ)) → IsGained a One old before new all next → ((i : ℕ) (z : List ℕ) → IsStorePacket a z → One i z → Two i z) → ((i : ℕ) (z : List ℕ) → IsStorePacket a z → Two i z → One i z) → IsGained a Two old before new all next
 gained_as a new One Two old before all next m on back = record {
   from = λ i z w u. elim (m.from i z w u) [ inl x ↦ inl x | inr c ↦ inr (on i z w c) ];
@@ -91,7 +91,7 @@ gained_as a new One Two old before all next m on back = record {
   some = m.some;
 }
 
--- the same of a store before, in which the entries stood already
+-- what was gained since a store was gained since the store before, in which the entries stood already
 pub gained_before : (a st new : StoreState) (One Two : ℕ → List ℕ → Type 0) (old before all next : List (ℕ × ℕ)) → Grows a st → HaveSets a old → Once old → HaveSets a before → Once before → IsGained st One old before new all next →
     ((i : ℕ) (z : List ℕ) → IsStorePacket a z → One i z → Two i z) → ((i : ℕ) (z : List ℕ) → IsStorePacket a z → Two i z → One i z) → IsGained a Two old before new all next
 gained_before a st new One Two old before all next g sets once before_sets before_once m on back =
@@ -125,7 +125,7 @@ found_then a st new One Two Both before mid all g first second parts left right 
     on : (z : List ℕ) → IsStorePacket a z → IsStorePacket st z
     on z w = packet_on a st z g w
 
--- the same of a store before, in which the list stood already, in other words
+-- what was found since a store was found since the store before, in which the list stood already, in other words
 pub found_before : (a st new : StoreState) (One Two : ℕ → List ℕ → Type 0) (before all : List (ℕ × ℕ)) → Grows a st → HaveSets a before → AreFound st One before new all →
     ((i : ℕ) (z : List ℕ) → IsStorePacket a z → One i z → Two i z) → ((i : ℕ) (z : List ℕ) → IsStorePacket a z → Two i z → One i z) → AreFound a Two before new all
 found_before a st new One Two before all g sets m on back =

@@ -59,7 +59,7 @@ abbrev pub missing_at : StoreState → List (ℕ × ℕ) → ℕ → List (List 
 missing_at st ps i [] = 0
 missing_at st ps i (z ∷ zs) = cond (is_under st ps i z) 0 1 + missing_at st ps i zs
 
--- the same of the sets of all transitions
+-- how many of the packets are not under the set of each transition, in all
 abbrev pub missing_in : StoreState → List (ℕ × ℕ) → List Transitions → List (List ℕ) → ℕ
 missing_in st ps [] zs = 0
 missing_in st ps (t ∷ ts) zs = missing_at st ps t.source zs + missing_in st ps ts zs
@@ -166,7 +166,7 @@ less_at a b old new i (z ∷ zs) f y m e n = elim m [
       omega (arith, rest, one)
 ]
 
--- the same of all transitions
+-- no more are missing of all transitions
 fewer_in : (a b : StoreState) (old new : List (ℕ × ℕ)) (ts : List Transitions) (zs : List (List ℕ)) → ((i : ℕ) (z : List ℕ) → Among zs z → is_under a old i z ≡ true → is_under b new i z ≡ true) → missing_in b new ts zs ≤ missing_in a old ts zs
 fewer_in a b old new [] zs f = omega arith
 fewer_in a b old new (t ∷ ts) zs f = omega (arith, fewer_at a b old new t.source zs (f t.source), fewer_in a b old new ts zs f)

@@ -16,7 +16,7 @@ abbrev pub IsTakenOut : StoreState → List Transitions → List (ℕ × ℕ) �
 IsTakenOut st ts places q i z =
     (n : ℕ) × (n < length places) × (q.out.target ≡ n + 1) × ((transitions_at ts (place_at places n).0).source ≡ i) × LeavesFrom st ts places n z × (is_in st q.packets (packet_made ts places n z) ≡ true)
 
--- the same of one of the first k outs
+-- the transition that one of the first k outs stands for leads from the packet z under the set i to a packet of the out
 abbrev pub IsTakenBelow : StoreState → List Transitions → List (ℕ × ℕ) → List Given → ℕ → ℕ → List ℕ → Type 0
 IsTakenBelow st ts places es k i z = (j : ℕ) × (j < k) × IsTakenOut st ts places (entry es j) i z
 

@@ -112,7 +112,7 @@ module _ (fields : FieldTable) (first : StoreState) (states : List ℕ) (left ri
       (subst (λ s. IsBreak new states s (first_packets ls) (λ set pk. violations_in new ends set pk) (witness_target side) f) alone_set breaks))
       (subst (λ s. IsLeast (λ g. Breaks new states s (first_packets ls) (λ set pk. violations_in new ends set pk) g) f) alone_set least)
 
--- the same where the states are given as a slice
+-- the levels, where the states are given as a slice
 module _ (new : StoreState) (ss : List (List ℕ)) (ends : List ℕ) (ls : List (List (ℕ × ℕ))) (slice states : List ℕ) (same : slice ≡ states) where
   pub levels_at : (broken : Bool) → AreLevels new new ss states (first_set ls) (first_packets ls) (λ set pk. violations_in new ends set pk) ls broken
       → AreLevels new new ss slice (first_set ls) (first_packets ls) (λ set pk. violations_in new ends set pk) ls broken

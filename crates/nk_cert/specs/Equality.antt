@@ -23,7 +23,7 @@ IsAloneFrom Start p q found =
     × Gives p found.start found.records found.last
     × ¬ (Gives q found.start found.records found.last)
 
--- the same from any packet in range
+-- a history of the first policy and not of the second, from any packet in range
 abbrev pub IsOfFirstAlone : FieldTable → Policy → Policy → Found → Type 0
 IsOfFirstAlone fields p q found = IsAloneFrom (IsPacket fields) p q found
 

@@ -34,7 +34,7 @@ abbrev AreGoodIntervals : FieldTable → ℕ → ℕ → List SetInterval → Ty
 AreGoodIntervals fields f most [] = Unit {0}
 AreGoodIntervals fields f most (i ∷ is) = IsGoodInterval fields f most i × AreGoodIntervals fields f most is
 
--- the same with a larger bound
+-- a good policy is good with a larger bound
 deeper : (fields : FieldTable) (m n : ℕ) (p : Policy) → m ≤ n → IsGood fields m p → IsGood fields n p
 deeper fields m n p le g = record {
   predicate = g.predicate;

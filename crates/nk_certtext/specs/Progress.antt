@@ -37,7 +37,7 @@ abbrev pub with_next_part : PartsValue → Completed → PartsValue
 with_next_part p (completed.Declaration d) = record p { said = program_on p.said (declaration_of d) }
 with_next_part p (completed.Row r) = with_row_part p (row_value r)
 
--- the same of what a token completes, if it does
+-- the parts with the declaration or row that a token completes, if it completes one
 abbrev pub with_completed : PartsValue → Option Completed → PartsValue
 with_completed p None = p
 with_completed p (Some c) = with_next_part p c

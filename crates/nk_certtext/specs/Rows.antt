@@ -50,7 +50,7 @@ with_predicate before ns (Err e) = Err (fault_of_predicate e)
 abbrev pub placed_row : (before : List RowValue) → List ℕ → (line : ℕ) → Result Policy NamesError → Result (List RowValue) CertError
 placed_row before ns line predicate = if is_misplaced before ns then Err (CertFault line) else with_predicate before ns predicate
 
--- the same of a row as it is written
+-- the rows with one more row as it is written, or its first fault: of its positions, and then of its predicate
 abbrev pub with_written_row : FieldTable → (before : List RowValue) → Row → Result (List RowValue) CertError
 with_written_row fields before (row ns t line) = placed_row before ns line (row_policy fields t line)
 

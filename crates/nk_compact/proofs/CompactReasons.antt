@@ -80,7 +80,7 @@ why_compact program name NoPolicy h = inl (refl, h)
 why_compact program name r h = inr h
 
 module _ (program other : Program) (same : program_by program ≡ program_by other) (name : List ℕ) where
-  -- the same reason of the other program's policy
+  -- a reason of the other program's policy is one of this program's policy
   moved : (r : Refusal) (v w : Policy) → policy_named program name ≡ Some v → policy_named other name ≡ Some w → IsCompactReason other.fields other.topo w r → IsCompactReason program.fields program.topo v r
   moved r v w h k c =
       alike (λ f u p. IsCompactReason f u p r) other.fields program.fields other.topo program.topo w v (sym (fields_alike program other same)) (sym (topo_alike program other same)) (sym (one_policy program other same name v w h k)) c

@@ -37,7 +37,7 @@ mutual
       ap (λ c. if c then Some b else None) (other_way l k e.0)
   no_end p l h = refl
 
-  -- the same among parts
+  -- a number that is no dup's of the parts is no mark's of theirs
   no_ends : (ps : Policies) (l : ℕ) → some_has_dup ps l ≡ false → link_end_among ps l ≡ None
   no_ends no_part l h = refl
   no_ends (part p ps) l h =

@@ -11,7 +11,7 @@ pub record HasEnds (old new : List (Option ℕ)) (p : Policy) : Type 0 where
   pub count : length new ≡ length old
   pub each : (l : ℕ) → l < length new → slice_index_or new l None ≡ first_number (slice_index_or old l None) (link_end p l)
 
--- the same of parts in turn
+-- where nothing stood at a mark, there is now the end of the first literal with that mark in the parts
 pub record HaveEnds (old new : List (Option ℕ)) (ps : Policies) : Type 0 where
   pub count : length new ≡ length old
   pub each : (l : ℕ) → l < length new → slice_index_or new l None ≡ first_number (slice_index_or old l None) (link_end_among ps l)

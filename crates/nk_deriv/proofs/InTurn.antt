@@ -88,7 +88,7 @@ pub state_is : (xs : List Part) (i : ℕ) (q : Part) → i < length xs → q ≡
     → drop i xs ≡ q ∷ drop (i + 1) xs
 state_is xs i q lt is = rw add-one (drop-cons xs i q lt ∙ ap (λ x. x ∷ drop (suc i) xs) (sym is))
 
--- the same by the place in the list
+-- the loop's fact after one more state, which stands at the place in the list
 pub turning_next : (old legs legs' : List (Pol × ℕ)) (free free' : Policy) (state : Part) (all : List Part) (i : ℕ)
     → i < length all → state ≡ get_or all i state
     → ArePutAfter legs legs' free state.legs → IsTurn free' free (tree_of state.free)

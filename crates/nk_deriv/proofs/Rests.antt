@@ -48,7 +48,7 @@ label_of : (xs : List (ℕ × Part)) (k : ℕ) (d : ℕ × Part) → k < length 
 label_of xs k d lt =
     (k, subst (λ n. k < n) (sym (length-map xs (λ e. e.0))) lt, get_or-map (λ e. e.0) xs k d (get_or xs k d).0 lt)
 
--- the same entries, told of other rests and another next part
+-- the entries, told of other rests and another next part
 pub rests_as : (old new : List (ℕ × Part)) (rest rest' : ℕ → Policy) (labels : List ℕ) (next next' : Part)
     → ((l : ℕ) (r : Part) → Contains labels l → IsFollowed r (rest l) next → IsFollowed r (rest' l) next')
     → AreRests old new rest labels next → AreRests old new rest' labels next'

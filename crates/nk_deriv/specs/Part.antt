@@ -26,7 +26,7 @@ abbrev mutual
   IsDupFree (dup l) = ⊥
   IsDupFree (link a m b n l) = ⊥
 
-  -- the same of each part
+  -- no part has a dup or a link literal, and each complement in the parts is of a predicate
   pub AllDupFree : Policies → Type 0
   AllDupFree no_part = Unit {0}
   AllDupFree (part p ps) = IsDupFree p × AllDupFree ps

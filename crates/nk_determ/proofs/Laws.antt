@@ -29,7 +29,7 @@ applied_keeps maxes low f (s ∷ ss) pk a l =
 min_within : (v high n : ℕ) → v ≤ high → min v high ≡ n → v ≡ n
 min_within v high n l e = omega (arith, e)
 
--- the same, where it is another value
+-- a value within the range that doesn't count as n isn't n
 not_there : (v high n : ℕ) → v ≤ high → (min v high ≡ n → ⊥) → v ≡ n → ⊥
 not_there v high n l k e = k (omega (arith, e))
 

@@ -23,6 +23,6 @@ pub record IsBreak (st : StoreState) (states set : List ℕ) (start : ℕ) (bad 
   pub walk : Walks (IsStep st states) (set, f.start) f.records end
   pub makes : MakesWithTarget (bad end.0 end.1) end.1 f.last target
 
--- the same by a violation with any target
+-- the history is a break by a violation with some target
 abbrev pub Breaks : StoreState → List ℕ → List ℕ → ℕ → (List ℕ → List ℕ → List Out) → Found → Type 0
 Breaks st states set start bad f = (target : ℕ) × IsBreak st states set start bad target f

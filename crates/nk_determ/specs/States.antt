@@ -18,7 +18,7 @@ SomeSends st ds pk g target = (d : ℕ) × Contains ds d × Contains (split_leaf
 abbrev pub SomeLeads : StoreState → List ℕ → List ℕ → List ℕ → ℕ → Type 0
 SomeLeads st ds pk y target = (d : ℕ) × Contains ds d × Sends st d pk y target
 
--- the same of the states at these labels, split
+-- the state at one of these labels, split, sends the packet by that act to that target
 abbrev pub StateSends : StoreState → List ℕ → List ℕ → List ℕ → List (ℕ × ℕ) → ℕ → Type 0
 StateSends st states labels pk g target = (l : ℕ) × Contains labels l × Contains (split_leaf st.maxes pk (look st (slice_index states l) pk)) (record { act = g; target = target })
 
@@ -67,7 +67,7 @@ IsThere sets (l ∷ ls) = holds sets (l ∷ ls) ≡ true
 abbrev pub HasAll : List (List ℕ) → List Out → Type 0
 HasAll sets outs = (g : List (ℕ × ℕ)) → IsThere sets (labels_of g outs)
 
--- the same of each leaf of a diagram
+-- the labels of each act of each leaf of the diagram are one of the sets
 abbrev pub HasSets : List (List ℕ) → StoreState → ℕ → Type 0
 HasSets sets st d = (pk : List ℕ) → HasAll sets (look st d pk)
 

@@ -264,7 +264,7 @@ module _ (st : StoreState) (width tag sw d : ℕ) (places : length st.maxes ≡ 
       → AreRowsOf st width tag sw to d rows
   are_rows to len rows all e = rows_are to len (at_switch sw d (node_at st.nodes d)) rows (root_is (node_at st.nodes d) refl) all e
 
--- the same in words of the store
+-- the rows made of the ways of the part for the switch are the diagram's rows, in words of the store
 pub table_rows :
     (st : StoreState) (width tag sw d to len : ℕ) (rows : List Plain) → length st.maxes ≡ 18
     → Sound st.maxes st.nodes → IsId st d → IsFrame st width tag → IsPrintable st tag sw d → sw ≤ 65535

@@ -187,7 +187,7 @@ pub all_read : (t : FieldTable) (its : List (List ℕ)) (place n a : ℕ) (pk : 
 all_read t its place n a pk whole le past inv =
     ap (λ l. read_items t [] l a pk) (sym (drop_all a its past)) ∙ read_done t its place n a pk whole le inv
 
--- the same of references
+-- too many items, told of references
 pub too_many_refs : (t : FieldTable) (items : List (Bor (List ℕ))) (place n a : ℕ) (pk : Packet) (whole : Result Packet PacketError) → n ≤ place → a < length items
     → read_items t (filter (is_shown t false) (range_with_len place (n - place))) (drop a (map (λ j. j.now) items)) a pk ≡ whole
     → Err (BadPacket (a + 1)) ≡ whole

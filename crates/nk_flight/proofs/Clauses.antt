@@ -14,7 +14,7 @@ use Rattle.nk_flight.proofs.Owing.{eq_true}
 use Rattle.nk_flight.proofs.Schedules.{every_order, events_tables}
 use Rattle.nk_flight.proofs.Once.{each_once, no_dup_from_doubles, doubles_from_no_dup}
 
--- the same with tags set to 0
+-- with tags set to 0, what leaves after k crossings is what has left or is owed, in another order
 pub every_order_erased : (t : Tables) (es : List Event) (i k : ℕ) (pk : List ℕ) → slice_get (after_events es (nothing_in_flight t)).packets i ≡ Some pk
     → IsPermutation (all_erased t (left_after t k pk)) (all_erased t (left_or_owed (after_events es (nothing_in_flight t)) (i + 1) k))
 every_order_erased t es i k pk e =

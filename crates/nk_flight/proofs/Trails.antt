@@ -24,7 +24,7 @@ follows_on hs more n m h there less f =
     inr (lower, r.1 ∙ ap (λ (e : Hop). suc e.crossings) (sym (get_or_append_left hs more _ h.earlier within))))
     f
 
--- the same where no more stand after
+-- what goes on from one of the first n hops goes on from one of the first m
 pub follows_wider : (hs : List Hop) (n m : ℕ) (h : Hop) → n ≤ m → FollowsHop hs n h → FollowsHop hs m h
 follows_wider hs n m h less f =
     ⊎_elim

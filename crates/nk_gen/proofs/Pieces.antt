@@ -8,7 +8,7 @@ use Rattle.nk_gen.specs.Text.{link_line, let_line, literals}
 pub put : {more before piece first next : List ℕ} → before ≡ first → piece ≡ next → more ≡ before ++ piece → more ≡ first ++ next
 put {piece = piece} {first = first} e f is = is ∙ ap (λ l. l ++ piece) e ∙ ap (λ l. first ++ l) f
 
--- the same where the piece stays
+-- one piece more, where what stands before it is known
 pub put_same : {more before first : List ℕ} (piece : List ℕ) → before ≡ first → more ≡ before ++ piece → more ≡ first ++ piece
 put_same piece e is = is ∙ ap (λ l. l ++ piece) e
 

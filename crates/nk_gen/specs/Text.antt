@@ -75,7 +75,7 @@ hop_line = codes "let hop = pt:=1;ring + pt:=3;chord\n"
 abbrev pub go_line : ℕ → List ℕ
 go_line k = codes "let go = pt=9;key:=" ++ decimal k ++ codes ";(~home;hop)*;home;pt:=9\n"
 
--- the same, with the hops told as none or at least one
+-- a packet that comes in at port 9 gets the key, and hops until it is at home, with the hops told as none or at least one
 abbrev pub same_line : ℕ → List ℕ
 same_line k = codes "let same = pt=9;key:=" ++ decimal k ++ codes ";(id + ~home;hop;(~home;hop)*);home;pt:=9\n"
 

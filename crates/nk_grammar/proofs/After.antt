@@ -54,7 +54,7 @@ begun : (ds es : List Declaration) (t : Terminal) → DeclaresAfter ds (begin_de
 begun ds es (outside field_word) = refl
 begun ds es t = refl
 
--- the same after one more declaration
+-- a declaration begins after further declarations and one more
 begun_more : (ds es : List Declaration) (d : Declaration) (t : Terminal)
     → DeclaresAfter ds (begin_declaration (one_more (ds ++ es) d) t) (begin_declaration (one_more es d) t)
 begun_more ds es d t = ap (λ l. begin_declaration l t) (more ds es d) ∙ begun ds (one_more es d) t

@@ -114,13 +114,13 @@ AreRows vs rows = (line : ℕ) × (p : Pol) × (ws : List WrittenRow) × (vs ≡
 abbrev IsStartHead : ℕ → List ℕ → List Row → List Terminal → Type 0
 IsStartHead line ns rows xs = (ns ≡ []) × (rows ≡ []) × (xs ≡ outside (row_word line) ∷ outside start_word ∷ colon ∷ [])
 
--- the same for a row after the start row
+-- the tokens of a row after the start row up to the colon, after the rows that are done
 abbrev IsRowHead : ℕ → List ℕ → List Row → List Terminal → Type 0
 IsRowHead line ns rows xs =
     (vs : List Terminal) × AreRows vs rows × (n : Number) × (ms : List Number) × (ns ≡ n.value ∷ map number_value ms)
     × (xs ≡ vs ++ outside (row_word line) ∷ number n ∷ (spell_numbers ms ++ colon ∷ []))
 
--- the same for any row
+-- the tokens of any row up to the colon, after the rows that are done
 abbrev IsHead : ℕ → List ℕ → List Row → List Terminal → Type 0
 IsHead line ns rows xs = IsStartHead line ns rows xs ⊎ IsRowHead line ns rows xs
 

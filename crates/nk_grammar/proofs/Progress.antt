@@ -84,7 +84,7 @@ takes_no_memory (known.Stopped e) j t line h = ap (λ x. progress_of x line) h.0
 
 -- ---- after further declarations and rows
 
--- the same after further declarations and rows
+-- what is known, with these declarations and rows before those that are done
 abbrev so_far_following : List Declaration → List Row → SoFar → SoFar
 so_far_following ds rs s = so_far s.progress (ds ++ s.declarations) (rs ++ s.rows)
 
@@ -92,13 +92,13 @@ so_far_following ds rs s = so_far s.progress (ds ++ s.declarations) (rs ++ s.row
 nothing_following : (p : CertifiedProgress) (ds : List Declaration) (rs : List Row) → so_far p ds rs ≡ so_far_following ds rs (so_far p [] [])
 nothing_following p ds rs = ap (λ l. so_far p l rs) (sym (append-nil ds)) ∙ ap (λ l. so_far p (ds ++ []) l) (sym (append-nil rs))
 
--- the same is open
+-- after further declarations and rows as many parentheses and `~` are open
 open_after : (ds : List Declaration) (rs : List Row) (p : CertifiedPhase) (es : List Declaration) (qs : List Row)
     → open_certified (following ds rs (certifying p es qs)) ≡ open_certified (certifying p es qs)
 open_after ds rs (declaring r) es qs = refl
 open_after ds rs p es qs = refl
 
--- the same is said of it
+-- what is known of a state after further declarations and rows is what is known of the state, with these before
 at_after : (ds : List Declaration) (rs : List Row) (p : CertifiedPhase) (es : List Declaration) (qs : List Row) (line : ℕ)
     → so_far_at (following ds rs (certifying p es qs)) line ≡ so_far_following ds rs (so_far_at (certifying p es qs) line)
 at_after ds rs (declaring r) es qs line = refl

@@ -22,12 +22,12 @@ abbrev pub has_star : Factor → Bool
 has_star (plain a) = false
 has_star (starred f) = true
 
--- the same of a term's last factor
+-- whether a term's last factor has a star
 abbrev pub term_has_star : Term → Bool
 term_has_star (one_factor f) = has_star f
 term_has_star (semi t f) = has_star f
 
--- the same of the last factor of a policy's last term
+-- whether the last factor of a policy's last term has a star
 abbrev pub pol_has_star : Pol → Bool
 pol_has_star (one_term t) = term_has_star t
 pol_has_star (plus p t) = term_has_star t

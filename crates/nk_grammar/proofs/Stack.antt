@@ -40,7 +40,7 @@ pub nothing_open : (b : Bool) (xs : List Frame) (t : Tree) → length xs ≡ 0
 nothing_open b [] t e = refl
 nothing_open b (x ∷ xs) t e = absurd (omega (arith, e))
 
--- the same for the list in the code
+-- a policy may not end where something is open in the code's list
 pub something_open : (b : Bool) (xs : List Frame) (t : Tree) → 0 < length xs
     → done_at (place.After b) (stack_of xs) t ≡ None
 something_open b xs t lt = done_with_open b (stack_of xs) t (omega (arith, lt, stack_length [] xs))
@@ -50,7 +50,7 @@ stack_take : (xs : List Frame) (i : ℕ) (x : Frame) → i < length xs
     → stack_of (take (i + 1) xs) ≡ open_of (get_or xs i x) ∷ stack_of (take i xs)
 stack_take xs i x lt = ap stack_of (take_more xs i x lt) ∙ stack_push [] (take i xs) (get_or xs i x)
 
--- the same of the last of a front
+-- a front of the code's list encloses as its last, put before the others, does
 pub encloses_before : (xs : List Frame) (n : ℕ) (x : Frame) → 0 < n → n ≤ length xs → x ≡ get_or xs (n - 1) x
     → encloses (stack_of (take n xs)) ≡ encloses (open_of x ∷ stack_of (take (n - 1) xs))
 encloses_before xs n x some le is =

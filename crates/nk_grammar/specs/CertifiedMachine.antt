@@ -116,7 +116,7 @@ abbrev pub certified_ended : CertifiedPhase → List Declaration → List Row �
 certified_ended (in_row line ns s) ds rs = certificate_ends ds rs ns line (policy_ended s)
 certified_ended p ds rs = None
 
--- the same of a state
+-- the declarations and rows of a state, if the text may end there
 abbrev pub certified_at_end : Certifying → Option Certified
 certified_at_end c = certified_ended c.phase c.declarations c.rows
 
@@ -126,7 +126,7 @@ open_in_certified_phase (declaring r) = open_count r
 open_in_certified_phase (in_row line ns s) = length s.frames
 open_in_certified_phase p = 0
 
--- the same of a state
+-- how many parentheses and `~` are open in a state
 abbrev pub open_certified : Certifying → ℕ
 open_certified c = open_in_certified_phase c.phase
 

@@ -53,7 +53,7 @@ so_far p ds rs = record { progress = p; declarations = ds; rows = rs }
 abbrev pub nothing_so_far : SoFar
 nothing_so_far = so_far first_progress [] []
 
--- the same of the machine's state after a token on this line
+-- what is known after a token on this line, and what is done, by the machine's state after the token
 abbrev pub so_far_at : Certifying → (line : ℕ) → SoFar
 so_far_at c line = so_far (Going (bare c.phase) line) (done_declarations c.phase c.declarations) c.rows
 
@@ -68,7 +68,7 @@ so_far_on (Going p line) s t =
     so_far_judged (judged_certified t.line (certify_one (with_done p s.declarations s.rows) (terminal_of t))) s t.line
 so_far_on (Stopped e) s t = s
 
--- the same by what is known
+-- one more token, by what is known of the tokens before it
 abbrev pub so_far_after : SoFar → Token → SoFar
 so_far_after s t = so_far_on s.progress s t
 

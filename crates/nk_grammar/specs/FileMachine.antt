@@ -157,7 +157,7 @@ text_ended (port_read n ps) ds = Some (one_more ds (switch n ps))
 text_ended (in_policy k w line s) ds = option_map (λ p. one_more ds (defined k w p line)) (policy_ended s)
 text_ended p ds = None
 
--- the same of a state
+-- the declarations of a state, if the text may end there
 abbrev pub declarations_at_end : Reading → Option (List Declaration)
 declarations_at_end r = text_ended r.phase r.declarations
 
@@ -166,7 +166,7 @@ abbrev pub open_in_phase : Phase → ℕ
 open_in_phase (in_policy k w line s) = length s.frames
 open_in_phase p = 0
 
--- the same of a state
+-- how many parentheses and `~` are open in a state
 abbrev pub open_count : Reading → ℕ
 open_count r = open_in_phase r.phase
 

@@ -106,7 +106,7 @@ abbrev pub go_on_from : Place → List Open → Trees → Trees → Terminal →
 go_on_from (place.After starred) fs ts us t = after_factor starred fs ts us t
 go_on_from p fs ts us t = None
 
--- the same of a state
+-- the factor that stands at a state's place, if one does, goes on
 abbrev pub step_done : State → Terminal → Option State
 step_done s t = go_on_from s.place s.frames s.terms s.factors t
 
@@ -140,7 +140,7 @@ abbrev pub settled_at : Place → State → State
 settled_at (place.Named w) s = atom_ended (name_of w) s.frames s.terms s.factors
 settled_at p s = s
 
--- the same of a state
+-- the state, with a name that stands at its place taken as an atom
 abbrev pub settled : State → State
 settled s = settled_at s.place s
 
@@ -149,7 +149,7 @@ abbrev pub done_at : Place → List Open → Tree → Option Tree
 done_at (place.After starred) [] t = Some t
 done_at p fs t = None
 
--- the same of a state
+-- the policy of a state, if a policy may end there: after a factor, where nothing is open
 abbrev pub done : State → Option Tree
 done s = done_at s.place s.frames (terms_joined s.terms s.factors)
 

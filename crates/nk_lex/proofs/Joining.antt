@@ -25,7 +25,7 @@ use Rattle.nk_lex.proofs.Standing.{size, inside, run_length, feeds_append, line_
 abbrev moved : (lines places : ℕ) → Scanned → Scanned
 moved lines places r = (map (token_moved lines places) r.0, option_map (fault_moved lines) r.1)
 
--- the same of one lexeme
+-- one lexeme, so many lines and places further on
 abbrev cut_moved : (lines places : ℕ) → Result (ℕ × Option Token) LexError → Result (ℕ × Option Token) LexError
 cut_moved lines places (Ok p) = Ok (p.0, option_map (token_moved lines places) p.1)
 cut_moved lines places (Err e) = Err (fault_moved lines e)
@@ -164,7 +164,7 @@ abbrev after_scan : List Token → Option LexError → Scanned → Scanned
 after_scan ts None r = (ts ++ r.0, r.1)
 after_scan ts (Some e) r = (ts, Some e)
 
--- the same after what was scanned
+-- what is scanned after what was scanned, unless this ends with a fault
 abbrev both : Scanned → Scanned → Scanned
 both r s = after_scan r.0 r.1 s
 

@@ -35,7 +35,7 @@ abbrev pub after_tokens : List Token → (lines places : ℕ) → Result (List T
 after_tokens ts lines places (Ok us) = Ok (ts ++ map (token_moved lines places) us)
 after_tokens ts lines places (Err e) = Err (fault_moved lines e)
 
--- the same after what a first text gives, whose fault is the first of both
+-- the tokens of a first text, and after them those of a second one, so many lines and places further on; or the first fault of both
 abbrev pub joined_after : Result (List Token) LexError → (lines places : ℕ) → Result (List Token) LexError
     → Result (List Token) LexError
 joined_after (Ok ts) lines places r = after_tokens ts lines places r

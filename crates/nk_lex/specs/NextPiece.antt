@@ -88,7 +88,7 @@ end_answer (pending.Fault e) held fed line = Err e
 abbrev pub wanted : Settled → ℕ
 wanted r = length r.0 + length (held_in r.1)
 
--- the same after what is kept: an open name or symbol needs some
+-- how much of what these bytes come to needs memory, after what is kept: an open name or symbol needs some
 abbrev pub wanted_past : Pending → Settled → ℕ
 wanted_past pending.Held r = 1
 wanted_past p r = wanted r

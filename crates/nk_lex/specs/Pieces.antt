@@ -65,7 +65,7 @@ abbrev pub held_of : List ℕ → List ℕ
 held_of [] = []
 held_of (b ∷ rest) = if b == 35 then [] else if is_digit b then [] else b ∷ rest
 
--- the same of what is left
+-- the bytes of an open name or symbol in what stands after the complete lexemes
 abbrev pub held_in : Left → List ℕ
 held_in (Rest line at bytes) = held_of bytes
 held_in (Fault e) = []

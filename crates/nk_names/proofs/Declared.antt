@@ -52,7 +52,7 @@ module _ (links : List Link) where
         subst (λ (i : Literal). In links (link_of i)) (sym h) (found_link links a m b n (true_of_not _ d))
     literal_declared p d k h = absurd h
 
-    -- the same among parts
+    -- a literal of parts whose links are declared is a declared link
     pub some_literal_declared : (ps : Policies) → some_has_leaf (is_link_outside links) ps ≡ false → (k : Literal) → SomeHoldsLiteral ps k → In links (link_of k)
     some_literal_declared no_part d k h = absurd h
     some_literal_declared (part p ps) d k h =

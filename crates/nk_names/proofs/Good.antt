@@ -20,7 +20,7 @@ mutual
   dups_marked (star_of p) n = dups_marked p n
   dups_marked p n = refl
 
-  -- the same of parts
+  -- numbering changes no count of the parts' dups
   pub all_dups_marked : (ps : Policies) (n : ℕ) → dups_of_all (all_marked_from ps n) ≡ dups_of_all ps
   all_dups_marked no_part n = refl
   all_dups_marked (part p ps) n = omega (arith, dups_marked p n, all_dups_marked ps (n + dups_of p))
@@ -34,7 +34,7 @@ mutual
   marked_again (star_of p) k n = ap star_of (marked_again p k n)
   marked_again p k n = refl
 
-  -- the same of parts
+  -- the last numbering of parts stands
   pub all_marked_again : (ps : Policies) (k n : ℕ) → all_marked_from (all_marked_from ps k) n ≡ all_marked_from ps n
   all_marked_again no_part k n = refl
   all_marked_again (part p ps) k n =
@@ -51,7 +51,7 @@ mutual
   size_marked (star_of p) n = ap (λ k. 1 + k) (size_marked p n)
   size_marked p n = refl
 
-  -- the same of parts
+  -- numbering changes no size of parts
   pub sizes_marked : (ps : Policies) (n : ℕ) → sizes_of (all_marked_from ps n) ≡ sizes_of ps
   sizes_marked no_part n = refl
   sizes_marked (part p ps) n = omega (arith, size_marked p n, sizes_marked ps (n + dups_of p))
@@ -65,7 +65,7 @@ mutual
   depth_marked (star_of p) n = ap (λ k. 1 + k) (depth_marked p n)
   depth_marked p n = refl
 
-  -- the same of parts
+  -- numbering changes no depth of parts
   pub depths_marked : (ps : Policies) (n : ℕ) → depths_of (all_marked_from ps n) ≡ depths_of ps
   depths_marked no_part n = refl
   depths_marked (part p ps) n =
@@ -80,7 +80,7 @@ mutual
   predicate_marked (not_of p) n = predicate_marked p n
   predicate_marked p n = refl
 
-  -- the same of parts
+  -- numbering changes no predicate among parts
   pub predicates_marked : (ps : Policies) (n : ℕ) → are_predicates (all_marked_from ps n) ≡ are_predicates ps
   predicates_marked no_part n = refl
   predicates_marked (part p ps) n = cc (predicate_marked p n, predicates_marked ps (n + dups_of p))
@@ -94,7 +94,7 @@ mutual
   few_dups (star_of p) = omega (arith, few_dups p)
   few_dups p = omega arith
 
-  -- the same of parts
+  -- parts have at most two dups for each element
   pub all_few_dups : (ps : Policies) → dups_of_all ps ≤ 2 * sizes_of ps
   all_few_dups no_part = omega arith
   all_few_dups (part p ps) = omega (arith, few_dups p, all_few_dups ps)
@@ -110,7 +110,7 @@ module _ (fields : FieldTable) where
     over_marked (dup l) n h = tt
     over_marked p n h = h
 
-    -- the same of parts
+    -- numbering changes no field and no value of parts
     pub all_over_marked : (ps : Policies) (n : ℕ) → AreOver fields ps → AreOver fields (all_marked_from ps n)
     all_over_marked no_part n h = tt
     all_over_marked (part p ps) n h = (over_marked p n h.0, all_over_marked ps (n + dups_of p) h.1)
@@ -125,7 +125,7 @@ module _ (fields : FieldTable) where
     over_in_range (link a m b k l) h = (h.2.1, h.3.1)
     over_in_range p h = tt
 
-    -- the same of parts
+    -- parts over the fields assign values in range
     pub all_over_in_range : (ps : Policies) → AreOver fields ps → AreInRange ps fields
     all_over_in_range no_part h = tt
     all_over_in_range (part p ps) h = (over_in_range p h.0, all_over_in_range ps h.1)
@@ -139,7 +139,7 @@ mutual
   negates_marked (star_of p) n h = negates_marked p n h
   negates_marked p n h = tt
 
-  -- the same of parts
+  -- numbering leaves complements of predicates in parts
   pub all_negate_marked : (ps : Policies) (n : ℕ) → AllNegatePredicates ps → AllNegatePredicates (all_marked_from ps n)
   all_negate_marked no_part n h = tt
   all_negate_marked (part p ps) n h = (negates_marked p n h.0, all_negate_marked ps (n + dups_of p) h.1)
@@ -158,7 +158,7 @@ module _ (fields more : FieldTable) (wider : (f v : ℕ) → IsValue fields f v 
     over_more (dup l) h = tt
     over_more (link a m b k l) h = (wider 0 a h.0, wider 1 m h.1, wider 0 b h.2, wider 1 k h.3)
 
-    -- the same of parts
+    -- parts over the fields are parts over more fields
     pub all_over_more : (ps : Policies) → AreOver fields ps → AreOver more ps
     all_over_more no_part h = tt
     all_over_more (part p ps) h = (over_more p h.0, all_over_more ps h.1)

@@ -97,7 +97,7 @@ module _ (fields : FieldTable) (table : IsFieldTable fields) where
       over_meant known (link a m b n) h =
           (below 0 a.value (omega arith), below 1 m.value (omega arith), below 0 b.value (omega arith), below 1 n.value (omega arith))
 
-      -- the same of parts
+      -- the policies that parts without an unknown name or value stand for are over the fields
       pub all_over_meant : All (λ l. IsOverFields fields l.1) lets → (ts : Trees) → unknown_among fields lets ts ≡ None → AreOver fields (policies_for fields lets ts)
       all_over_meant known no_part h = tt
       all_over_meant known (part t ts) h = let r = none_both _ _ h in (over_meant known t r.0, all_over_meant known ts r.1)
@@ -119,7 +119,7 @@ module _ (fields : FieldTable) (lets : Lets) where
     negates_meant known (star_of t) h = negates_meant known t h
     negates_meant known t h = tt
 
-    -- the same of parts
+    -- the policies that parts without a misplaced `~` stand for have complements of predicates alone
     pub all_negate_meant : All (λ l. NegatesPredicates l.1) lets → (ts : Trees) → misplaced_among fields lets ts ≡ None → AllNegatePredicates (policies_for fields lets ts)
     all_negate_meant known no_part h = tt
     all_negate_meant known (part t ts) h = let r = none_both _ _ h in (negates_meant known t r.0, all_negate_meant known ts r.1)

@@ -23,7 +23,7 @@ module _ (fields : FieldTable) (lets : Lets) where
     none_misplaced (star_of t) h = absurd cc
     none_misplaced t h = refl
 
-    -- the same among parts
+    -- no `~` is misplaced in parts that are predicates
     pub none_among : (ts : Trees) → are_predicates (policies_for fields lets ts) ≡ true → misplaced_among fields lets ts ≡ None
     none_among no_part h = refl
     none_among (part t ts) h =

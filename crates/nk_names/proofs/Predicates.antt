@@ -25,7 +25,7 @@ mutual
   no_dups (not_of p) h = no_dups p h
   no_dups p h = absurd cc
 
-  -- the same of parts
+  -- parts that are predicates record nothing
   pub none_have_dups : (ps : Policies) → are_predicates ps ≡ true → dups_of_all ps ≡ 0
   none_have_dups no_part h = refl
   none_have_dups (part p ps) h =
@@ -74,7 +74,7 @@ row_is fields t line table h =
       complements = negates_marked p 1 (negates_meant fields [] (λ k d lt. absurd (omega (arith, lt))) t f.placed);
     }
 
--- the same where the policies known are a list of none
+-- the policy is one of a row, where the policies known are a list of none
 pub row_is_from : (fields : FieldTable) (ls : List (List ℕ × Policy)) (t : Tree) (line : ℕ) (q : Policy) → IsFieldTable fields → ls ≡ []
     → predicate_fault fields ls t line ≡ None → q ≡ marked_from (policy_for fields ls t) 1 → IsRowPolicy fields q
 row_is_from fields ls t line q table none h e =

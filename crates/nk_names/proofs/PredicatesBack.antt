@@ -24,7 +24,7 @@ mutual
   negates (star_of p) h = absurd cc
   negates p h = tt
 
-  -- the same of parts
+  -- the complements in parts that are predicates are over predicates
   all_negate : (ps : Policies) → are_predicates ps ≡ true → AllNegatePredicates ps
   all_negate no_part h = tt
   all_negate (part p ps) h =
@@ -42,7 +42,7 @@ mutual
   unmarked (link a m b k l) n h = absurd cc
   unmarked p n h = refl
 
-  -- the same of parts
+  -- parts that are predicates have nothing to number
   all_unmarked : (ps : Policies) (n : ℕ) → are_predicates ps ≡ true → all_marked_from ps n ≡ ps
   all_unmarked no_part n h = refl
   all_unmarked (part p ps) n h =
@@ -60,7 +60,7 @@ module _ (lines line : ℕ) (fields : FieldTable) where
     moved (star_of p) = ap tree.star_of (moved p)
     moved p = refl
 
-    -- the same of parts
+    -- the trees of parts further on are the trees of the parts on a later line
     all_moved : (ps : Policies) → trees_moved lines (trees_for line fields ps) ≡ trees_for (line + lines) fields ps
     all_moved no_part = refl
     all_moved (part p ps) =

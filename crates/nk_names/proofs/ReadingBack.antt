@@ -324,7 +324,7 @@ module _ (line : ℕ) (fields : FieldTable) (table : IsFieldTable fields) where
           ∙ ap (λ x. link a m x (min k 65535) n) (end_is 0 b (omega arith) h.2)
           ∙ ap (λ x. link a m b x n) (end_is 1 k (omega arith) h.3)
 
-      -- the same of parts
+      -- the policies that the parts' trees stand for are the parts, but for the numbers of their dups
       all_meant : (ps : Policies) → AreOver fields ps → (n : ℕ) → all_marked_from (policies_for fields lets (trees_for line fields ps)) n ≡ all_marked_from ps n
       all_meant no_part h n = refl
       all_meant (part p ps) h n =
@@ -362,7 +362,7 @@ module _ (line : ℕ) (fields : FieldTable) (table : IsFieldTable fields) where
           (not_above 65535 (number_for line b) (end_fits 0 b (omega arith) h.2)))
           (not_above 65535 (number_for line k) (end_fits 1 k (omega arith) h.3))
 
-      -- the same of parts
+      -- all names and numbers of the parts are known
       all_known : (ps : Policies) → AreOver fields ps → unknown_among fields lets (trees_for line fields ps) ≡ None
       all_known no_part h = refl
       all_known (part p ps) h = none_first _ _ (known p h.0) (all_known ps h.1)
@@ -379,7 +379,7 @@ module _ (line : ℕ) (fields : FieldTable) (table : IsFieldTable fields) where
       placed (star_of p) h c = placed p h c
       placed p h c = refl
 
-      -- the same of parts
+      -- each `~` of the parts stands over a predicate
       all_placed : (ps : Policies) → AreOver fields ps → AllNegatePredicates ps → misplaced_among fields lets (trees_for line fields ps) ≡ None
       all_placed no_part h c = refl
       all_placed (part p ps) h c = none_first _ _ (placed p h.0 c.0) (all_placed ps h.1 c.1)

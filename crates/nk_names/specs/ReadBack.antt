@@ -44,7 +44,7 @@ abbrev mutual
   HasNoLonePart (dup l) = Unit {0}
   HasNoLonePart (link a m b n l) = Unit {0}
 
-  -- the same of each part
+  -- no sum and no sequence in the parts has exactly one part
   pub HaveNoLonePart : Policies → Type 0
   HaveNoLonePart no_part = Unit {0}
   HaveNoLonePart (part p ps) = HasNoLonePart p × HaveNoLonePart ps

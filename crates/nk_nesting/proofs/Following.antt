@@ -129,7 +129,7 @@ policy_follows p =
 
 -- ---- texts
 
--- the same of a text's reader
+-- the tokens pass a text's reader, and the count follows
 abbrev pub ReadsAlong : List ℕ → List Terminal → Reading → Type 0
 ReadsAlong [] [] r = Unit {0}
 ReadsAlong [] (t ∷ ts) r = ⊥

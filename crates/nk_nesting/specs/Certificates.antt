@@ -1,4 +1,4 @@
--- The same of texts with a certificate.
+-- How many parentheses and `~` are open after each token of a text with a certificate, and the limit of 256.
 use Rattle.std.specs.Prelude.{◌≡◌, ◌≤◌, ℕ, List, [], ◌∷◌, ◌++◌, map, length, Ok, Err, All, ◌⊎◌}
 use Rattle.nk_lex.specs.declared.token.Token.{Token}
 use Rattle.nk_lex.specs.declared.ident.Number.{Number}
@@ -45,13 +45,13 @@ open_in_certified c = open_in_file c.decls ++ 0 ∷ 0 ∷ 0 ∷ 0 ∷ (open_in_p
 abbrev pub CertifiedCountsGoWithTokens : Type 0
 CertifiedCountsGoWithTokens = (c : WrittenCertified) → GoWith 0 (open_in_certified c) (spell_certified c)
 
--- Each such text is within the limit, or has a first token that opens the 257th.
+-- Each text with a certificate is within the limit, or has a first token that opens the 257th.
 abbrev pub IsCertifiedWithinOrAbove : Type 0
 IsCertifiedWithinOrAbove = (c : WrittenCertified)
     → All (λ k. k ≤ 256) (open_in_certified c) ⊎ ((place : ℕ) × IsFirstAbove (open_in_certified c) place)
 
--- The tokens that such a text begins with, up to the first that opens the 257th, are refused at that token, whatever stands
--- after it.
+-- The tokens that a text with a certificate begins with, up to the first that opens the 257th, are refused at that token,
+-- whatever stands after it.
 abbrev pub RefusesTheCertified257th : Type 0
 RefusesTheCertified257th = (c : WrittenCertified) (before : List Token) (t : Token) (more : List Terminal) (rest : List Token)
     → terminals (before ++ t ∷ []) ++ more ≡ spell_certified c → IsFirstAbove (open_in_certified c) (length before)

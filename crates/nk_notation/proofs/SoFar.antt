@@ -92,7 +92,7 @@ begins_so_far : (made left : List ℕ → Translated) (text written : List ℕ) 
     → BeginsEach made text written
 begins_so_far made left text written all = λ more. ((left more).bytes, ap (λ t. t.bytes) (all more))
 
--- the same after a piece of which nothing was written
+-- after a piece of which nothing was written, all that begins with what was read is written beginning with what was written
 begins_after : (made left : List ℕ → Translated) (text piece written : List ℕ) → ((more : List ℕ) → made (text ++ more) ≡ then_rest written (left more))
     → BeginsEach made (text ++ piece) written
 begins_after made left text piece written all = λ more.
@@ -278,7 +278,7 @@ ends_too_long made left s0 s1 s2 o0 o1 n now before after fs0 fo0 fo1 into so so
       cause.0 ∙ qs,
     )
 
--- the same of a translation that makes the same of each text
+-- a translation ends as another that makes the same of each text
 pub ends_as : (f h : List ℕ → Translated) (source out : Use) (e : Ending) → ((text : List ℕ) → f text ≡ h text) → TranslationEnds f source out e → TranslationEnds h source out e
 ends_as f h source out e same ends = subst (λ (m : List ℕ → Translated). TranslationEnds m source out e) (λ i text. same text i) ends
 

@@ -38,7 +38,7 @@ whole_word b rest more n begins is lt le =
     subst (λ m. lexemes_of (b ∷ rest ++ more) ≡ Word (take m (b ∷ rest)) ∷ lexemes_of (drop m (b ∷ rest) ++ more)) same
     (ap (λ v. lexemes_of (b ∷ v)) whole ∙ front)
 
--- the same of the bytes in one
+-- the lexemes where such a word begins a text, with the bytes in one list
 pub front_word : (bytes more : List ℕ) (n : ℕ) → 1 ≤ length bytes → begins_word (get_or bytes 0 0) ≡ true
     → n ≡ length (take_while is_run_byte (take (length bytes - 1) (drop 1 bytes))) + 1 → n < length bytes → n ≤ longest_word
     → lexemes_of (bytes ++ more) ≡ Word (take n bytes) ∷ lexemes_of (drop n bytes ++ more)

@@ -28,7 +28,7 @@ first_failed sink a b h =
       part = (n, omega (arith, length-append a b), subst (λ l. Appends sink.old sink.new l) (sym front) h.part.2);
     }
 
--- the same bytes
+-- equal bytes are written
 pub written_as : {X E : Type 0} (r : Result X E) (sink : Use) (a b : List ℕ) → a ≡ b → AreBytesWritten a sink r → AreBytesWritten b sink r
 written_as r sink a b e h = subst (λ l. AreBytesWritten l sink r) e h
 

@@ -76,8 +76,8 @@ pub record IsSoundTo (made : List ℕ → Translated) (source out : Use) : Type 
 abbrev pub piece_size : ℕ
 piece_size = 4096
 
--- The same where more bytes came than an input may have: those of the text within the limit, and then those that go past it, at most a
--- piece.
+-- More bytes were read than an input may have: those of the text within the limit, and then those that go past it, at most a piece. The
+-- text can go on without a malformed word.
 pub record IsPastLimit (made : List ℕ → Translated) (source out : Use) : Type 0 where
   pub text : List ℕ
   pub rest : List ℕ

@@ -60,7 +60,7 @@ unfoldable pub direction_of : List (List ℕ) → Option Direction
 direction_of [] = None
 direction_of (first ∷ ws) = direction_by first ws
 
--- the same of what was read of the words
+-- the translation that was read from the words
 unfoldable pub direction_in : Asked → Option Direction
 direction_in asked.In = Some inwards
 direction_in (asked.Out fields) = Some (outwards (map named_form fields.items))

@@ -220,7 +220,7 @@ end_held : (fields : NamedForms) (k : TextKind) (s : Spot) (r : Inward) → IsSp
 end_held fields k s r known stops =
     subst (λ v. Reads false (IsOut k s r.place) v (held s ++ [])) (append-nil (held s)) (reads_held k s r.place [] [] stops known (reads_nothing false (IsOut k spot.Nothing r.place)))
 
--- the same of a text that may begin within a comment
+-- what is read of the lexemes that are left of a text that may begin within a comment
 abbrev pub Backs : Bool → NamedForms → List TextLexeme → List ℕ → Type 0
 Backs false fields ls read = ReadsLeft fields ls read
 Backs true fields ls read = (k : TextKind) (r : Inward) → AllKept r ls → Reads true (IsOut k spot.Nothing r.place) (outward fields k spot.Nothing ls).bytes read

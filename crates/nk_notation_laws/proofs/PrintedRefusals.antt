@@ -34,7 +34,7 @@ listed w h other rest next = left_name w (44 ∷ 32 ∷ rest) h other refl (left
 refused : (label : List ℕ) → IsWord label → (rest : List ℕ) → Left rest → Left (codes "refused " ++ (label ++ 58 ∷ 32 ∷ rest))
 refused label h rest next = left_word (codes "refused") (refl, refl) refl (label ++ 58 ∷ 32 ∷ rest) (left_label label rest h next)
 
--- the same, and two words
+-- `refused`, a label and two words
 refused_line : (label a b : List ℕ) → IsWord label → IsWord a → bytes_eq a (codes "field") ≡ false → IsWord b → bytes_eq b (codes "field") ≡ false → (rest : List ℕ) → Left rest
     → Left (codes "refused " ++ (label ++ 58 ∷ 32 ∷ (a ++ 32 ∷ (b ++ 10 ∷ rest))))
 refused_line label a b hl ha oa hb ob rest next = refused label hl (a ++ 32 ∷ (b ++ 10 ∷ rest)) (left_word a ha oa (b ++ 10 ∷ rest) (ended b hb ob rest next))

@@ -76,7 +76,7 @@ Reads noted C written read = (r : Inward) → C r → inward r (flat_map without
 pub reads_nothing : (noted : Bool) (C : Inward → Type 0) → Reads noted C [] []
 reads_nothing noted C = λ r c. refl
 
--- the same where more is known
+-- `in` reads these bytes from the places of which more is known too
 pub reads_under : (noted : Bool) (C D : Inward → Type 0) (written read : List ℕ) → ((r : Inward) → C r → D r) → Reads noted D written read → Reads noted C written read
 reads_under noted C D written read on rest = λ r c. rest r (on r c)
 

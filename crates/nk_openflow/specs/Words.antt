@@ -30,7 +30,7 @@ abbrev pub head : ℕ → Part → Option Base → Head
 head sw part None = record { switch = sw; part = part; base = Any; count = 2 }
 head sw part (Some b) = record { switch = sw; part = part; base = b; count = 3 }
 
--- the same, where there are a switch and a part
+-- what the first words say, and how many these are, where there are a switch and a part
 abbrev pub head_with : Option ℕ → Option Part → Option Base → Option Head
 head_with None part base = None
 head_with (Some sw) None base = None

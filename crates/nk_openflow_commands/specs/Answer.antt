@@ -41,7 +41,7 @@ abbrev pub unless_at_fault : FieldTable → Option (Place × RuleFault) → List
 unless_at_fault fs None lines = done lines
 unless_at_fault fs (Some f) lines = policy_refused (rule_line fs f.0 f.1)
 
--- the same of a switch
+-- the first fault of a switch's rules, or else the lines of a part of its table
 abbrev pub of_switch : Part → FieldTable → Mapping → List ℕ → List Group → List Row → Outcome
 of_switch part fs mapping ports groups rows =
     unless_at_fault fs (first_rule_fault fs mapping ports groups rows) (lines_of part fs mapping ports groups rows)
@@ -50,7 +50,7 @@ abbrev pub of_mapping : Head → Tables → Mapping → Outcome
 of_mapping head t mapping =
     of_switch head.part t.fields mapping (ports_of t.topo head.switch) (groups_at_switch t.tables head.switch) (rows_of t.tables head.switch)
 
--- the same where words map fields
+-- what is answered where words map fields, or that a word is refused
 abbrev pub of_words : Head → Tables → Result Mapping (ℕ × WordFault) → Outcome
 of_words head t (Ok mapping) = of_mapping head t mapping
 of_words head t (Err f) = word_refused f.0 f.1

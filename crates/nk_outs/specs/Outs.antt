@@ -40,7 +40,7 @@ AreLater st f es = (k : ℕ) → k < length es → f ≤ root_field st (entry es
 abbrev pub GivesOut : StoreState → List Given → ℕ → ℕ → List ℕ → Out → Type 0
 GivesOut st es from to x o = (k : ℕ) × (from ≤ k) × (k < to) × ((entry es k).out ≡ o) × (is_in st (entry es k).packets x ≡ true)
 
--- the same of all places
+-- an entry at some place has the out, and its set has the packet
 abbrev pub GivesAny : StoreState → List Given → List ℕ → Out → Type 0
 GivesAny st es x o = GivesOut st es 0 (length es) x o
 
@@ -85,7 +85,7 @@ AreStretches st f ss = (k : ℕ) → k < length ss → IsStretch st f (piece ss 
 abbrev pub HasAt : StoreState → List Stretch → ℕ → ℕ → ℕ → List ℕ → Out → Type 0
 HasAt st ss from to v x o = (k : ℕ) × (from ≤ k) × (k < to) × ((piece ss k).out ≡ o) × ((piece ss k).from ≤ v) × (v ≤ (piece ss k).end) × (is_in st (piece ss k).packets x ≡ true)
 
--- the same of all places, at the packet's own value of f
+-- a stretch at some place has the out and the packet's own value of f, and its set has the packet
 abbrev pub HasAny : StoreState → ℕ → List Stretch → List ℕ → Out → Type 0
 HasAny st f ss x o = HasAt st ss 0 (length ss) (slice_index x f) x o
 

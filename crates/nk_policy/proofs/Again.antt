@@ -22,7 +22,7 @@ pub record Again (p : Policy) (k : ℕ) : Type 0 where
       → RecordsAt (after p k) pk u x l → way_of (after p l) numbered x v y
       → way_of (after p k) numbered pk (u ++ (x, l) ∷ v) y
 
--- the same of a sequence of parts
+-- what is left of a sequence of parts after dup k records only dups of the parts, splits at them, and joins
 pub record AllAgain (ps : Policies) (k : ℕ) : Type 0 where
   pub holds : (pk : Packet) (u : Marked) (x : Packet) (l : ℕ) → RecordsAt (after_all ps k) pk u x l
       → some_has_dup ps l ≡ true
@@ -33,7 +33,7 @@ pub record AllAgain (ps : Policies) (k : ℕ) : Type 0 where
       → RecordsAt (after_all ps k) pk u x l → way_of (after_all ps l) numbered x v y
       → way_of (after_all ps k) numbered pk (u ++ (x, l) ∷ v) y
 
--- the same of a sum of parts
+-- what is left of a sum of parts after dup k records only dups of the parts, splits at them, and joins
 pub record SomeAgain (ps : Policies) (k : ℕ) : Type 0 where
   pub holds : (pk : Packet) (u : Marked) (x : Packet) (l : ℕ) → RecordsAt (after_some ps k) pk u x l
       → some_has_dup ps l ≡ true
@@ -50,7 +50,7 @@ rest_first : (p : Policy) (ps : Policies) (l : ℕ) (x : Packet) (v : Marked) (y
     → way_of (after_all (part p ps) l) numbered x v y
 rest_first p ps l x v y h r = subst (λ b. Chosen b (seq_of (part (after p l) ps)) (after_all ps l) x v y) (sym h) r
 
--- the same where the parts after hold it
+-- the rest of a sequence at dup l, where the first part doesn't hold l
 rest_later : (p : Policy) (ps : Policies) (l : ℕ) (x : Packet) (v : Marked) (y : Packet)
     → has_dup p l ≡ false → way_of (after_all ps l) numbered x v y
     → way_of (after_all (part p ps) l) numbered x v y

@@ -168,7 +168,7 @@ mutual
             (gives_link a m b n l h.last (same_from _ a s.0) (same_from _ m s.1)),
       )
 
-  -- the same of a sum
+  -- each history of a sum's list is one that the sum gives
   from_list_of_some : (ps : Policies) → AllFlat ps → (h g : History)
       → In (histories_of_some ps h) g → GoesOnBy (some_way_of ps bare) h g
   from_list_of_some no_part flat h g i = absurd i
@@ -222,7 +222,7 @@ mutual
       (both_pass (slice_index h.last 0 == a) (slice_index h.last 1 == m) (same_test _ a s.0) (same_test _ m s.1))
       (history_is g (recorded (at_packet (recorded h) y)) (r.1 ∙ ap (λ t. h.records ++ t) s.2 ∙ sym (append_assoc h.records (h.last ∷ []) (y ∷ []))) s.3)
 
-  -- the same of a sum
+  -- each history that a sum gives is in its list
   to_list_of_some : (ps : Policies) → AllFlat ps → (h g : History)
       → GoesOnBy (some_way_of ps bare) h g → In (histories_of_some ps h) g
   to_list_of_some no_part flat h g r = absurd r.2

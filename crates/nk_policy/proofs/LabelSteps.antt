@@ -107,7 +107,7 @@ module _ (p : Policy) (d : HasDistinct p) where
           let is_y = head_is r.0 (map packet_of v) y w e in
           (r.1, subst (λ q. RecordsAt p pk [] q r.1) is_y c.0, (gives_is_runs (after p r.1) y w z).1 (v, tail_is r.0 (map packet_of v) y w e, subst (λ q. Runs (after p r.1) q v z) is_y c.1))
 
-  -- the same of what is left after a dup
+  -- the first record of a history of what is left after a dup, and what is left then
   pub rest_gives_from : (k : ℕ) (pk y : Packet) (w : List Packet) (z : Packet)
       → Gives (after p k) pk (y ∷ w) z ↔ ((l : ℕ) × RecordsAt (after p k) pk [] y l × Gives (after p l) y w z)
   rest_gives_from k pk y w z = (

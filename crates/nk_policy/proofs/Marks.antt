@@ -54,7 +54,7 @@ module _ {A B : Type 0} (f : A → B) where
   rounds_agree R S a (suc n) = followed_agree R (rounds n R) S (rounds n S) a (rounds_agree R S a n)
 
   module _ (mark : ℕ → Packet → A) where
-    -- the same marks in the other form
+    -- the marks in the other form
     abbrev pub marked_too : ℕ → Packet → B
     marked_too l x = f (mark l x)
 

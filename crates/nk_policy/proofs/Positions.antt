@@ -23,7 +23,7 @@ Passes p =
     → RecordsAt p pk (u ++ (x, k) ∷ v) y l
     → RecordsAt p pk u x k × RecordsAt (after p k) x v y l
 
--- the same of a sequence of parts
+-- what a sequence of parts records past dup k it records at k, and then in what is left there
 abbrev pub AllPass : Policies → Type 0
 AllPass ps =
     (pk : Packet) (u : Marked) (x : Packet) (k : ℕ) (v : Marked) (y : Packet) (l : ℕ)

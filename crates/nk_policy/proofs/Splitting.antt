@@ -34,7 +34,7 @@ after5 k = part (dup (k + 1)) no_part
 abbrev pub HoldsDup : Policy → Type 0
 HoldsDup p = (pk : Packet) (u : Marked) (x : Packet) (l : ℕ) → RecordsAt p pk u x l → has_dup p l ≡ true
 
--- the same of a sequence of parts
+-- a sequence of parts that records at a dup holds the dup
 abbrev pub AllHoldDup : Policies → Type 0
 AllHoldDup ps = (pk : Packet) (u : Marked) (x : Packet) (l : ℕ) → AllRecordAt ps pk u x l → some_has_dup ps l ≡ true
 
@@ -104,7 +104,7 @@ Splits p =
     → way_of p numbered pk (u ++ (x, l) ∷ v) y
     → RecordsAt p pk u x l × way_of (after p l) numbered x v y
 
--- the same of a sequence of parts
+-- what a sequence of parts records splits at each dup
 abbrev pub AllSplit : Policies → Type 0
 AllSplit ps =
     (pk : Packet) (u : Marked) (x : Packet) (l : ℕ) (v : Marked) (y : Packet)
@@ -246,7 +246,7 @@ Joins p =
     (pk : Packet) (u : Marked) (x : Packet) (l : ℕ) (v : Marked) (y : Packet) → RecordsAt p pk u x l
     → way_of (after p l) numbered x v y → way_of p numbered pk (u ++ (x, l) ∷ v) y
 
--- the same of a sequence of parts
+-- what a sequence of parts recorded up to a dup goes on with what is left
 abbrev pub AllJoin : Policies → Type 0
 AllJoin ps =
     (pk : Packet) (u : Marked) (x : Packet) (l : ℕ) (v : Marked) (y : Packet)

@@ -15,7 +15,7 @@ abbrev mutual
   NegatesPredicates (dup l) = Unit {0}
   NegatesPredicates (link a m b n l) = Unit {0}
 
-  -- the same of each part
+  -- each complement in the parts is of a predicate
   pub AllNegatePredicates : Policies → Type 0
   AllNegatePredicates no_part = Unit {0}
   AllNegatePredicates (part p ps) = NegatesPredicates p × AllNegatePredicates ps

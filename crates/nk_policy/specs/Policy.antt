@@ -110,7 +110,7 @@ abbrev mutual
   are_predicates no_part = true
   are_predicates (part p ps) = is_predicate p && are_predicates ps
 
--- the same tree with its dups numbered in text order, from first on
+-- the policy with its dups numbered in text order, from first on
 abbrev mutual
   pub marked_from : Policy → ℕ → Policy
   marked_from (test f n) first = test f n
@@ -133,7 +133,7 @@ abbrev pub link_parts : ℕ → ℕ → ℕ → ℕ → ℕ → Policies
 link_parts a m b n l =
     part (test 0 a) (part (test 1 m) (part (dup l) (part (assign 0 b) (part (assign 1 n) (part (dup (l + 1)) no_part)))))
 
--- the same tree with each link literal as its six parts
+-- the policy with each link literal as its six parts
 abbrev mutual
   pub without_links : Policy → Policy
   without_links (test f n) = test f n

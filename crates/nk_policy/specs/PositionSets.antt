@@ -31,7 +31,7 @@ IsOwn p l = (l ≡ 0) ⊎ (has_dup p l ≡ true)
 abbrev pub IsRecordedNext : Policy → List ℕ → Packet → Packet → ℕ → Type 0
 IsRecordedNext p s x y l' = (l : ℕ) × Contains s l × RecordsAt (at_position p l) x [] y l'
 
--- the same of either of two policies
+-- from packet x, some member of the set records y next, at this position of one of two policies
 abbrev pub IsNextOfEither : Policy → Policy → List ℕ → Packet → Packet → ℕ → Type 0
 IsNextOfEither p q s x y l' = IsRecordedNext p s x y l' ⊎ IsRecordedNext q s x y l'
 

@@ -14,7 +14,7 @@ pub data Asked : Type 0 where
   apart : (name from target : List ℕ) → Asked
   waypoint : (name from middle target : List ℕ) → Asked
 
--- the same about policies
+-- a query by its policies, in the order of the command
 pub data Question : Type 0 where
   apart_of : (p from target : Policy) → Question
   waypoint_of : (p from middle target : Policy) → Question

@@ -17,7 +17,7 @@ use Rattle.nk_determ.specs.Exact.{split_leaf, Sends}
 use Rattle.nk_determ.specs.Targets.{retargeted}
 use Rattle.nk_determ.specs.Pairs.{AreLabelsBelow}
 
--- the same end of the other side
+-- the end of the other side with the same act
 abbrev pub twin : Out → Out
 twin o = record { act = o.act; target = cond (eqb o.target 1) 2 1 }
 

@@ -35,7 +35,7 @@ numbers_ranked (x ∷ xs) (y ∷ ys) e =
     by_first Equal Equal h k = λ i. h i ∷ k i
     by_first Equal Greater h k = inr (sym h, k)
 
--- the same of lists of packets
+-- two lists of as many packets, all of one length: the same, or the first precedes, where the order isn't Greater
 pub packets_ranked : (n : ℕ) (ps qs : List (List ℕ)) → length ps ≡ length qs → All (Long n) ps → All (Long n) qs
     → MatchOrdering (slice_cmp (slice_cmp nat_cmp) ps qs) (AllPrecede ps qs) (ps ≡ qs) (AllPrecede qs ps)
 packets_ranked n [] [] e a b = refl
@@ -61,7 +61,7 @@ history_cmp g h = ordering_then (slice_cmp (slice_cmp nat_cmp) g.records h.recor
 pub history_cmp_total : IsTotalOrder history_cmp
 history_cmp_total = then_total (on_total (λ (h : History). h.records) (lists_total nat_list_cmp_total)) (on_total (λ (h : History). h.last) nat_list_cmp_total)
 
--- the same of histories
+-- two histories of the same sizes: the same, or the first is less, where the order isn't Greater
 pub histories_ranked : (pk : List ℕ) (n m : ℕ) (g h : History) → IsHistorySized n m g → IsHistorySized n m h
     → MatchOrdering (history_cmp g h) (IsLess (found pk g) (found pk h)) (g ≡ h) (IsLess (found pk h) (found pk g))
 histories_ranked pk n m g h a b =

@@ -90,7 +90,7 @@ pub record IsAt (t : Tables) (pk : List ℕ) (k : ℕ) (s : State) : Type 0 wher
 abbrev pub HaveOneLength : List History → Type 0
 HaveOneLength hs = (n m : ℕ) × All (λ (h : History). (length h.records ≡ m) × All (λ p. length p ≡ n) h.records × (length h.last ≡ n)) hs
 
--- the same histories, in order where they are alike
+-- the second list has the histories of the first, in order where they are of the same lengths
 pub record IsSortedFrom (hs sorted : List History) : Type 0 where
   pub all : IsPermutation hs sorted
   pub ordered : HaveOneLength hs → (pk : List ℕ) → AreOrderedFrom pk sorted

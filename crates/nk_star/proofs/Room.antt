@@ -39,7 +39,7 @@ abbrev put_first : ℕ → ℕ → List Out → List Out
 put_first f v [] = []
 put_first f v (o ∷ os) = record { act = (f, v) ∷ o.act; target = o.target } ∷ put_first f v os
 
--- the same, for each value up to v
+-- the outs with one assignment more at the front, for each value up to v
 abbrev put_values : ℕ → ℕ → List Out → List Out
 put_values f zero os = put_first f zero os
 put_values f (suc v) os = put_first f (suc v) os ++ put_values f v os
@@ -70,7 +70,7 @@ has_put f v [] g h = absurd h
 has_put f v (o ∷ os) g (inl e) = inl (ap (λ (x : Out). record { act = (f, v) ∷ x.act; target = x.target }) e)
 has_put f v (o ∷ os) g (inr h) = inr (has_put f v os g h)
 
--- the same, for each value up to the highest
+-- an act with one assignment more at the front, for each value up to the highest
 has_value : (f v w : ℕ) (os : List Out) (g : List (ℕ × ℕ)) → v ≤ w → Has os (record { act = g; target = 0 }) → Has (put_values f w os) (record { act = (f, v) ∷ g; target = 0 })
 has_value f v zero os g l h = let e : v ≡ 0 = omega arith in subst (λ u. Has (put_first f zero os) (record { act = (f, u) ∷ g; target = 0 })) (sym e) (has_put f zero os g h)
 has_value f v (suc w) os g l h = elim (eqb_tells v (suc w)) [

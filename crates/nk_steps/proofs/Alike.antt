@@ -46,7 +46,7 @@ among_has st xs ys pk o among h =
     let c = among d (w.0, l, get_or_same xs w.0 d 0 l) in
     has_some st ys 0 (length ys) pk o c.0 (omega arith) (omega (arith, c.1)) (subst (λ e. Has (look st e pk) o) (sym (get_or_same ys c.0 0 d c.1 ∙ c.2)) w.2)
 
--- the same diagrams together have the same leaves
+-- lists of the same diagrams have the same leaves together
 pub unions_alike : (st : StoreState) (xs ys : List ℕ) (pk : List ℕ) → AreTidy st → ((d : ℕ) → Contains xs d ↔ Contains ys d) → unions st xs 0 (length xs) pk ≡ unions st ys 0 (length ys) pk
 unions_alike st xs ys pk tidy same =
     strict_same (unions st xs 0 (length xs) pk) (unions st ys 0 (length ys) pk) (unions_strict st xs 0 (length xs) pk tidy) (unions_strict st ys 0 (length ys) pk tidy)

@@ -45,7 +45,7 @@ pub record IsSingle (old : StoreState) (d : ℕ) (new : StoreState) (sets : List
   pub single : (pk : List ℕ) → IsSingleIn sets (look old d pk)
   pub later : root_field old d ≤ root_field new r
 
--- the same of the parts by the field f
+-- each leaf of d has one label at most, and the parts by the field f have the steps of d, whatever sets come later
 pub record AreSingleBy (old : StoreState) (f d : ℕ) (new : StoreState) (sets : List (List ℕ)) (ps : List (ℕ × ℕ)) : Type 0 where
   pub parts : AreParts new f ps
   pub leaves : (later : List (List ℕ)) → SetsGrow sets later → (v : ℕ) (pk : List ℕ) → IsWhole pk →

@@ -70,7 +70,7 @@ largest_step all best p ps r e = ap (λ z. largest all z ps) e ∙ by (nat_lt (s
     by true = refl
     by false = refl
 
--- the same by kept sizes
+-- the larger of two children by their kept sizes is the best so far
 pub larger_step :
     (all : List Span) (counts : List (ℕ × ℕ)) (best : ℕ) (p : ℕ × ℕ) (ps : List (ℕ × ℕ)) (r : ℕ)
     → ((q : ℕ) → kept counts q ≡ size_of q all)

@@ -110,7 +110,7 @@ module _ {A B : Type 0} (g : A → Option Reading) (h : B → MaybeStep) (t : To
       by_kind (λ l t. Leads (g (with_table_number t other f)) (h (if is_kind kind.Number l then x else y)))
       (λ w. refused) taken (λ l _ e. subst (λ c. Leads (g other) (h (if c then x else y))) (sym e) refused) t
 
--- the same before a rest, and alone
+-- a mark, a name or a number before a rest, and alone
 module _ {A : Type 0} (g : A → Option Reading) (t : Token) where
   mark_or : (k : Kind) → is_kind k kind.Name ≡ false → is_kind k kind.Number ≡ false → (one other : A) (s : State) (e : Tells) (rest : MaybeStep)
       → Leads (g one) (Some (s, e)) → Leads (g other) rest

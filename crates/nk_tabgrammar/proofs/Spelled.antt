@@ -115,7 +115,7 @@ Fits s x c = Unit {0}
 abbrev pub IsAt : List Terminal → Reading → Type 0
 IsAt ts r = (ts ≡ spelled r.stage r.text r.table) × Fits r.stage r.text r.table
 
--- the same of a state, if there is one
+-- these tokens lead to the state, if there is one
 abbrev pub Leads : Option Reading → List Terminal → Type 0
 Leads None ts = Unit {0}
 Leads (Some r) ts = IsAt ts r

@@ -231,7 +231,7 @@ table_text_ended (stage.Grouped (grouping.BucketRead g)) x c = Some (with_table 
 table_text_ended stage.Rows x c = Some (with_table x c)
 table_text_ended s x c = None
 
--- the same of a state
+-- what is written at a state, if the text may end there
 abbrev pub written_at_end : Reading → Option WrittenTables
 written_at_end r = table_text_ended r.stage r.text r.table
 

@@ -52,14 +52,14 @@ gives_still (Ok v) R S (Sound p) t step h = step v p h
 gives_still (Err (error.TableFault l)) R S (Faulty m) t step h = h
 gives_still r R S k t step h = absurd h
 
--- the same, less closely
+-- a result that gives this gives what follows from it
 pub gives_with : {X : Type 0} (r : Result X ReadError) (R S : X → PartialValue → Type 0) (k : KnownValue)
     → ((v : X) (p : PartialValue) → R v p → S v p) → Gives r R k → Gives r S k
 gives_with (Ok v) R S (Sound p) step h = step v p h
 gives_with (Err (error.TableFault l)) R S (Faulty m) step h = h
 gives_with r R S k step h = absurd h
 
--- the same known, of more
+-- a result that is made of another one's value gives what follows for the value that is made
 pub gives_more : {X Y : Type 0} (r : Result X ReadError) (q : Result Y ReadError) (f : X → Y) (R : X → PartialValue → Type 0) (S : Y → PartialValue → Type 0) (k : KnownValue)
     → q ≡ and_then r (λ v. Ok (f v)) → ((v : X) (p : PartialValue) → R v p → S (f v) p) → Gives r R k → Gives q S k
 gives_more {X = X} {Y = Y} r q f R S k e step h = subst (λ a. Gives a S k) (sym e) (on r k h)

@@ -109,7 +109,7 @@ fine_read version fs line before m h none =
         (first_of (length_fault version digits length) (ones_fault digits (length_in digits length) (number_on line m.1))))
         (unwrap_or o 0, m.1, length_in digits length)
 
--- the same of what is read after it
+-- a fine match is read, and the others are read with it among those before
 step_read : (version : ℕ) (fs : FieldTable) (line : ℕ) (before after : List (ℕ × ℕ × ℕ)) (m : ℕ × ℕ × ℕ) (ms : List (ℕ × ℕ × ℕ)) → IsFine version fs m
     → list_any (λ s. s.0 == m.0) before ≡ false → placed_match m before ≡ after
     → matches_read version fs before (map (written_match fs line) (m ∷ ms)) ≡ matches_read version fs after (map (written_match fs line) ms)

@@ -48,7 +48,7 @@ good_read fs low line before m h none =
     no_more : (a b : ℕ) → a ≤ b → nat_lt b a ≡ false
     no_more a b le = grind (arith, nat_tests)
 
--- the same of what is read after it
+-- a good pair is read, and the others are read with it among those before
 step_read : (fs : FieldTable) (low line : ℕ) (before after : List (ℕ × ℕ)) (m : ℕ × ℕ) (ms : List (ℕ × ℕ)) → IsGood fs low m
     → list_any (λ s. s.0 == m.0) before ≡ false → act_then before (m ∷ []) ≡ after
     → pairs_read fs low before (map (written_pair fs line) (m ∷ ms)) ≡ pairs_read fs low after (map (written_pair fs line) ms)

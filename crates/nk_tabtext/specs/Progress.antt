@@ -138,7 +138,7 @@ first_filling = record {
   exit = exit.Back;
 }
 
--- the same, by the switch
+-- the table that is read among those before, by its switch, where one is read
 abbrev pub finished_at : Option ℕ → List (ℕ × Table) → FillingValue → List (ℕ × Table)
 finished_at None tables f = tables
 finished_at (Some sw) tables f =

@@ -86,7 +86,7 @@ pub record HoldTokens (tokens : List Token) (said : DeclaredProgram) (c : Certif
   pub means : program_of written.declarations ≡ Ok said
   pub makes : certificate_of said.fields written.rows ≡ Ok c
 
--- the same of tokens
+-- what is answered to the tokens of a text with a certificate: its first fault, or what is told of its program and certificate
 abbrev pub ToCertifiedTokens : TellingCertified → List Token → Outcome → Type 0
 ToCertifiedTokens tells tokens (text_refused text) = IsFaultOfCertifiedTokens (certified_of tokens) text
 ToCertifiedTokens tells tokens outcome = (said : DeclaredProgram) × (c : CertificateValue) × HoldTokens tokens said c × tells said c outcome

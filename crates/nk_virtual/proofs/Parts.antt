@@ -22,7 +22,7 @@ replaced_more links xs i q y out out' all lt is e f inv =
     ∙ ap (λ l. joined (trees_of out) (all_physical links (trees_of l))) (sym (left_is xs i q lt is))
     ∙ inv
 
--- the same where dups are left out
+-- the loop's fact, after the dups of one more part are left out
 pub bare_more : (xs : List Pol) (i : ℕ) (q y : Pol) (out out' : List Pol) (all : Policies)
     → i < length xs → q ≡ get_or xs i q → out' ≡ out ++ y ∷ []
     → tree_of y ≡ without_records (tree_of q)

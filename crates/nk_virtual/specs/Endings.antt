@@ -6,7 +6,7 @@ use Rattle.nk_policy.specs.Policy.{Policy, Policies, test, range, assign, sum_of
 abbrev pub move_alone : ℕ → ℕ → ℕ → ℕ → Policy
 move_alone a m b n = seq_of (part (test 0 a) (part (test 1 m) (part (assign 0 b) (part (assign 1 n) no_part))))
 
--- The same tree with its dups left out. A complement is of a predicate, which has none, and stays.
+-- The policy with its dups left out. A complement is of a predicate, which has none, and stays.
 abbrev mutual
   pub without_records : Policy → Policy
   without_records (test f n) = test f n

@@ -18,8 +18,7 @@ abbrev pub link_through : List VirtualLink → ℕ → ℕ → ℕ → ℕ → �
 link_through [] a m b n l = link a m b n l
 link_through (k ∷ links) a m b n l = if has_ends a m b n k.ends then through_fabric k else link_through links a m b n l
 
--- The same tree with each literal of a virtual link replaced by its fabric. A complement is of a predicate, which has no
--- literal, and stays.
+-- The policy with each literal of a virtual link replaced by its fabric. A complement is of a predicate, which has no literal, and stays.
 abbrev mutual
   pub physical : List VirtualLink → Policy → Policy
   physical links (test f n) = test f n

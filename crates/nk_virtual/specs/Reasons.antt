@@ -67,7 +67,8 @@ IsFlawOver links tag p TooLarge =
     (static_fault_of tag (map (λ k. k.ends) links) p ≡ None) × (1048576 < size_of (physical links p))
 IsFlawOver links tag p _ = ⊥
 
--- the same where the tag is known: the first flaw of a virtual link, and where all are usable that of the policy
+-- what is wrong with a policy where the tag is known: the first flaw of a virtual link, and where all virtual links are usable the policy's
+-- own flaw
 abbrev pub IsLaterFlaw : FieldTable → Topology → List VirtualLink → ℕ → Policy → VirtualRefusal → Type 0
 IsLaterFlaw fields topo links tag p r =
     IsFirstFlaw fields topo tag links r ⊎ (All (IsUsable fields topo tag) links × IsFlawOver links tag p r)

@@ -50,7 +50,7 @@ mapped : {X : Type 0} (f : X → Command) (c : Command) (o : Option X) → ((x :
 mapped f c None all h = cc
 mapped f c (Some x) all h = subst IsWithinLimits (same_some (f x) c h) (all x refl)
 
--- the same of one value after another
+-- what holds of the command of each value that there can be holds where there is one
 joined : {X : Type 0} (f : X → Option Command) (c : Command) (o : Option X)
     → ((x : X) → o ≡ Some x → f x ≡ Some c → IsWithinLimits c) → option_and_then f o ≡ Some c → IsWithinLimits c
 joined f c None all h = cc

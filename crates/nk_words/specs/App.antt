@@ -12,7 +12,7 @@ wanted_argument id = record (new_rule id) { required = true }
 abbrev pub leaf_shape : Text → List Text → Shape
 leaf_shape name arguments = record (new_shape name) { rules = map wanted_argument arguments }
 
--- the same as a command of its own
+-- an application with arguments of these names alone, each of which is wanted
 abbrev pub leaf_app : Text → List Text → App
 leaf_app name arguments = record { top = leaf_shape name arguments; subs = [] }
 
