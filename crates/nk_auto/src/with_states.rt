@@ -217,8 +217,10 @@ fn both_all(st: &mut Store, ps: &[Pol], nothing: Id) -> Result<BothWays, AllocEr
     Ok(following)
 }
 
-/// Writes the states of a policy's dups alone, as `continued_with_states` writes them. If the list of states is empty, no diagram is
-/// made. If the first part of a sequence has no dup, no diagram is made of it.
+/// Writes the states of a policy's dups, as `continued_with_states` writes them, and gives no diagram of the policy. Each dup that has a
+/// place gets its state, where each complement of the policy is of a predicate (`states` of `AreWritten`); the states at all other
+/// places stay (`others`), and the list stays as long as it was (`count`). The store only grows. What no clause says: if the list of
+/// states is empty, no diagram is made; if the first part of a sequence has no dup, none is made of it.
 #[cycle(with_states)]
 #[tactic(auto, using(nk_policy::proofs::Trees::tree_of_sum, nk_policy::proofs::Trees::tree_of_seq, crate::proofs::Writing::test_written, crate::proofs::Writing::range_written, crate::proofs::Writing::set_written, crate::proofs::Writing::not_written))]
 fn write_states(
@@ -261,7 +263,7 @@ fn write_states(
     }
 }
 
-/// The states of a sum's dups alone.
+/// Writes the states of a sum's dups, and gives no diagram of the sum.
 #[cycle(with_states)]
 fn write_any(
     st: &mut Store,
@@ -283,7 +285,7 @@ fn write_any(
     Ok(())
 }
 
-/// The states of a sequence's dups alone.
+/// Writes the states of a sequence's dups, and gives no diagram of the sequence.
 #[cycle(with_states)]
 fn write_all(
     st: &mut Store,
@@ -309,7 +311,8 @@ fn write_all(
     Ok(())
 }
 
-/// The states of the first part's dups alone. What is after it isn't put together where it has no dup.
+/// Writes the states of the dups of a sequence's first part; those of the parts after it are written already. Where the first part has
+/// no dup, what is after it isn't put together.
 #[cycle(with_states)]
 fn write_first(
     st: &mut Store,

@@ -1,4 +1,4 @@
--- Transitions by their places, and a diagram for each of them.
+-- Transitions by their two indices, and a diagram for each of them.
 use Rattle.std.proofs.Common.{◌≡◌, ℕ, zero, suc, ◌<◌, ◌≤◌, ◌+◌, ◌-◌, ◌⊎◌, ◌↔◌, true, false, inl, inr, refl, sym, ◌∙◌, ap, subst, arith, List, [], ◌∷◌, ◌++◌, length, length-append, get_or, Contains}
 use Rattle.std.proofs.lemmas.Bool.Decides.{eqb_tells}
 use Rattle.std.proofs.lemmas.List.{get_or_append_left, get_or-append_right}
@@ -38,7 +38,7 @@ with_one xs a b = (
   ],
 )
 
--- one place more
+-- the two indices of one more out
 pub places_push : (old all more : List (ℕ × ℕ)) (k j : ℕ) → ((p : ℕ × ℕ) → Contains all p ↔ (Contains old p ⊎ ((p.0 ≡ k) × (p.1 < j)))) → more ≡ all ++ (k, j) ∷ [] →
     (p : ℕ × ℕ) → Contains more p ↔ (Contains old p ⊎ ((p.0 ≡ k) × (p.1 < j + 1)))
 places_push old all more k j was is p = (
@@ -58,11 +58,11 @@ places_push old all more k j was is p = (
     pair_is : (p : ℕ × ℕ) (k j : ℕ) → p.0 ≡ k → p.1 ≡ j → p ≡ (k, j)
     pair_is p k j a b = ap (λ (n : ℕ). (n, p.1)) a ∙ ap (λ (n : ℕ). (k, n)) b
 
--- no place yet
+-- those of no out yet
 pub places_none : (old : List (ℕ × ℕ)) (k : ℕ) (p : ℕ × ℕ) → Contains old p ↔ (Contains old p ⊎ ((p.0 ≡ k) × (p.1 < 0)))
 places_none old k p = (λ c. inl c, λ s. elim s [ inl o ↦ o | inr h ↦ absurd (let l = h.1 in omega (arith, l)) ])
 
--- the places of one more set's transitions
+-- the two indices of one more set's transitions
 pub places_next : (ts : List Transitions) (k : ℕ) (old more : List (ℕ × ℕ)) (t : Transitions) → t ≡ transitions_at ts k → ArePlacesBelow ts k old →
     ((p : ℕ × ℕ) → Contains more p ↔ (Contains old p ⊎ ((p.0 ≡ k) × (p.1 < length t.outs)))) → ArePlacesBelow ts (k + 1) more
 places_next ts k old more t is was step p = (
@@ -76,30 +76,30 @@ places_next ts k old more t is was step p = (
   ]),
 )
 
--- no places
+-- the two indices of no transition
 pub places_start : (ts : List Transitions) → ArePlacesBelow ts 0 []
 places_start ts p = (λ c. absurd (let l = c.1 in omega (arith, l)), λ h. absurd (let l = h.0 in omega (arith, l)))
 
--- the place of a number is one
+-- the two indices that a number has are a transition's
 pub place_is : (ts : List Transitions) (places : List (ℕ × ℕ)) (n : ℕ) → ArePlacesBelow ts (length ts) places → n < length places → ((place_at places n).0 < length ts) × ((place_at places n).1 < length (transitions_at ts (place_at places n).0).outs)
 place_is ts places n are l = (are (place_at places n)).0 (n, l, get_or_same places n (place_at places n) (0, 0) l)
 
--- the place at a number is one
+-- two indices that stand at a number are a transition's
 pub place_here : (ts : List Transitions) (places : List (ℕ × ℕ)) (n : ℕ) (p : ℕ × ℕ) → ArePlacesBelow ts (length ts) places → n < length places → p ≡ get_or places n p → (p.0 < length ts) × (p.1 < length (transitions_at ts p.0).outs)
 place_here ts places n p are l is = (are p).0 (n, l, sym is)
 
--- the out of a transition by its place
+-- the out of a transition by its two indices
 pub out_here : (ts : List Transitions) (p : ℕ × ℕ) (t : Transitions) (q : Given) → p.0 < length ts → p.1 < length (transitions_at ts p.0).outs → t ≡ get_or ts p.0 t → q ≡ get_or t.outs p.1 q → q ≡ out_at ts p
 out_here ts p t q l m is_t is_q =
     let t_is : t ≡ transitions_at ts p.0 = at_place ts p.0 t l is_t in
     let k : p.1 < length t.outs = subst (λ (u : Transitions). p.1 < length u.outs) (sym t_is) m in
     entry_at t.outs p.1 q k is_q ∙ ap (λ (u : Transitions). entry u.outs p.1) t_is
 
--- a place has a number
+-- the two indices of a transition have a number
 pub number_of : (ts : List Transitions) (places : List (ℕ × ℕ)) (p : ℕ × ℕ) → ArePlacesBelow ts (length ts) places → p.0 < length ts → p.1 < length (transitions_at ts p.0).outs → (n : ℕ) × (n < length places) × (place_at places n ≡ p)
 number_of ts places p are l m = let c = (are p).1 (l, m) in (c.0, c.1, get_or_same places c.0 (0, 0) p c.1 ∙ c.2)
 
--- a diagram at a place before one that was put after
+-- a diagram at an index before one that was put after
 pub diagram_old : (ds : List (ℕ × ℕ)) (d : ℕ × ℕ) (k : ℕ) → k < length ds → diagram_at (ds ++ d ∷ []) k ≡ diagram_at ds k
 diagram_old ds d k l = get_or_append_left ds (d ∷ []) (0, 0) k l
 

@@ -29,7 +29,7 @@ use Rattle.nk_backward.proofs.Gaining.{sets_on, found_then, found_before}
 pub taken_none : (st : StoreState) (ts : List Transitions) (places : List (ℕ × ℕ)) (q : Given) (i : ℕ) (z : List ℕ) → ((n : ℕ) → n < length places → q.out.target ≡ n + 1 → ⊥) → IsTakenOut st ts places q i z → ⊥
 taken_none st ts places q i z none k = none k.0 k.1 k.2
 
--- the place of the transition that an out stands for
+-- the two indices that an out stands for are a transition's
 pub place_within : (ts : List Transitions) (places : List (ℕ × ℕ)) (q : Given) (p : ℕ × ℕ) → ArePlacesBelow ts (length ts) places → (n : ℕ) × (n < length places) × (q.out.target ≡ n + 1) × (p ≡ place_at places n) → (p.0 < length ts) × (p.1 < length (transitions_at ts p.0).outs)
 place_within ts places q p are k = subst (λ (r : ℕ × ℕ). (r.0 < length ts) × (r.1 < length (transitions_at ts r.0).outs)) (sym k.3) (place_is ts places k.0 are k.1)
 

@@ -11,15 +11,15 @@ use Rattle.nk_outs.specs.Outs.{entry, AreGiven, GivesAny, sent_to}
 use Rattle.nk_backward.specs.declared.transitions.Transitions.{Transitions}
 use Rattle.nk_backward.specs.Transitions.{transitions_at}
 
--- the out of a transition by its place: the place of its set's transitions among all, and its own among their outs
+-- the out of a transition by its two indices: that of its set's transitions among all, and that of its out among their outs
 abbrev pub out_at : List Transitions → ℕ × ℕ → Given
 out_at ts p = entry (transitions_at ts p.0).outs p.1
 
--- the list has the places of the transitions before k, and no others
+-- the list has the two indices of each transition whose first index is below k, and no others
 abbrev pub ArePlacesBelow : List Transitions → ℕ → List (ℕ × ℕ) → Type 0
 ArePlacesBelow ts k places = (p : ℕ × ℕ) → Contains places p ↔ ((p.0 < k) × (p.1 < length (transitions_at ts p.0).outs))
 
--- the place of the transition of a number
+-- the two indices of the transition of a number
 abbrev pub place_at : List (ℕ × ℕ) → ℕ → ℕ × ℕ
 place_at places n = slice_index_or places n (0, 0)
 
@@ -39,7 +39,7 @@ LeavesFrom st ts places n z = is_in st (out_at ts (place_at places n)).packets z
 abbrev pub packet_made : List Transitions → List (ℕ × ℕ) → ℕ → List ℕ → List ℕ
 packet_made ts places n z = applied (out_at ts (place_at places n)).out.act z
 
--- a set with a diagram, at a place
+-- a set with a diagram, at an index
 abbrev pub diagram_at : List (ℕ × ℕ) → ℕ → ℕ × ℕ
 diagram_at ds k = slice_index_or ds k (0, 0)
 
@@ -72,7 +72,7 @@ pub record AreMarked (st : StoreState) (ts : List Transitions) (places : List (�
   pub goes : (t : ℕ) (y : List ℕ) (o : Out) → IsStorePacket st y → ShowsBelow new ds (length ds) t y o → (n : ℕ) × (o ≡ transition_out n) × IsInto ts places n t
   pub comes : (n t : ℕ) (z : List ℕ) → n < k → IsStorePacket st z → IsInto ts places n t → LeavesFrom st ts places n z → ShowsBelow new ds (length ds) t (packet_made ts places n z) (transition_out n)
 
--- the diagrams at these places are of one set, and these are they
+-- the diagrams at these indices are of one set, and these are they
 pub record IsRunOfSet (ds : List (ℕ × ℕ)) (from to : ℕ) (all : List ℕ) : Type 0 where
   pub later : from < to
   pub within : to ≤ length ds

@@ -14,7 +14,7 @@ abbrev pub explored_entries : List (List (ℕ × ℕ)) → List (ℕ × ℕ)
 explored_entries [] = []
 explored_entries (l ∷ ls) = l ++ explored_entries ls
 
--- the transitions at a place, or none
+-- the transitions at a place of the list, or none
 abbrev pub transitions_at : List Transitions → ℕ → Transitions
 transitions_at ts k = slice_index_or ts k (record { source = 0; outs = [] })
 

@@ -273,7 +273,7 @@ fn take_out(
     Ok(())
 }
 
-/// The packets that a transition leads to some of these.
+/// The packets of an out that the out's act makes packets of this set.
 pub(crate) fn led_to(st: &mut Store, o: &Given, x: Id) -> Result<Id, AllocError>
     requires from { IsSet st.old o.now.packets }
     requires to { IsSet st.old x }

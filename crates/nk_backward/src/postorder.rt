@@ -1,4 +1,5 @@
-//! The places of transitions in the post-order of a depth-first search.
+//! The post-order of a depth-first search over the transitions. A place is an index into the list of transitions; it has the transitions
+//! of one set at some packets.
 ghost use Rattle.std.specs.Prelude.{◌≡◌, ◌<◌, IfOk, IfSome, length, IsPermutation};
 ghost use Rattle.nk_backward.specs.Places.{AreAllPlaces};
 
@@ -115,7 +116,7 @@ fn search_from(
     Ok(())
 }
 
-/// Gives a place a rank, if it is one.
+/// Gives a place this rank, if the place is one of those that have ranks.
 fn set_rank(ranks: &mut List<Rank>, k: usize, rank: Rank)
     ensures { length ranks.new ≡ length ranks.old }
 {

@@ -19,7 +19,7 @@ use std::collections::HashMap;
 
 /// The transitions of a graph by where they lead.
 pub(crate) struct Predecessors {
-    /// The place of each transition, by its number: the place of its set's transitions among all, then that of its out.
+    /// By number two indices for each transition: that of its set's transitions among all, then that of its out among their outs.
     pub(crate) places: List<(usize, usize)>,
     /// By set a diagram of the transitions into it: at each packet that they make, an out with target 1 + a transition's number.
     pub(crate) into: HashMap<SetId, Id>,
@@ -47,7 +47,7 @@ pub(crate) fn predecessors_of(
     Ok(Predecessors { places, into })
 }
 
-/// The places of all transitions.
+/// The two indices of each transition.
 fn all_places(alloc: Global, ts: &List<Transitions>) -> Result<List<(usize, usize)>, AllocError>
     ensures { IfOk result (λ ps. ArePlacesBelow ts.now (length ts.now) ps) }
 {
@@ -58,7 +58,7 @@ fn all_places(alloc: Global, ts: &List<Transitions>) -> Result<List<(usize, usiz
     Ok(all)
 }
 
-/// Puts the places of the first transitions of one set after others.
+/// Puts two indices for each of so many outs after others: k, and the index of the out.
 fn push_places(all: &mut List<(usize, usize)>, k: usize, count: usize) -> Result<(), AllocError>
     ensures { OnOk result ((p : ℕ × ℕ)
         → Contains all.new p ↔ (Contains all.old p ⊎ ((p.0 ≡ k) × (p.1 < count)))) }
@@ -156,7 +156,7 @@ fn joined_all(st: &mut Store, ds: &[(SetId, Id)]) -> Result<HashMap<SetId, Id>, 
     Ok(into)
 }
 
-/// The set at a place.
+/// The set of the diagram at an index.
 pub(crate) fn set_at(ds: &[(SetId, Id)], k: usize) -> SetId
     requires { k < length ds.now }
     ensures { result ≡ (diagram_at ds.now k).0 }
@@ -164,7 +164,7 @@ pub(crate) fn set_at(ds: &[(SetId, Id)], k: usize) -> SetId
     ds[k].0
 }
 
-/// The diagrams of one set that stand next to each other from a place on, and the place after them.
+/// The diagrams of one set that stand next to each other from an index on, and the index after them.
 pub(crate) fn run_of_set(
     alloc: Global,
     ds: &[(SetId, Id)],
@@ -246,7 +246,7 @@ pub(crate) fn outs_into(
     }
 }
 
-/// The place of the transition that a target stands for, if it stands for one.
+/// The two indices of the transition that a target stands for, if it stands for one: target n + 1 stands for the transition of number n.
 pub(crate) fn place_of(places: &List<(usize, usize)>, target: u64) -> Option<(usize, usize)>
     ensures some { IfSome result
         (λ p. (n : ℕ) × (n < length places.now) × (target ≡ n + 1) × (p ≡ place_at places.now n)) }

@@ -105,7 +105,7 @@ fn has_none(ps: &List<(SetId, Id)>) -> bool
     ps.len() == 0
 }
 
-/// The packets that transitions of one place lead into the entries, each out's for itself.
+/// The packets from where the transitions of one place lead into the entries, those of each out by themselves.
 fn led_from(
     st: &mut Store,
     t: &Transitions,

@@ -8,7 +8,7 @@ use nk_store::Out;
 use nk_table::{Bucket, Exit};
 use std::alloc::{AllocError, Global};
 
-/// The buckets of a leaf's outs, in their order. The only error is that memory ran out.
+/// The buckets of a leaf's outs: one for each out, in the order of the outs. The only error is that memory ran out.
 pub fn buckets(alloc: Global, tag: Fid, outs: &[Out]) -> Result<List<Bucket>, AllocError>
     ensures { IfOk result (λ bs. bs ≡ bucket_list tag outs.now) }
 {
@@ -20,8 +20,9 @@ pub fn buckets(alloc: Global, tag: Fid, outs: &[Out]) -> Result<List<Bucket>, Al
     Ok(all)
 }
 
-/// The bucket of an out: its assignments without the port's, then its target as the tag, and then its port, or back where the
-/// act sets none. The only error is that memory ran out.
+/// The bucket of an out. It assigns what the out's act assigns to fields other than the port, and assigns the out's target to the
+/// tag. Its exit is the port that the act assigns, where a number above 65,535 counts as 65,535; where the act assigns no port, the
+/// exit is the port at which the packet came in. The only error is that memory ran out.
 pub fn bucket(alloc: Global, tag: Fid, out: &Out) -> Result<Bucket, AllocError>
     ensures { IfOk result (λ b. b ≡ bucket_for tag out.now) }
 {
@@ -47,7 +48,8 @@ fn sets_port_alone(sets: &[(Fid, u64)]) -> bool
     true
 }
 
-/// The port that the assignments set, or back. Ports are at most 65,535.
+/// The exit of an act with these assignments: the port that they set, where a number above 65,535 counts as 65,535, or back where
+/// they set none.
 fn exit(sets: &[(Fid, u64)]) -> Exit
     ensures { result ≡ exit_of sets.now }
 {

@@ -17,7 +17,8 @@ pub(crate) struct Frame {
     pub bits: [u32; 18],
 }
 
-/// Puts the row of a leaf after the matches of a way; none for a drop, but where `shown` holds.
+/// Puts the row of a leaf that has these outs, at the end of a way with these matches. A leaf without outs drops: it has a row only
+/// where `shown` holds. Nothing is said of the sink where memory ran out.
 pub(crate) fn leaf_row<S: RowSink>(
     frame: &Frame,
     outs: &[Out],

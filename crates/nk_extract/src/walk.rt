@@ -1,4 +1,6 @@
-//! The walk through a diagram, down each way, that puts the rows in order.
+//! The walk through a diagram, down each way, that puts the rows in order. A function of the walk puts exactly the rows that its clause
+//! `rows` names, in this order, and leaves the path's matches as they were (`matches`). Neither clause says anything where memory ran
+//! out.
 ghost use Rattle.std.specs.Prelude.{◌≡◌, ◌≤◌, [], ◌∷◌, ◌++◌, not, ◌||◌, OnOk};
 ghost use Rattle.std.specs.List.{flat_map};
 ghost use Rattle.nk_store.specs.StoreState.{IsId, node_of, IsCase};
@@ -20,7 +22,7 @@ struct Choice {
     /// The field's largest value.
     max: u64,
     other: Id,
-    /// Whether a drop is printed after a block.
+    /// Whether each drop below a block has a row.
     shown: bool,
 }
 
@@ -32,8 +34,8 @@ struct Span {
     child: Id,
 }
 
-/// Puts the rows of a diagram to the sink. Each row has the matches of the path to the diagram in front of its own. The matches
-/// are as before afterwards. If `shown` holds, each drop is printed.
+/// Puts the rows of the diagram's ways, in the order of the ways: a row matches what the path to the diagram matches, and then what
+/// its way matches. A way that ends at a drop has a row where the way is to be shown; if `shown` holds, each way has one.
 #[cycle(walk)]
 pub(crate) fn walk<S: RowSink>(
     st: &Store,
@@ -56,7 +58,8 @@ pub(crate) fn walk<S: RowSink>(
     }
 }
 
-/// Puts the rows of a choice, after the matches of a path: the rows of the blocks in ascending order, and the else-child's last.
+/// Puts the rows of a choice after the matches of a path: for each part in ascending order the rows of its blocks, and last those of
+/// the else-child, which match nothing at this field.
 #[cycle(walk)]
 fn walk_case<S: RowSink>(
     st: &Store,
@@ -99,7 +102,8 @@ fn walk_case<S: RowSink>(
     walk(st, frame, other, matches, shown, sink)
 }
 
-/// Puts the rows of a span's child, for each block of the span, after the matches of a path; none if it is the else-child.
+/// Puts the rows of a span's child once for each block of the span, in the order of the blocks, after the matches of a path and the
+/// block's match. Puts no row if the child is the else-child.
 #[cycle(walk)]
 fn walk_span<S: RowSink>(
     st: &Store,
@@ -132,7 +136,7 @@ fn walk_span<S: RowSink>(
     walk_blocks(st, frame, &choice, child, all.as_slice(), matches, sink)
 }
 
-/// Puts the rows of a child for each of these blocks, after the matches of a path.
+/// Puts the rows of a child once for each of these blocks, in their order, after the matches of a path and the block's match.
 #[cycle(walk)]
 fn walk_blocks<S: RowSink>(
     st: &Store,
@@ -157,7 +161,7 @@ fn walk_blocks<S: RowSink>(
     Ok(())
 }
 
-/// Puts the rows of a child for one block of values, after the matches of a path.
+/// Puts the rows of a child once, after the matches of a path and the match of this block.
 #[cycle(walk)]
 fn walk_block<S: RowSink>(
     st: &Store,
@@ -182,7 +186,7 @@ fn walk_block<S: RowSink>(
     Ok(())
 }
 
-/// Whether a drop is printed after a block, by the else-child's being the empty leaf.
+/// Whether each drop below a block has a row: where the else-child isn't the empty leaf, or where each drop has one already.
 fn printed(else_drops: bool, shown: bool) -> bool
     ensures { result ≡ (not else_drops || shown) }
 {
