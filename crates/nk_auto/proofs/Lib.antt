@@ -15,4 +15,4 @@ pub mod Parts
 pub mod OfParts
 pub mod Tested
 pub mod ByValue
-pub mod Assignments
+pub mod DrawnAssignments

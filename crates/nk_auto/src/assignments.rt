@@ -39,29 +39,30 @@ fn assigned(p: &Pol) -> Option<(Fid, u64)>
 /// The diagram of an assignment, which is drawn where it isn't remembered.
 pub(crate) fn drawn_once(
     st: &mut Store,
-    set: (Fid, u64),
+    f: Fid,
+    n: u64,
     drawn: &mut List<((Fid, u64), Id)>,
 ) -> Result<Id, AllocError>
     requires { AreAssignments st.old drawn.old }
     ensures grows { Grows st.old st.new }
-    ensures ok { IfOk result (λ d. IsSilent st.new d (assign set.0 set.1)) }
+    ensures ok { IfOk result (λ d. IsSilent st.new d (assign f n)) }
     ensures drawn { OnOk result (AreAssignments st.new drawn.new) }
 {
-    if let Some(d) = remembered(drawn.as_slice(), set) {
+    if let Some(d) = remembered(drawn.as_slice(), f, n) {
         return Ok(d);
     }
-    let d = silent_set(st, set.0, set.1)?;
-    remember(drawn, set, d)?;
+    let d = silent_set(st, f, n)?;
+    remember(drawn, f, n, d)?;
     Ok(d)
 }
 
 /// The diagram of an assignment, if it is remembered.
-fn remembered(drawn: &[((Fid, u64), Id)], set: (Fid, u64)) -> Option<Id>
+fn remembered(drawn: &[((Fid, u64), Id)], f: Fid, n: u64) -> Option<Id>
     ensures { IfSome result (λ d. (st : StoreState) → AreAssignments st drawn.now
-        → IsSilent st d (assign set.0 set.1)) }
+        → IsSilent st d (assign f n)) }
 {
     for entry in drawn {
-        if is_for(entry, set) {
+        if is_for(entry, f, n) {
             return Some(entry.1);
         }
     }
@@ -69,21 +70,21 @@ fn remembered(drawn: &[((Fid, u64), Id)], set: (Fid, u64)) -> Option<Id>
 }
 
 /// Whether the diagram that is remembered is that of an assignment.
-fn is_for(entry: &((Fid, u64), Id), set: (Fid, u64)) -> bool
-    ensures field { result ≡ true → entry.now.0.0 ≡ set.0 }
-    ensures value { result ≡ true → entry.now.0.1 ≡ set.1 }
+fn is_for(entry: &((Fid, u64), Id), f: Fid, n: u64) -> bool
+    ensures field { result ≡ true → entry.now.0.0 ≡ f }
+    ensures value { result ≡ true → entry.now.0.1 ≡ n }
 {
-    entry.0.1 == set.1 && entry.0.0 == set.0
+    entry.0.1 == n && entry.0.0 == f
 }
 
 /// Remembers the diagram of an assignment, while there is room.
-fn remember(drawn: &mut List<((Fid, u64), Id)>, set: (Fid, u64), d: Id) -> Result<(), AllocError>
+fn remember(drawn: &mut List<((Fid, u64), Id)>, f: Fid, n: u64, d: Id) -> Result<(), AllocError>
     ensures { OnOk result ((st : StoreState) → AreAssignments st drawn.old
-        → IsSilent st d (assign set.0 set.1)
+        → IsSilent st d (assign f n)
         → AreAssignments st drawn.new) }
 {
     if drawn.len() >= MOST {
         return Ok(());
     }
-    drawn.push((set, d))
+    drawn.push(((f, n), d))
 }

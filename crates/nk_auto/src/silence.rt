@@ -237,7 +237,7 @@ fn what_follows(
     ensures drawn { OnOk result (AreAssignments st.new drawn.new) }
 {
     if let Some(set) = assignment_after(ps) {
-        return drawn_once(st, set, drawn);
+        return drawn_once(st, set.0, set.1, drawn);
     }
     silent_from(st, ps, 1)
 }

@@ -54,7 +54,7 @@ pub struct TableList {
 impl TableList {
     /// No table yet.
     pub fn new(alloc: Global) -> TableList
-        ensures { (result.tables ≡ []) × (result.rows ≡ []) }
+        ensures { (result.tables ≡ []) × (result.rows.items ≡ []) }
     {
         TableList {
             tables: List::new(alloc),

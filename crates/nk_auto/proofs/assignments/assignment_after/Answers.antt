@@ -1,7 +1,7 @@
 use Rattle.std.proofs.Common.{◌≡◌, length, ap, arith, ◌∙◌}
 use Rattle.std.proofs.lemmas.Option.{IfSome_then}
 use Rattle.nk_policy.specs.Policy.{part, no_part}
-use Rattle.nk_auto.proofs.Assignments.{one_after}
+use Rattle.nk_auto.proofs.DrawnAssignments.{one_after}
 use Rattle.nk_auto.proofs.assignments.assignment_after.Goals as goal
 
 pub returns : goal.returns

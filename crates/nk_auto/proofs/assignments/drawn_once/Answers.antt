@@ -4,13 +4,12 @@ use Rattle.nk_policy.specs.Policy.{assign}
 use Rattle.nk_store.specs.StoreState.{StoreState}
 use Rattle.nk_auto.specs.Continued.{IsSilent}
 use Rattle.nk_auto.specs.ByValue.{AreAssignments}
-use Rattle.nk_auto.proofs.Assignments.{assignments_grow}
+use Rattle.nk_auto.proofs.DrawnAssignments.{assignments_grow}
 use Rattle.nk_auto.proofs.assignments.drawn_once.Goals as goal
 
 pub returns-in-Some-clause-ok : goal.returns-in-Some-clause-ok
 returns-in-Some-clause-ok c =
-    let set = c.args.set in
-    let known = subst (λ (o : Option ℕ). IfSome o (λ d. (st : StoreState) → AreAssignments st c.as_slice.result.now → IsSilent st d (assign set.0 set.1))) c.in-Some.is c.remembered.ensures in
+    let known = subst (λ (o : Option ℕ). IfSome o (λ d. (st : StoreState) → AreAssignments st c.as_slice.result.now → IsSilent st d (assign c.args.f c.args.n))) c.in-Some.is c.remembered.ensures in
     known c.args.st.now (subst (AreAssignments c.args.st.now) (sym c.as_slice.ensures) c.requires)
 
 pub returns-clause-drawn : goal.returns-clause-drawn

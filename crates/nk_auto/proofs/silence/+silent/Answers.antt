@@ -11,7 +11,7 @@ use Rattle.nk_store.proofs.Stores.{grows_on}
 use Rattle.nk_apply.proofs.MadeOf.{on_any}
 use Rattle.nk_auto.specs.Continued.{IsSilent}
 use Rattle.nk_auto.specs.ByValue.{IsArm, AreArms}
-use Rattle.nk_auto.proofs.Assignments.{assignments_grow, alone_silent}
+use Rattle.nk_auto.proofs.DrawnAssignments.{assignments_grow, alone_silent}
 use Rattle.nk_auto.proofs.ByValue.{Arm, arm_behind, arms_grow, arms_more, arms_moved}
 use Rattle.nk_auto.proofs.Grown.{leaves_grow}
 use Rattle.nk_auto.proofs.Parts.{trees_before}
