@@ -10,8 +10,10 @@ use Rattle.nk_policy.specs.Labels.{IsTagSet, AtLeast}
 use Rattle.nk_names.specs.Accepted.{IsStartPacket, IsCompilable, is_link_outside, most_tags}
 use Rattle.nk_store.specs.StoreState.{StoreState}
 use Rattle.nk_tag.specs.Numbers.{IsAtOdd}
-use Rattle.nk_static.specs.declared.faults.StaticFault.TheVariants as static_kind
-use Rattle.nk_compile.specs.Refusals.{refusal_of, static_refusal_with, static_refusal_for, static_refusal, found_from}
+use Rattle.nk_static.specs.declared.faults.StaticFault.{StaticFault}
+use Rattle.nk_static.specs.declared.faults.StaticFault.TheVariants.{TagUsed, LooseDup, SwitchSet, NoSuchLink}
+use Rattle.nk_static.specs.StaticFaults.{static_fault_of}
+use Rattle.nk_compile.specs.Refusals.{static_refusal_with, static_refusal_for, static_refusal, found_from}
 use Rattle.nk_compile.specs.Answers.{IsError}
 use Rattle.nk_compile.specs.Levelled.{IsLeastOff, IsOffFault, IsTagFault}
 use Rattle.nk_compile.specs.OffEdge.{EndsOffEdge, EndsOnEdges}
@@ -19,7 +21,7 @@ use Rattle.nk_compile.specs.PairAnswers.{IsUnopposed}
 use Rattle.nk_compile.specs.Preparing.{IsEarlyError}
 use Rattle.nk_compile.specs.Ready.{IsClear}
 use Rattle.nk_compile.specs.declared.refusal.Refusal.{Refusal}
-use Rattle.nk_compile.specs.declared.refusal.Refusal.TheVariants.{NoPolicy, NoTag, TagUsed, LooseDup, SwitchSet, NoSuchLink, OffEdge, TooManyTags}
+use Rattle.nk_compile.specs.declared.refusal.Refusal.TheVariants.{NoPolicy, NoTag, Static, OffEdge, TooManyTags}
 use Rattle.nk_compile.specs.declared.refusal.CompileError.{CompileError}
 use Rattle.nk_compile.specs.declared.refusal.CompileError.TheVariants.{NoMemory, Refused}
 
@@ -32,46 +34,21 @@ refused_with (Err d) e Q h q = subst Q (sym h) q
 -- the first reason of four tests
 abbrev first_reason : Bool → Bool → Bool → Bool → Option Refusal
 first_reason a b c d =
-    option_map refusal_of (if a then Some static_kind.TagUsed else if b then Some static_kind.LooseDup else if c then Some static_kind.SwitchSet else if d then Some static_kind.NoSuchLink else None)
-
--- equal options have equal values
-value_is : (a b : Refusal) → Some a ≡ Some b → a ≡ b
-value_is a b h = cc
-
--- no value is none
-none_some : (r : Refusal) → ◌≡◌ {A = Option Refusal} None (Some r) → ⊥
-none_some r h = cc
-
--- what follows of a reason that is seen, by the four of them
-by_reason : (P : Refusal → Type 0) → P TagUsed → P LooseDup → P SwitchSet → P NoSuchLink → (a b c d : Bool) (r : Refusal) → first_reason a b c d ≡ Some r → P r
-by_reason P t l s n true b c d r h = subst P (value_is TagUsed r h) t
-by_reason P t l s n false true c d r h = subst P (value_is LooseDup r h) l
-by_reason P t l s n false false true d r h = subst P (value_is SwitchSet r h) s
-by_reason P t l s n false false false true r h = subst P (value_is NoSuchLink r h) n
-by_reason P t l s n false false false false r h = absurd (none_some r h)
+    option_map Static (if a then Some TagUsed else if b then Some LooseDup else if c then Some SwitchSet else if d then Some NoSuchLink else None)
 
 -- where there is none, no test passes
 all_fail : (a b c d : Bool) → first_reason a b c d ≡ None → (a ≡ false) × (b ≡ false) × (c ≡ false) × (d ≡ false)
 all_fail false false false false h = (refl, refl, refl, refl)
 all_fail a b c d h = cc
 
--- whether a reason is seen of the tree
-abbrev IsStaticRefusal : Refusal → Type 0
-IsStaticRefusal NoPolicy = ⊥
-IsStaticRefusal NoTag = ⊥
-IsStaticRefusal (OffEdge start history) = ⊥
-IsStaticRefusal (TooManyTags found) = ⊥
-IsStaticRefusal r = Unit {0}
-
--- a reason that is seen is one of the four
-pub static_refusal_is : (tag : ℕ) (topo : Topology) (p : Policy) (r : Refusal) → static_refusal_with tag topo p ≡ Some r → IsStaticRefusal r
-static_refusal_is tag topo p r h =
-    by_reason IsStaticRefusal tt tt tt tt (has_leaf (is_on_field tag) p) (has_leaf is_dup p) (has_leaf is_switch_assignment p) (has_leaf (is_link_outside topo.links) p) r h
-
 -- what is seen of a policy isn't that its name has none
+seen_named : (seen : Option StaticFault) → option_map Static seen ≡ Some NoPolicy → ⊥
+seen_named None h = cc
+seen_named (Some s) h = cc
+
 pub static_refusal_named : (tag : Option ℕ) (topo : Topology) (p : Policy) → static_refusal_for tag topo p ≡ Some NoPolicy → ⊥
 static_refusal_named None topo p h = cc
-static_refusal_named (Some tag) topo p h = static_refusal_is tag topo p NoPolicy h
+static_refusal_named (Some tag) topo p h = seen_named (static_fault_of tag topo.links p) h
 
 -- a policy of which nothing is seen
 pub is_clear : (fields : FieldTable) (topo : Topology) (tag : ℕ) (p : Policy) → IsFieldTable fields → fields.tag ≡ Some tag → IsTopology topo → marked_from p 1 ≡ p →

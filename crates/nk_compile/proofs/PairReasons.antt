@@ -6,7 +6,7 @@ use Rattle.nk_policy.specs.Policy.{Policy}
 use Rattle.nk_policy.specs.Labels.{IsTagSet, AtMost}
 use Rattle.nk_names.specs.Accepted.{IsStartPacket, IsCompilable, most_tags}
 use Rattle.nk_compile.specs.declared.refusal.Refusal.{Refusal}
-use Rattle.nk_compile.specs.declared.refusal.Refusal.TheVariants.{NoPolicy, NoTag, TagUsed, LooseDup, SwitchSet, NoSuchLink, OffEdge, TooManyTags}
+use Rattle.nk_compile.specs.declared.refusal.Refusal.TheVariants.{NoPolicy, NoTag, OffEdge, TooManyTags}
 use Rattle.nk_compile.specs.PairAnswers.{FitTogether, IsUnopposed, IsPairReason}
 use Rattle.nk_compile.specs.Refusals.{static_refusal_for, found_from, IsReason}
 use Rattle.nk_compile.proofs.PairTags.{at_most_these}
@@ -34,26 +34,17 @@ module _ (fields : FieldTable) (topo : Topology) (p q : Policy) where
   pair_kind : (r : Refusal) → IsPairReason fields topo p q r → OfOld r ⊎ (OfNew r ⊎ OfBoth r)
   pair_kind NoPolicy h = absurd h
   pair_kind NoTag h = inl (ap (λ o. static_refusal_for o topo p) h, λ found e. cc)
-  pair_kind TagUsed h = early TagUsed (λ found e. cc) h
-  pair_kind LooseDup h = early LooseDup (λ found e. cc) h
-  pair_kind SwitchSet h = early SwitchSet (λ found e. cc) h
-  pair_kind NoSuchLink h = early NoSuchLink (λ found e. cc) h
-  pair_kind (OffEdge start history) h = early (OffEdge start history) (λ found e. cc) h
   pair_kind (TooManyTags found) h = inr (inr (found, refl, h))
+  pair_kind r h = early r (λ found e. cc) h
 
 -- nothing early stands against a policy that is unopposed
 pub none_early : (fields : FieldTable) (topo : Topology) (p : Policy) (r : Refusal) → IsUnopposed fields topo p → IsReason fields topo p r → IsEarly r → ⊥
-none_early fields topo p NoPolicy clear h e = none_some NoPolicy (sym clear.0 ∙ h)
-none_early fields topo p NoTag clear h e = none_some NoTag (sym clear.0 ∙ h)
-none_early fields topo p TagUsed clear h e = none_some TagUsed (sym clear.0 ∙ h)
-none_early fields topo p LooseDup clear h e = none_some LooseDup (sym clear.0 ∙ h)
-none_early fields topo p SwitchSet clear h e = none_some SwitchSet (sym clear.0 ∙ h)
-none_early fields topo p NoSuchLink clear h e = none_some NoSuchLink (sym clear.0 ∙ h)
 none_early fields topo p (OffEdge start history) clear h e =
     let off = h.1.0 in
     let f = found_from start history in
     off.off (clear.1 f.start f.records f.last off.starts off.gives)
 none_early fields topo p (TooManyTags found) clear h e = e found refl
+none_early fields topo p r clear h e = none_some r (sym clear.0 ∙ h)
 
 -- no two reasons
 pub one_pair_reason : (fields : FieldTable) (topo : Topology) (p q : Policy) (r s : Refusal) → IsPairReason fields topo p q r → IsPairReason fields topo p q s → r ≡ s

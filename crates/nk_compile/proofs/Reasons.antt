@@ -13,10 +13,10 @@ use Rattle.nk_names.specs.declared.Program.{Program}
 use Rattle.nk_names.specs.Named.{policy_named}
 use Rattle.nk_names.specs.Accepted.{IsStartPacket, IsCompilable, is_link_outside, most_tags}
 use Rattle.nk_compile.specs.declared.refusal.Refusal.{Refusal}
-use Rattle.nk_compile.specs.declared.refusal.Refusal.TheVariants.{NoPolicy, OffEdge, TooManyTags}
+use Rattle.nk_compile.specs.declared.refusal.Refusal.TheVariants.{NoPolicy, Static, OffEdge, TooManyTags}
 use Rattle.nk_compile.specs.OffEdge.{EndsOffEdge, EndsOnEdges}
-use Rattle.nk_static.specs.declared.faults.StaticFault.TheVariants as static_kind
-use Rattle.nk_compile.specs.Refusals.{refusal_of, static_refusal_for, static_refusal, found_from, IsReason, IsRefused}
+use Rattle.nk_static.specs.declared.faults.StaticFault.TheVariants.{TagUsed, LooseDup, SwitchSet, NoSuchLink}
+use Rattle.nk_compile.specs.Refusals.{static_refusal_for, static_refusal, found_from, IsReason, IsRefused}
 use Rattle.nk_compile.proofs.Orders.{one_least}
 use Rattle.nk_compile.proofs.TooMany.{never_more}
 
@@ -29,7 +29,7 @@ none_some a e = cc
 
 -- where no test passes nothing is seen
 none_of : (a b c d : Bool) → a ≡ false → b ≡ false → c ≡ false → d ≡ false
-    → ◌≡◌ {A = Option Refusal} (option_map refusal_of (if a then Some static_kind.TagUsed else if b then Some static_kind.LooseDup else if c then Some static_kind.SwitchSet else if d then Some static_kind.NoSuchLink else None)) None
+    → ◌≡◌ {A = Option Refusal} (option_map Static (if a then Some TagUsed else if b then Some LooseDup else if c then Some SwitchSet else if d then Some NoSuchLink else None)) None
 none_of false false false false e f g h = refl
 none_of a b c d e f g h = absurd cc
 

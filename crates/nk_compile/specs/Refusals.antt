@@ -12,23 +12,14 @@ use Rattle.nk_names.specs.Named.{policy_named}
 use Rattle.nk_policy.specs.Labels.{IsTagSet, AtLeast}
 use Rattle.nk_names.specs.Accepted.{IsStartPacket, most_tags}
 use Rattle.nk_static.specs.StaticFaults.{static_fault_of}
-use Rattle.nk_static.specs.declared.faults.StaticFault.{StaticFault}
-use Rattle.nk_static.specs.declared.faults.StaticFault.TheVariants as static_kind
 use Rattle.nk_compile.specs.declared.refusal.Refusal.{Refusal}
-use Rattle.nk_compile.specs.declared.refusal.Refusal.TheVariants.{NoPolicy, NoTag, TagUsed, LooseDup, SwitchSet, NoSuchLink, OffEdge, TooManyTags}
+use Rattle.nk_compile.specs.declared.refusal.Refusal.TheVariants.{NoPolicy, NoTag, Static, OffEdge, TooManyTags}
 use Rattle.nk_compile.specs.OffEdge.{EndsOffEdge, EndsOnEdges}
-
--- what is seen of a policy, as a refusal
-abbrev pub refusal_of : StaticFault → Refusal
-refusal_of static_kind.TagUsed = TagUsed
-refusal_of static_kind.LooseDup = LooseDup
-refusal_of static_kind.SwitchSet = SwitchSet
-refusal_of static_kind.NoSuchLink = NoSuchLink
 
 -- what is seen where the tag is known: it is used, a dup or an assignment of the switch stands outside of a link literal, or
 -- a literal is no declared link
 abbrev pub static_refusal_with : ℕ → Topology → Policy → Option Refusal
-static_refusal_with tag topo p = option_map refusal_of (static_fault_of tag topo.links p)
+static_refusal_with tag topo p = option_map Static (static_fault_of tag topo.links p)
 
 -- the first reason that is seen of the tree, if there is one
 abbrev pub static_refusal_for : Option ℕ → Topology → Policy → Option Refusal

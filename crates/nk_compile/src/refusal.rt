@@ -3,6 +3,7 @@ ghost use Rattle.std.specs.Prelude.{◌≡◌};
 ghost use Rattle.nk_compile.specs.declared.refusal.CompileError.TheVariants.{NoMemory};
 
 use nk_field::{History, Packet};
+use nk_static::StaticFault;
 use std::alloc::AllocError;
 use thiserror::Error;
 
@@ -15,18 +16,9 @@ pub enum Refusal {
     /// No tag is declared.
     #[error("no tag")]
     NoTag,
-    /// The policy tests the tag, by a value or a range, or sets it.
-    #[error("tag used")]
-    TagUsed,
-    /// A dup stands outside of a link literal.
-    #[error("loose dup")]
-    LooseDup,
-    /// An assignment of the switch stands outside of a link literal.
-    #[error("switch set")]
-    SwitchSet,
-    /// A link literal is no declared link.
-    #[error("no such link")]
-    NoSuchLink,
+    /// The policy's text shows this over the declared links.
+    #[error("{0}")]
+    Static(StaticFault),
     /// A located untagged packet has a history that ends off an edge port.
     #[error("off edge")]
     OffEdge {

@@ -13,7 +13,6 @@ ghost use Rattle.nk_compile.specs.Levelled.{IsLevelled, IsOffFault, IsTagFault, 
 ghost use Rattle.nk_compile.specs.declared.refusal.CompileError.TheVariants as compile;
 ghost use Rattle.nk_compile.specs.declared.refusal.Refusal.TheVariants as refusal;
 ghost use Rattle.nk_compile.specs.Preparing.{IsPrepared, IsEarlyError};
-ghost use Rattle.nk_compile.specs.Refusals.{refusal_of};
 
 use crate::prepared::Prepared;
 use crate::refusal::{CompileError, Refusal};
@@ -24,7 +23,7 @@ use nk_edges::{off_edges, starts};
 use nk_field::{Fid, Fields, List};
 use nk_policy::Pol;
 use nk_reach::levels;
-use nk_static::{StaticFault, static_fault};
+use nk_static::static_fault;
 use nk_store::{Id, Store};
 use nk_tag::{NumberError, number_from};
 use nk_topo::Topo;
@@ -109,18 +108,6 @@ fn fault(e: NumberError) -> CompileError
     }
 }
 
-/// What is seen of a policy, as a refusal.
-fn refusal(static_kind: StaticFault) -> Refusal
-    ensures { result ≡ refusal_of static_kind }
-{
-    match static_kind {
-        StaticFault::TagUsed => Refusal::TagUsed,
-        StaticFault::LooseDup => Refusal::LooseDup,
-        StaticFault::SwitchSet => Refusal::SwitchSet,
-        StaticFault::NoSuchLink => Refusal::NoSuchLink,
-    }
-}
-
 /// The automaton of a policy and the levels of its states. What its text shows against it is the refusal, or else the least
 /// history with an end at no edge port.
 pub fn prepare(
@@ -137,7 +124,7 @@ pub fn prepare(
     ensures err { IfErr result (IsEarlyError fields.now topo.now (tree_of p.now)) }
 {
     if let Some(static_kind) = static_fault(p, topo, tag) {
-        return Err(CompileError::Refused(refusal(static_kind)));
+        return Err(CompileError::Refused(Refusal::Static(static_kind)));
     }
     let _few = fields.declared();
     let _switches = topo.switches();

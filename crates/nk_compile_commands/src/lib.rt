@@ -8,5 +8,5 @@ mod text_sink;
 mod updating;
 
 pub use compiling::compile_answer;
-pub use messages::refusal_message;
+pub use messages::{refusal_message, static_fault_message};
 pub use updating::update_answer;

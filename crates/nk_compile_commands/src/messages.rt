@@ -1,12 +1,26 @@
 //! What is said of policies that are refused.
 ghost use Rattle.std.specs.Prelude.{◌≡◌, ◌++◌, IfOk, codes, decimal};
-ghost use Rattle.nk_compile_commands.specs.Messages.{refusal_line};
+ghost use Rattle.nk_compile_commands.specs.Messages.{refusal_line, static_fault_line};
 
 use itoa::Buffer;
 use nk_compile::Refusal;
 use nk_field::Fields;
 use nk_reply::messages::{found_message, no_policy_message};
+use nk_static::StaticFault;
 use std::alloc::{AllocError, Global};
+
+/// The message for what a policy's text shows, with its line feed.
+pub fn static_fault_message(alloc: Global, static_kind: StaticFault) -> Result<Vec<u8>, AllocError>
+    ensures { IfOk result (λ v. v.items ≡ static_fault_line static_kind) }
+{
+    let message: &[u8] = match static_kind {
+        StaticFault::TagUsed => b"refused C3: tag used\n",
+        StaticFault::LooseDup => b"refused C4: loose dup\n",
+        StaticFault::SwitchSet => b"refused C5: switch set\n",
+        StaticFault::NoSuchLink => b"refused C6: no such link\n",
+    };
+    Vec::from_slice(alloc, message)
+}
 
 /// The message for a policy that needs too many tags.
 fn tags_message(alloc: Global, found: u64) -> Result<Vec<u8>, AllocError>
@@ -29,17 +43,13 @@ pub fn refusal_message(
 ) -> Result<Vec<u8>, AllocError>
     ensures { IfOk result (λ v. v.items ≡ refusal_line fields.now reason.now) }
 {
-    let message: &[u8] = match reason {
-        Refusal::NoPolicy => return no_policy_message(alloc),
-        Refusal::NoTag => b"refused C2: no tag\n",
-        Refusal::TagUsed => b"refused C3: tag used\n",
-        Refusal::LooseDup => b"refused C4: loose dup\n",
-        Refusal::SwitchSet => b"refused C5: switch set\n",
-        Refusal::NoSuchLink => b"refused C6: no such link\n",
+    match reason {
+        Refusal::NoPolicy => no_policy_message(alloc),
+        Refusal::NoTag => Vec::from_slice(alloc, b"refused C2: no tag\n"),
+        Refusal::Static(static_kind) => static_fault_message(alloc, *static_kind),
         Refusal::OffEdge { start, history } => {
-            return found_message(alloc, b"refused C7: off edge\n", fields, start, history);
+            found_message(alloc, b"refused C7: off edge\n", fields, start, history)
         }
-        Refusal::TooManyTags { found } => return tags_message(alloc, *found),
-    };
-    Vec::from_slice(alloc, message)
+        Refusal::TooManyTags { found } => tags_message(alloc, *found),
+    }
 }

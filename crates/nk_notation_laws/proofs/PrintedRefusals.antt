@@ -3,7 +3,7 @@ use Rattle.std.proofs.Common.{◌≡◌, ◌≤◌, ℕ, false, List, ◌∷◌,
 use Rattle.std.specs.Prelude.{bytes_eq}
 use Rattle.nk_compile.specs.declared.refusal.Refusal.{Refusal}
 use Rattle.nk_compile.specs.declared.refusal.Refusal.TheVariants as refusal
-use Rattle.nk_compile_commands.specs.Messages.{refusal_line}
+use Rattle.nk_compile_commands.specs.Messages.{refusal_line, static_fault_line}
 use Rattle.nk_declare.specs.Kept.{IsWritable}
 use Rattle.nk_field.specs.Packet.{FieldTable}
 use Rattle.nk_lex.specs.Lex.{largest}
@@ -13,7 +13,7 @@ use Rattle.nk_static.specs.declared.faults.StaticFault.{StaticFault}
 use Rattle.nk_static.specs.declared.faults.StaticFault.TheVariants as static_kind
 use Rattle.nk_virtual.specs.declared.refusal.VirtualRefusal.{VirtualRefusal}
 use Rattle.nk_virtual.specs.declared.refusal.VirtualRefusal.TheVariants as unphysical
-use Rattle.nk_virtual_command.specs.Messages.{link_message_text, static_fault_line, unphysical_line}
+use Rattle.nk_virtual_command.specs.Messages.{link_message_text, unphysical_line}
 use Rattle.nk_notation.specs.Inward.{text_start}
 use Rattle.nk_notation_laws.specs.Laws.{IsLeftByIn, IsRefusalOver, IsVirtualRefusalOver, RefusalsAreLeft, VirtualRefusalsAreLeft}
 use Rattle.nk_notation_laws.proofs.Counts.{runs_count}
@@ -86,13 +86,16 @@ too_large = λ rest next.
     (left_word (codes "expanded") (refl, refl) refl (codes "too large\n" ++ rest)
     (left_word (codes "too") (refl, refl) refl (codes "large\n" ++ rest) (ended (codes "large") (refl, refl) refl rest next)))
 
+static_left : (s : StaticFault) → IsLeftByIn (static_fault_line s)
+static_left static_kind.TagUsed = whole_left (codes "refused C3: tag used\n") tag_used
+static_left static_kind.LooseDup = whole_left (codes "refused C4: loose dup\n") loose_dup
+static_left static_kind.SwitchSet = whole_left (codes "refused C5: switch set\n") switch_set
+static_left static_kind.NoSuchLink = whole_left (codes "refused C6: no such link\n") no_such_link
+
 refusal_left : (fields : FieldTable) → IsWritable fields → (r : Refusal) → IsRefusalOver fields r → IsLeftByIn (refusal_line fields r)
 refusal_left fields w refusal.NoPolicy ok = whole_left (codes "refused C1: no policy\n") no_policy
 refusal_left fields w refusal.NoTag ok = whole_left (codes "refused C2: no tag\n") no_tag
-refusal_left fields w refusal.TagUsed ok = whole_left (codes "refused C3: tag used\n") tag_used
-refusal_left fields w refusal.LooseDup ok = whole_left (codes "refused C4: loose dup\n") loose_dup
-refusal_left fields w refusal.SwitchSet ok = whole_left (codes "refused C5: switch set\n") switch_set
-refusal_left fields w refusal.NoSuchLink ok = whole_left (codes "refused C6: no such link\n") no_such_link
+refusal_left fields w (refusal.Static s) ok = static_left s
 refusal_left fields w (refusal.OffEdge start h) ok = off_edge (way_lines fields start h) (way_left fields w.names w.maxima start h ok.0 ok.1) text_start refl
 refusal_left fields w (refusal.TooManyTags found) ok =
     let front = codes "refused C8: too many tags, found " in
@@ -100,12 +103,6 @@ refusal_left fields w (refusal.TooManyTags found) ok =
 
 pub refusals_left : RefusalsAreLeft
 refusals_left = refusal_left
-
-static_left : (s : StaticFault) → IsLeftByIn (static_fault_line s)
-static_left static_kind.TagUsed = whole_left (codes "refused C3: tag used\n") tag_used
-static_left static_kind.LooseDup = whole_left (codes "refused C4: loose dup\n") loose_dup
-static_left static_kind.SwitchSet = whole_left (codes "refused C5: switch set\n") switch_set
-static_left static_kind.NoSuchLink = whole_left (codes "refused C6: no such link\n") no_such_link
 
 -- the port where a virtual link begins
 link_free : (a m : ℕ) → a ≤ largest → m ≤ largest → Free (link_message_text a m)

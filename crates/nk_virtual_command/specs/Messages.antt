@@ -2,17 +2,9 @@
 use Rattle.std.specs.Prelude.{ℕ, List, ◌++◌, codes, decimal}
 use Rattle.nk_field.specs.Packet.{FieldTable}
 use Rattle.nk_reply.specs.Messages.{start_line, way_lines}
-use Rattle.nk_static.specs.declared.faults.StaticFault.{StaticFault}
-use Rattle.nk_static.specs.declared.faults.StaticFault.TheVariants as static_kind
+use Rattle.nk_compile_commands.specs.Messages.{static_fault_line}
 use Rattle.nk_virtual.specs.declared.refusal.VirtualRefusal.{VirtualRefusal}
 use Rattle.nk_virtual.specs.declared.refusal.VirtualRefusal.TheVariants as unphysical
-
--- what is said of what a policy's text shows
-abbrev pub static_fault_line : StaticFault → List ℕ
-static_fault_line static_kind.TagUsed = codes "refused C3: tag used\n"
-static_fault_line static_kind.LooseDup = codes "refused C4: loose dup\n"
-static_fault_line static_kind.SwitchSet = codes "refused C5: switch set\n"
-static_fault_line static_kind.NoSuchLink = codes "refused C6: no such link\n"
 
 -- the port where a virtual link begins
 abbrev pub link_message_text : (switch port : ℕ) → List ℕ

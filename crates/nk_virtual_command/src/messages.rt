@@ -1,27 +1,14 @@
 //! What is said of names that have no physical policy.
 ghost use Rattle.std.specs.Prelude.{◌≡◌, ◌++◌, IfOk, OnOk, codes, decimal};
 ghost use Rattle.nk_reply.specs.Messages.{start_line, way_lines};
-ghost use Rattle.nk_virtual_command.specs.Messages.{link_message_text, static_fault_line, unphysical_line};
+ghost use Rattle.nk_virtual_command.specs.Messages.{link_message_text, unphysical_line};
 
 use itoa::Buffer;
+use nk_compile_commands::static_fault_message;
 use nk_field::{Fields, History, Packet};
 use nk_reply::messages::{found_message, no_policy_message, push_start, too_large_message};
-use nk_static::StaticFault;
 use nk_virtual::VirtualRefusal;
 use std::alloc::{AllocError, Global};
-
-/// The message for what a policy's text shows.
-fn static_fault_message(alloc: Global, static_kind: StaticFault) -> Result<Vec<u8>, AllocError>
-    ensures { IfOk result (λ v. v.items ≡ static_fault_line static_kind) }
-{
-    let message: &[u8] = match static_kind {
-        StaticFault::TagUsed => b"refused C3: tag used\n",
-        StaticFault::LooseDup => b"refused C4: loose dup\n",
-        StaticFault::SwitchSet => b"refused C5: switch set\n",
-        StaticFault::NoSuchLink => b"refused C6: no such link\n",
-    };
-    Vec::from_slice(alloc, message)
-}
 
 /// The first line of a message about a virtual link, which tells the port where the link begins.
 fn link_message(alloc: Global, head: &[u8], switch: u16, port: u16) -> Result<Vec<u8>, AllocError>

@@ -5,7 +5,8 @@ use Rattle.nk_runs.proofs.Stands.{are_states}
 use Rattle.nk_compile.specs.Levelled.{IsLevelled}
 use Rattle.nk_compile.specs.Preparing.{IsEarlyError}
 use Rattle.nk_compile.specs.Ready.{IsBegun}
-use Rattle.nk_compile.specs.Refusals.{refusal_of, static_refusal_with}
+use Rattle.nk_compile.specs.Refusals.{static_refusal_with}
+use Rattle.nk_compile.specs.declared.refusal.Refusal.TheVariants.{Static}
 use Rattle.nk_compile.proofs.PolicyAutomaton.{begun_is}
 use Rattle.nk_compile.proofs.ProgramFits.{places_high}
 use Rattle.nk_compile.proofs.Levelled.{least_off}
@@ -14,7 +15,7 @@ use Rattle.nk_compile.proofs.tables.prepare.Goals as goal
 
 -- nothing is seen
 none : (c : goal.After-as_slice) → static_refusal_with c.args.tag c.args.topo.now (tree_of c.args.p.now) ≡ None
-none c = ap (option_map refusal_of) (sym c.static_fault.ensures ∙ c.in_default.is)
+none c = ap (option_map Static) (sym c.static_fault.ensures ∙ c.in_default.is)
 
 begun : (c : goal.After-as_slice) (states : List ℕ) → states ≡ c.in_ok-states.states → IsBegun c.args.fields.now c.args.topo.now c.args.tag (tree_of c.args.p.now) c.policy_automaton.new.st states
 begun c states same =
@@ -41,7 +42,7 @@ levels_from-requires-clause-start c = let b = begun c c.as_slice.result.now c.as
 
 pub returns-in_err-levels-clause-err : goal.returns-in_err-levels-clause-err
 returns-in_err-levels-clause-err c =
-    let nothing = ap (option_map refusal_of) (sym c.static_fault.ensures ∙ c.in_default.is) in
+    let nothing = ap (option_map Static) (sym c.static_fault.ensures ∙ c.in_default.is) in
     let b =
     begun_is c.args.fields.now c.args.topo.now c.args.tag (tree_of c.args.p.now) c.in_ok-store.store c.policy_automaton.new.st c.in_ok-states.states c.as_slice.result.now
     c.declared-few.ensures.is c.requires.tag c.switches-switches.ensures.is c.requires.held.numbered nothing c.in_ok-store.ensures.over c.policy_automaton.ensures.grows
@@ -56,7 +57,7 @@ returns-clause-ok c = record {
   before = c.policy_automaton.new.st;
   begun =
       begun_is c.args.fields.now c.args.topo.now c.args.tag (tree_of c.args.p.now) c.in_ok-store.store c.policy_automaton.new.st c.in_ok-states.states c.in_ok-states.states
-      c.declared-few.ensures.is c.requires.tag c.switches-switches.ensures.is c.requires.held.numbered (ap (option_map refusal_of) (sym c.static_fault.ensures ∙ c.in_default.is)) c.in_ok-store.ensures.over
+      c.declared-few.ensures.is c.requires.tag c.switches-switches.ensures.is c.requires.held.numbered (ap (option_map Static) (sym c.static_fault.ensures ∙ c.in_default.is)) c.in_ok-store.ensures.over
       c.policy_automaton.ensures.grows c.in_ok-states.ensures.ok refl c.requires.held.complements c.requires.held.in_range c.requires.room;
   levelled =
       subst (λ l. IsLevelled c.args.topo.now c.args.tag c.policy_automaton.new.st l c.levels_from.new.st c.levels_from.new.ss c.in_ok-levels.levels.levels c.in_ok-levels.levels.broken)
