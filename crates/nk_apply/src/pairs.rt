@@ -6,7 +6,7 @@ ghost use Rattle.nk_store.specs.Leaves.{Strict, Every, Suits};
 ghost use Rattle.nk_store.specs.StoreState.{IsId, look, root_field, Grows, HasLeaves, IsWhole, AreParts};
 ghost use Rattle.nk_apply.specs.Cofactors.{cofactor, IsFirst};
 
-use crate::part::part_near;
+use crate::part::{part_count, part_near};
 use nk_field::{Fid, List};
 use nk_store::{Id, Node, Out, Store};
 use std::alloc::{AllocError, Global};
@@ -147,7 +147,7 @@ fn merge_leaves<J: Join>(st: &mut Store, j: &J, a: Id, b: Id) -> Result<Id, Allo
     st.leaf_in_order(outs)
 }
 
-/// The parts of the merged diagram by the first field of both.
+/// The parts of the merged diagram by the first field of both. There is room for as many as either has.
 #[cycle(merge)]
 fn merge_parts<J: Join>(
     st: &mut Store,
@@ -168,7 +168,8 @@ fn merge_parts<J: Join>(
         (look st.old (cofactor st.old f v b) pk)) }
 {
     let max = st.max(f);
-    let mut parts = List::new(st.alloc());
+    let count = part_count(st, a, f).max(part_count(st, b, f));
+    let mut parts = List::with_capacity(st.alloc(), count)?;
     let mut near_a = 0;
     let mut near_b = 0;
     let mut from = 0;

@@ -112,3 +112,13 @@ fn place_of(parts: &[(u64, Id)], max: u64, v: u64) -> usize
 {
     parts.partition_point(|part| part.0 < v)
 }
+
+/// How many parts a diagram has by a field: 1 where it doesn't test it first.
+pub(crate) fn part_count(st: &Store, d: Id, f: Fid) -> usize
+    requires { IsId st.now d }
+{
+    match st.view(d) {
+        Node::Case(g, parts) => { if *g == f { parts.len() } else { 1 } }
+        Node::Leaf(_) => 1,
+    }
+}

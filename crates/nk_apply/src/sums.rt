@@ -104,7 +104,7 @@ fn one_part(st: &Store, f: Fid, d: Id) -> Result<List<(u64, Id)>, AllocError>
     Ok(parts)
 }
 
-/// The parts of both together.
+/// The parts of both together. There is room for all of them.
 fn join_parts(
     st: &mut Store,
     f: Fid,
@@ -120,7 +120,7 @@ fn join_parts(
 {
     let max = st.max(f);
     let none = empty(st)?;
-    let mut parts = List::new(st.alloc());
+    let mut parts = List::with_capacity(st.alloc(), xs.len().saturating_add(ys.len()))?;
     let mut near_x = 0;
     let mut near_y = 0;
     let mut from = 0;

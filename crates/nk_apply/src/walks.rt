@@ -7,7 +7,7 @@ ghost use Rattle.nk_store.specs.StoreState.{IsId, look, root_field, Grows, HasLe
 ghost use Rattle.nk_apply.specs.Cofactors.{cofactor, IsSplit};
 ghost use Rattle.nk_apply.specs.MadeOf.{IsMadeOf, AreMadeOf};
 
-use crate::part::part_near;
+use crate::part::{part_count, part_near};
 use nk_field::{Fid, List};
 use nk_store::{Id, Node, Store};
 use std::alloc::AllocError;
@@ -261,7 +261,7 @@ fn walk_parts<M: NodeMap>(
 {
     m.laws();
     let max = st.max(g);
-    let mut parts = List::with_capacity(st.alloc(), part_count(st, d))?;
+    let mut parts = List::with_capacity(st.alloc(), part_count(st, d, g))?;
     let mut near = 0;
     let mut from = 0;
     let mut before = None;
@@ -324,14 +324,4 @@ fn made_by(pair: (Id, Id), d: Id) -> Option<Id>
     ensures { IfSome result (λ r. pair ≡ (d, r)) }
 {
     if pair.0 == d { Some(pair.1) } else { None }
-}
-
-/// How many parts a diagram has by the field that it tests first.
-fn part_count(st: &Store, d: Id) -> usize
-    requires { IsId st.now d }
-{
-    match st.view(d) {
-        Node::Case(_, parts) => parts.len(),
-        Node::Leaf(_) => 1,
-    }
 }
