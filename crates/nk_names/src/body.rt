@@ -149,6 +149,23 @@ fn written_on(alloc: Global, body: &Body, before: &mut u64) -> Result<Pol, Alloc
     }
 }
 
+/// The policy of a part with all names written out. Most parts are tests, ranges and assignments, which are told here without a call.
+#[cycle(write)]
+#[inline(always)]
+fn part_written_on(alloc: Global, part: &Body, before: &mut u64) -> Result<Pol, AllocError>
+    requires fit { before.old + dups_of (policy_in part.now) < 2 ^ 32 }
+    ensures tree { IfOk result
+        (λ q. tree_of q ≡ marked_from (policy_in part.now) (before.old + 1)) }
+    ensures before { OnOk result (before.new ≡ before.old + dups_of (policy_in part.now)) }
+{
+    match part {
+        Body::Test(f, n) => Ok(Pol::Test(*f, *n)),
+        Body::Range(f, low, high) => Ok(Pol::Range(*f, *low, *high)),
+        Body::Set(f, n) => Ok(Pol::Set(*f, *n)),
+        _ => written_on(alloc, part, before),
+    }
+}
+
 /// The policies of the parts with all names written out, their dups numbered on after those that stand before.
 #[cycle(write)]
 #[tactic(auto, using(nk_policy::proofs::Trees::joined_push, nk_policy::proofs::Trees::joined_none))]
@@ -160,7 +177,7 @@ fn all_written_on(alloc: Global, parts: &[Body], before: &mut u64) -> Result<Vec
 {
     let mut out = Vec::with_capacity(alloc, parts.len())?;
     for q in parts {
-        out.push(written_on(alloc, q, before)?)?;
+        out.push(part_written_on(alloc, q, before)?)?;
     }
     Ok(out)
 }

@@ -167,9 +167,14 @@ fn first_misplaced_among(fields: &Fields, lets: &Lets, parts: &[Ast]) -> Option<
     ensures { result ≡ misplaced_among fields.now lets.now.entries.items (trees_of parts.now) }
 {
     for q in parts {
-        let fault = first_misplaced(fields, lets, q);
-        if fault.is_some() {
-            return fault;
+        match q {
+            Ast::Test(_, _) | Ast::Range(_, _, _) | Ast::Set(_, _) => {}
+            _ => {
+                let fault = first_misplaced(fields, lets, q);
+                if fault.is_some() {
+                    return fault;
+                }
+            }
         }
     }
     None
@@ -202,7 +207,10 @@ fn deepest(fields: &Fields, lets: &Lets, parts: &[Ast]) -> u64
 {
     let mut most: u64 = 0;
     for q in parts {
-        let below = depth(fields, lets, q);
+        let below = match q {
+            Ast::Test(_, _) | Ast::Range(_, _, _) | Ast::Set(_, _) => 1,
+            _ => depth(fields, lets, q),
+        };
         if most < below {
             most = below;
         }
@@ -237,7 +245,10 @@ fn total_size(fields: &Fields, lets: &Lets, parts: &[Ast]) -> u64
 {
     let mut total: u64 = 0;
     for q in parts {
-        total = total.saturating_add(size(fields, lets, q));
+        total = match q {
+            Ast::Test(_, _) | Ast::Range(_, _, _) | Ast::Set(_, _) => total.saturating_add(1),
+            _ => total.saturating_add(size(fields, lets, q)),
+        };
     }
     total
 }

@@ -11,7 +11,7 @@ use Rattle.nk_names.proofs.body.+write.Goals as goal
 
 pub all_written_on-loop-q-preserved : goal.all_written_on-loop-q-preserved
 all_written_on-loop-q-preserved t c =
-    written_more c.args.parts.now _ c.q-item.result _ c.loop-q.out.items _ c.loop-q.before _ c.args.before.now c.loop-q-test.true c.q-item.is c.in_ok-push.ensures.items c.in_ok-written_on.ensures.tree c.in_ok-written_on.ensures.before c.loop-q.invariant
+    written_more c.args.parts.now _ c.q-item.result _ c.loop-q.out.items _ c.loop-q.before _ c.args.before.now c.loop-q-test.true c.q-item.is c.in_ok-push.ensures.items c.in_ok-part_written_on.ensures.tree c.in_ok-part_written_on.ensures.before c.loop-q.invariant
 
 pub all_written_on-returns-clause-trees : goal.all_written_on-returns-clause-trees
 all_written_on-returns-clause-trees t c =
