@@ -21,6 +21,7 @@ pub mod ReadingBack
 pub mod Remembering
 pub mod RowSteps
 pub mod Rowing
+pub mod SameBucket
 pub mod Setting
 pub mod Sofar
 pub mod Stages

@@ -11,9 +11,8 @@ use Rattle.nk_field.specs.Packet.{FieldTable}
 use Rattle.nk_table.specs.declared.Target.{Target}
 use Rattle.nk_tabtext.specs.declared.last_matches.LastMatches.{LastMatches}
 use Rattle.nk_tabtext.specs.declared.last_matches.PrintedMatch.{PrintedMatch}
-use Rattle.nk_tabtext.specs.Remembered.{BeginsWith, Remembers, as_printed, match_where, those}
+use Rattle.nk_tabtext.specs.Remembered.{BeginsWith, Remembers, as_printed, match_where, row_end_text, row_front_text, those}
 use Rattle.nk_tabtext.specs.Text.{is_tag, match_text, matches_text, row_text, target_text, where_same}
-use Rattle.nk_tabtext.specs.Written.{row_line_text}
 
 -- two matches that a test takes for the same are
 pub same_match : (a b : ℕ × ℕ × ℕ) → ((a.0 == b.0 && a.1 == b.1) && a.2 == b.2) ≡ true → a ≡ b
@@ -61,10 +60,11 @@ module _ (fs : FieldTable) where
       ∙ ap (λ l. where_same (is_tag fs m.0) tag (match_text fs m) ++ l) (those_text tag ms)
 
   -- the line of a row whose matches are remembered
-  pub line_is : (priority : ℕ) (ms : List (ℕ × ℕ × ℕ)) (target : Target) (l : LastMatches) (matches : List ℕ)
+  pub line_is : (priority : ℕ) (ms : List (ℕ × ℕ × ℕ)) (target : Target) (l : LastMatches) (before matches : List ℕ)
       → matches ≡ l.text.items → Remembers fs (as_printed fs ms) l
-      → row_line_text priority matches (target_text fs target) ≡ row_text fs (record { priority = priority; matches = ms; target = target })
-  line_is priority ms target l matches is r =
+      → before ++ row_front_text priority matches ++ row_end_text (target_text fs target)
+      ≡ before ++ row_text fs (record { priority = priority; matches = ms; target = target })
+  line_is priority ms target l before matches is r =
       let tagged = matches_text fs true ms in
       let others = matches_text fs false ms in
       let text : matches ≡ tagged ++ others =
@@ -73,9 +73,11 @@ module _ (fs : FieldTable) where
       ∙ flat_map-append (match_text fs) (those fs true ms) (those fs false ms)
       ∙ ap (λ x. x ++ text_of (those fs false ms)) (those_text true ms)
       ∙ ap (λ x. tagged ++ x) (those_text false ms) in
-      ap (λ x. row_line_text priority x (target_text fs target)) text
-      ∙ ap (λ x. x ++ codes "-> " ++ target_text fs target ++ codes "\n")
-      (sym (append_assoc (codes "row " ++ decimal priority ++ codes " : ") tagged others))
+      ap (λ x. before ++ row_front_text priority x ++ row_end_text (target_text fs target)) text
+      ∙ apart before (codes "row ") (decimal priority) (codes " : ") tagged others (codes "-> ") (target_text fs target) (codes "\n")
+    where
+      apart : (a b c d e f g h i : List ℕ) → a ++ (b ++ c ++ d ++ (e ++ f)) ++ (g ++ h ++ i) ≡ a ++ (b ++ c ++ d ++ e ++ f ++ g ++ h ++ i)
+      apart a b c d e f g h i = simp append_assoc
 
   -- ---- what is remembered
 

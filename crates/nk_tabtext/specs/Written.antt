@@ -19,10 +19,6 @@ head_text version fs topo = version_text version ++ fields_text fs ++ tag_text f
 abbrev pub switch_line_text : ℕ → List ℕ
 switch_line_text sw = codes "table " ++ decimal sw ++ codes "\n"
 
--- the line of a row, by the text of its matches and that of what it does
-abbrev pub row_line_text : ℕ → List ℕ → List ℕ → List ℕ
-row_line_text priority matches target = codes "row " ++ decimal priority ++ codes " : " ++ matches ++ codes "-> " ++ target ++ codes "\n"
-
 -- the groups and rows of a table
 abbrev pub own_rules_text : FieldTable → Table → List ℕ
 own_rules_text fs t = flat_map (group_text fs) t.groups ++ flat_map (row_text fs) t.rows
@@ -47,7 +43,7 @@ pub record HasWritten (fields : FieldTable) (topo : Topology) (tables : List Tab
   pub prefixes : w.prefixes ≡ some_prefix fields tables
   -- its text has the first lines, of the version that this asks for, and after them the tables
   pub text : w.text.items ≡ head_text (version_with w.prefixes) fields topo ++ flat_map (own_section_text fields) tables
-  -- what it remembers of matches is right
+  -- what it remembers of the last row is right
   pub last : RemembersSome fields w.last
 
 -- the writer has put these tables after those lines, and of the table of one more switch its first line and these rows
@@ -63,5 +59,5 @@ pub record IsWriting (fields : FieldTable) (topo : Topology) (tables : List Tabl
   pub start : w.start ≡ length front
   -- the rows stand at the end of its text
   pub text : w.text.items ≡ front ++ flat_map (row_text fields) rows
-  -- what it remembers of matches is right
+  -- what it remembers of the last row is right
   pub last : RemembersSome fields w.last

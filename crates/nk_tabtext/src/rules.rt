@@ -4,7 +4,8 @@ ghost use Rattle.std.specs.List.{flat_map, list_any};
 ghost use Rattle.nk_table.specs.Rules.{rows_of};
 ghost use Rattle.nk_tabtext.specs.Text as text;
 ghost use Rattle.nk_tabtext.specs.Text.{is_tag, length_text, match_text, set_text, where_same, matches_text, sets_text, exit_text, bucket_text, target_text, row_text, group_text, rules_text, section_text, version_of, AreTablesFrom};
-ghost use Rattle.nk_tabtext.specs.Written.{own_rules_text, row_line_text, switch_line_text};
+ghost use Rattle.nk_tabtext.specs.Remembered.{row_front_text};
+ghost use Rattle.nk_tabtext.specs.Written.{own_rules_text, switch_line_text};
 
 use crate::{number, short};
 use nk_field::{Fid, Fields};
@@ -216,7 +217,7 @@ fn set_if(out: &mut Vec<u8>, fs: &Fields, f: Fid, n: u64, tag: bool) -> Result<(
 }
 
 /// A bucket.
-fn bucket(out: &mut Vec<u8>, fs: &Fields, b: &Bucket) -> Result<(), AllocError>
+pub(crate) fn bucket(out: &mut Vec<u8>, fs: &Fields, b: &Bucket) -> Result<(), AllocError>
     ensures { OnOk result (out.new.items ≡ out.old.items ++ bucket_text fs.now b.now) }
 {
     out.push(b'[')?;
@@ -275,24 +276,14 @@ fn row(out: &mut Vec<u8>, fs: &Fields, r: &Row) -> Result<(), AllocError>
     Ok(())
 }
 
-/// The line of a row, by the text of its matches.
-pub(crate) fn row_line(
-    out: &mut Vec<u8>,
-    fs: &Fields,
-    priority: u16,
-    matches: &[u8],
-    what: &Target,
-) -> Result<(), AllocError>
-    ensures { OnOk result (out.new.items
-        ≡ out.old.items ++ row_line_text priority matches.now (target_text fs.now what.now)) }
+/// The line of a row up to what it does, by the text of its matches.
+pub(crate) fn row_front(out: &mut Vec<u8>, priority: u16, matches: &[u8]) -> Result<(), AllocError>
+    ensures { OnOk result (out.new.items ≡ out.old.items ++ row_front_text priority matches.now) }
 {
     short::piece(out, b"row ")?;
     number(out, priority as u64)?;
     short::piece(out, b" : ")?;
     out.extend_from_slice(matches)?;
-    short::piece(out, b"-> ")?;
-    target(out, fs, what)?;
-    out.push(b'\n')?;
     Ok(())
 }
 

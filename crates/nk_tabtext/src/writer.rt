@@ -8,7 +8,7 @@ ghost use Rattle.nk_table.specs.declared.Row.{Row};
 ghost use Rattle.nk_tabtext.specs.Text.{group_text, have_prefix, is_exact, table_bytes, version_text};
 ghost use Rattle.nk_tabtext.specs.Written.{HasWritten, IsWriting, version_with};
 
-use crate::last_matches::LastMatches;
+use crate::last_row::LastRow;
 use crate::{head, rules};
 use nk_field::{Fid, Fields};
 use nk_table::{Group, Table, Target};
@@ -27,8 +27,8 @@ pub struct TableWriter<'a> {
     prefixes: bool,
     /// Where the rows of the table that was begun last begin in the text.
     start: usize,
-    /// The matches of the row that was put last.
-    last: LastMatches,
+    /// What is remembered of the row that was put last.
+    last: LastRow,
 }
 
 /// The place of the version's digit in the first line.
@@ -51,7 +51,7 @@ impl<'a> TableWriter<'a> {
     {
         let mut text = Vec::new(alloc);
         head::head(&mut text, 1, fields, topo)?;
-        let last = LastMatches::new(alloc);
+        let last = LastRow::new(alloc);
         Ok(TableWriter {
             fields,
             text,
@@ -93,9 +93,12 @@ impl<'a> TableWriter<'a> {
             } ∷ []) self.new) }
     {
         self.tell_matches(before, &between, after);
-        self.last.set(self.fields, before, &between, after)?;
-        let matches = self.last.text.as_slice();
-        rules::row_line(&mut self.text, self.fields, priority, matches, target)
+        self.last.matches.set(self.fields, before, &between, after)?;
+        rules::row_front(&mut self.text, priority, self.last.matches.text.as_slice())?;
+        self.last
+            .bucket
+            .put_end(&mut self.text, self.fields, target)?;
+        Ok(())
     }
 
     /// The first line tells of the prefixes of one more row.
