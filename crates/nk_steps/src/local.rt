@@ -10,15 +10,17 @@ ghost use Rattle.nk_determ.specs.States.{HaveEach};
 ghost use Rattle.nk_determ.specs.Pairs.{AreStates, AreLabelsBelow};
 ghost use Rattle.nk_steps.specs.Local.{IsStateAt};
 
+use crate::by_act::{acts_of, steps_by_act};
 use crate::together::steps_together;
 use nk_determ::{SetId, Sets, state_at, states_at};
-use nk_field::{Fid, List};
+use nk_field::List;
 use nk_sets::at_packets;
-use nk_store::{Id, Node, Out, Store};
+use nk_store::{Id, Store};
 use std::alloc::AllocError;
 
 /// The diagram of a set of labels at some packets alone: each of its outs but the finals is a step of the set, and each
-/// step of the set at these packets is an out. The only error is that memory ran out.
+/// step of the set at these packets is an out. States that are leaves with few acts that assign the same fields are put together
+/// act by act, each state once, and cut to these packets at the end. The only error is that memory ran out.
 pub fn local_state(
     st: &mut Store,
     ss: &mut Sets,
@@ -36,88 +38,20 @@ pub fn local_state(
     ensures ok { IfOk result
         (λ d. IsStateAt st.old states.now (slice_index_or ss.old s []) x st.new ss.new d) }
 {
-    if go_together(st, states, ss.members(s)) {
-        cut_last(st, ss, states, s, x)
-    } else {
-        cut_first(st, ss, states, s, x)
-    }
-}
-
-/// Whether the states at these labels go together at all packets at once without being split: none tests a field, and the acts
-/// of their outs that are no ends assign the same fields.
-fn go_together(st: &Store, states: &[Id], labels: &[u64]) -> bool
-    requires states { AreIds st.now states.now }
-    requires places { AreLabelsBelow (length states.now) labels.now }
-{
-    let mut fields = 0;
-    for l in labels {
-        match fields_in_all(st, state_at(states, *l), fields) {
-            Some(same) => fields = same,
-            None => return false,
-        }
-    }
-    true
-}
-
-/// The fields that the acts of a leaf's outs assign, ends left out, as bits; those given where there are no such outs. None of
-/// another diagram, or where two acts, or one and those given unless these are 0, assign different fields.
-fn fields_in_all(st: &Store, d: Id, given: u32) -> Option<u32>
-    requires { IsId st.now d }
-{
-    match st.view(d) {
-        Node::Leaf(outs) => fields_in_outs(outs.as_slice(), given),
-        Node::Case(_, _) => None,
-    }
-}
-
-/// The fields that the acts of these outs assign, ends left out, as bits; those given where there are no such outs. None where
-/// two acts, or one and those given unless these are 0, assign different fields.
-fn fields_in_outs(outs: &[Out], given: u32) -> Option<u32> {
-    let mut fields = given;
-    for o in outs {
-        if o.target != 0 {
-            let own = fields_in_act(o.act.as_slice());
-            if fields != 0 && fields != own {
-                return None;
-            }
-            fields = own;
-        }
-    }
-    Some(fields)
-}
-
-/// The fields that an act assigns, as bits by their places, and one bit more, so that it is never 0.
-fn fields_in_act(act: &[(Fid, u64)]) -> u32 {
-    let mut fields: u32 = 1 << 31;
-    for (f, _) in act {
-        fields |= 1 << f.place();
-    }
-    fields
-}
-
-/// The diagram of a set of labels at some packets alone: the states are put together at all packets, each state once, and cut
-/// to these packets at the end.
-fn cut_last(st: &mut Store, ss: &mut Sets, states: &[Id], s: SetId, x: Id) -> Result<Id, AllocError>
-    requires states { AreStates st.old states.now }
-    requires set { s < length ss.old }
-    requires places { AreLabelsBelow (length states.now) (slice_index_or ss.old s []) }
-    requires packets { IsSet st.old x }
-    ensures grows { Grows st.old st.new }
-    ensures sets { SetsGrow ss.old ss.new }
-    ensures differ { OnOk result (HasEachSetOnce ss.new) }
-    ensures ok { IfOk result
-        (λ d. IsStateAt st.old states.now (slice_index_or ss.old s []) x st.new ss.new d) }
-{
     let all = states_at(st.alloc(), states, ss.members(s))?;
     let once = each_once(all);
-    let steps = steps_together(st, ss, once.as_slice())?;
+    let diagrams = once.as_slice();
+    let Some(acts) = acts_of(st, diagrams)? else {
+        return cut_first(st, ss, states, s, x);
+    };
+    let steps = steps_by_act(st, ss, diagrams, acts)?;
     let d = at_packets(st, x, steps)?;
     ss.differ();
     st.laws();
     Ok(d)
 }
 
-/// The diagram of a set of labels at some packets alone: each state is cut to these packets before the states are put together.
+/// The diagram of a set of labels at some packets alone: each state is cut to the packets, and then all are put together.
 fn cut_first(
     st: &mut Store,
     ss: &mut Sets,

@@ -1,5 +1,4 @@
-//! The steps of diagrams together: act by act where all are leaves with few acts that assign the same fields, else of their
-//! union, split field by field only where its leaves need it.
+//! The steps of diagrams together: of their union, split field by field only where its leaves need it.
 ghost use Rattle.std.specs.Prelude.{ℕ, ◌+◌, ◌<◌, List as Items, IfOk};
 ghost use Rattle.nk_store.specs.StoreState.{IsId, IsStorePacket, Grows};
 ghost use Rattle.nk_apply.specs.Unions.{AreIds};
@@ -7,7 +6,6 @@ ghost use Rattle.nk_determ.specs.Exact.{Sends};
 ghost use Rattle.nk_determ.specs.Sets.{SetsGrow};
 ghost use Rattle.nk_determ.specs.States.{SomeLeads, AreLedTo};
 
-use crate::by_act::{acts_of, steps_by_act};
 use crate::plain::is_plain;
 use nk_apply::union_all;
 use nk_determ::{Sets, regroup, state_of};
@@ -28,9 +26,6 @@ pub(crate) fn steps_of(st: &mut Store, ss: &mut Sets, diagrams: &[Id]) -> Result
     ensures led { IfOk result (λ r. (pk y : Items ℕ) (l : ℕ) → IsStorePacket st.old pk → 0 < l →
         SomeLeads st.old diagrams.now pk y l → (i : ℕ) × Sends st.new r pk y (i + 1)) }
 {
-    if let Some(acts) = acts_of(st, diagrams)? {
-        return steps_by_act(st, ss, diagrams, acts);
-    }
     let d = union_all(st, diagrams)?;
     st.laws();
     if is_plain(st, d)? {
