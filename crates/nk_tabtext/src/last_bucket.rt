@@ -104,7 +104,8 @@ impl LastBucket {
 
 /// Puts the end of a row with a group after a text.
 fn put_group(out: &mut Vec<u8>, n: u64) -> Result<(), AllocError>
-    ensures { OnOk result (out.new.items ≡ out.old.items ++ row_end_text (codes "group " ++ decimal n)) }
+    ensures { OnOk result (out.new.items
+        ≡ out.old.items ++ row_end_text (codes "group " ++ decimal n)) }
 {
     out.extend_from_slice(b"-> group ")?;
     number(out, n)?;
