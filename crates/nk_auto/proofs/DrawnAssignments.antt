@@ -1,6 +1,5 @@
 -- Assignments that were drawn, each with its diagram, and sequences that end with one.
 use Rattle.std.proofs.Common.{◌≡◌, ℕ, ◌<◌, ⊎_elim, List, [], ◌∷◌, ◌++◌, length, get_or, drop, refl, sym, ap, subst, ◌∙◌, arith}
-use Rattle.std.specs.List.{Contains}
 use Rattle.std.proofs.lemmas.List.{drop_all}
 use Rattle.std.proofs.lemmas.List.Elements.{Contains-push_cases}
 use Rattle.nk_policy.specs.Policy.{Policy, assign, seq_of, no_part, part}

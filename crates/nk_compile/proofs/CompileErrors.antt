@@ -1,5 +1,5 @@
 -- From what is seen of a policy, its levels and its tag sets to its tables or the reason of a refusal.
-use Rattle.std.proofs.Common.{◌≡◌, ℕ, ◌+◌, Bool, true, false, List, refl, sym, ap, subst, ◌∙◌, Some, None, arith}
+use Rattle.std.proofs.Common.{◌≡◌, ℕ, ◌+◌, Bool, false, List, refl, sym, ap, subst, ◌∙◌, Some, None, arith}
 use Rattle.std.specs.Prelude.{Option, option_map, Result, Ok, Err, IfErr, IsErrAnd, if◌then◌else◌, slice_index}
 use Rattle.nk_field.specs.Order.{Found, IsLeast}
 use Rattle.nk_field.specs.Packet.{FieldTable, IsFieldTable}
