@@ -10,4 +10,5 @@ pub mod Missing
 pub mod Sided
 pub mod Starting
 pub mod Placing
+pub mod Widening
 pub mod Sweeping

@@ -84,36 +84,41 @@ run_set st mid ds from to run y sets r h p = record {
   predicate = p (λ k l. subst (IsPredicate st) (sym (r.items k l)) (set_here st ds (from + k) sets (omega (arith, l, r.count, r.within))).predicate);
 }
 
+-- what a run has together stands in its entries
+pub run_between : (a st mid : StoreState) (ds : List (ℕ × ℕ)) (from to s y : ℕ) (run : List ℕ) → Grows a st → Grows st mid → HaveSets a ds → s ≡ (diagram_at ds from).0 → IsRunOfSet ds from to run → HasLeaves mid y (λ pk. unions st run 0 (length run) pk) →
+    (i : ℕ) (z : List ℕ) → IsStorePacket st z → (i ≡ s) × (is_in mid y z ≡ true) → StandsBetween a ds from to i z
+run_between a st mid ds from to s y run g1 g2 sets set r h i z w c =
+    let u = in_some st run 0 (length run) z (ap has_some_out (sym (h.leaf z w.0)) ∙ c.1) in
+    let l : u.0 < length run = omega (arith, u.2) in
+    let k : ℕ = from + u.0 in
+    let within : k < to = omega (arith, l, r.count) in
+    let has : Has st (diagram_at ds k).1 z = subst (λ (f : ℕ). Has st f z) (r.items u.0 l) u.3 in
+    (k, omega arith, within, r.one k (omega arith) within ∙ sym set ∙ sym c.0, has_back a st (diagram_at ds k).1 z g1 (set_here a ds k sets (omega (arith, within, r.within))).id has)
+
+-- what stands in its entries a run has together
+pub between_run : (a st mid : StoreState) (ds : List (ℕ × ℕ)) (from to s y : ℕ) (run : List ℕ) → Grows a st → Grows st mid → HaveSets a ds → s ≡ (diagram_at ds from).0 → IsRunOfSet ds from to run → HasLeaves mid y (λ pk. unions st run 0 (length run) pk) →
+    (i : ℕ) (z : List ℕ) → IsStorePacket st z → StandsBetween a ds from to i z → (i ≡ s) × (is_in mid y z ≡ true)
+between_run a st mid ds from to s y run g1 g2 sets set r h i z w c =
+    let i' : ℕ = c.0 - from in
+    let at : from + i' ≡ c.0 = let m = c.1 in omega (arith, m) in
+    let l : i' < length run = let m = c.1 in let n = c.2 in omega (arith, m, n, r.count) in
+    let is : get_or run i' 0 ≡ (diagram_at ds c.0).1 = r.items i' l ∙ ap (λ (j : ℕ). (diagram_at ds j).1) at in
+    let has : Has st (diagram_at ds c.0).1 z = has_on a st (diagram_at ds c.0).1 z g1 (set_here a ds c.0 sets (let n = c.2 in omega (arith, n, r.within))).id c.4 in
+    (sym c.3 ∙ r.one c.0 c.1 c.2 ∙ sym set, ap has_some_out (h.leaf z w.0) ∙ some_in st run 0 (length run) i' z (omega arith) (omega (arith, l)) (subst (λ (f : ℕ). Has st f z) (sym is) has))
+
 -- one run more
 pub put_run : (a st mid new : StoreState) (ds : List (ℕ × ℕ)) (from to s y : ℕ) (run : List ℕ) (old before back next all more : List (ℕ × ℕ)) → Grows a st → Grows st mid → HaveSets a ds → s ≡ (diagram_at ds from).0 → IsRunOfSet ds from to run → HasLeaves mid y (λ pk. unions st run 0 (length run) pk) →
     IsGained a (StandsBetween a ds 0 from) old before st back next → IsGained mid (λ i z. (i ≡ s) × (is_in mid y z ≡ true)) back next new all more → IsGained a (StandsBetween a ds 0 to) old before new all more
 put_run a st mid new ds from to s y run old before back next all more g1 g2 sets set r h was one =
     gained_then a st new (StandsBetween a ds 0 from) (StandsBetween a ds from to) (StandsBetween a ds 0 to) old before back next all more g1 was
-    (gained_before st mid new (λ i z. (i ≡ s) × (is_in mid y z ≡ true)) (StandsBetween a ds from to) back next all more g2 was.packets was.once was.next_packets was.next_once one on off)
+    (gained_before st mid new (λ i z. (i ≡ s) × (is_in mid y z ≡ true)) (StandsBetween a ds from to) back next all more g2 was.packets was.once was.next_packets was.next_once one
+    (run_between a st mid ds from to s y run g1 g2 sets set r h) (between_run a st mid ds from to s y run g1 g2 sets set r h))
     (λ i z w c. elim (leb_tells from c.0) [
       | inl up ↦ inr (c.0, up.1, c.2, c.3, c.4)
       | inr down ↦ inl (c.0, omega arith, down.1, c.3, c.4)
     ])
     (λ i z w c. (c.0, omega arith, let m = c.2 in omega (arith, m, r.later), c.3, c.4))
     (λ i z w c. (c.0, omega arith, c.2, c.3, c.4))
-  where
-    on : (i : ℕ) (z : List ℕ) → IsStorePacket st z → (i ≡ s) × (is_in mid y z ≡ true) → StandsBetween a ds from to i z
-    on i z w c =
-        let u = in_some st run 0 (length run) z (ap has_some_out (sym (h.leaf z w.0)) ∙ c.1) in
-        let l : u.0 < length run = omega (arith, u.2) in
-        let k : ℕ = from + u.0 in
-        let within : k < to = omega (arith, l, r.count) in
-        let has : Has st (diagram_at ds k).1 z = subst (λ (f : ℕ). Has st f z) (r.items u.0 l) u.3 in
-        (k, omega arith, within, r.one k (omega arith) within ∙ sym set ∙ sym c.0, has_back a st (diagram_at ds k).1 z g1 (set_here a ds k sets (omega (arith, within, r.within))).id has)
-
-    off : (i : ℕ) (z : List ℕ) → IsStorePacket st z → StandsBetween a ds from to i z → (i ≡ s) × (is_in mid y z ≡ true)
-    off i z w c =
-        let i' : ℕ = c.0 - from in
-        let at : from + i' ≡ c.0 = let m = c.1 in omega (arith, m) in
-        let l : i' < length run = let m = c.1 in let n = c.2 in omega (arith, m, n, r.count) in
-        let is : get_or run i' 0 ≡ (diagram_at ds c.0).1 = r.items i' l ∙ ap (λ (j : ℕ). (diagram_at ds j).1) at in
-        let has : Has st (diagram_at ds c.0).1 z = has_on a st (diagram_at ds c.0).1 z g1 (set_here a ds c.0 sets (let n = c.2 in omega (arith, n, r.within))).id c.4 in
-        (sym c.3 ∙ r.one c.0 c.1 c.2 ∙ sym set, ap has_some_out (h.leaf z w.0) ∙ some_in st run 0 (length run) i' z (omega arith) (omega (arith, l)) (subst (λ (f : ℕ). Has st f z) (sym is) has))
 
 -- all runs
 pub put_whole : (a new : StoreState) (ds : List (ℕ × ℕ)) (to : ℕ) (old before all more : List (ℕ × ℕ)) → to ≡ length ds → IsGained a (StandsBetween a ds 0 to) old before new all more → IsGained a (Under a ds) old before new all more

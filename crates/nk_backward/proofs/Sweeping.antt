@@ -21,11 +21,11 @@ use Rattle.nk_witness.proofs.Pulling.{out_is}
 use Rattle.nk_backward.specs.declared.transitions.Transitions.{Transitions}
 use Rattle.nk_backward.specs.Transitions.{transitions_at, AreAllGiven, IsLed, LeadsInto}
 use Rattle.nk_backward.specs.Places.{AreAllPlaces}
-use Rattle.nk_backward.specs.Closures.{AreFound, IsGained, IsClosure}
-use Rattle.nk_backward.specs.Sweeps.{IsLedOut, IsLedBy, IsTakenBack, IsSwept}
-use Rattle.nk_backward.proofs.Listing.{under_or_not}
+use Rattle.nk_backward.specs.Closures.{AreFound, IsClosure}
+use Rattle.nk_backward.specs.Sweeps.{IsLedOut, IsLedBy, IsWidened, IsTakenBack, IsSwept}
 use Rattle.nk_backward.proofs.Tracing.{given_in_range, led_in_range, led_on}
-use Rattle.nk_backward.proofs.Gaining.{sets_on, gained_before, found_then}
+use Rattle.nk_backward.proofs.Gaining.{sets_on, found_then}
+use Rattle.nk_backward.proofs.Widening.{widened_before}
 use Rattle.nk_backward.proofs.Taking.{leads_on, leads_grow}
 
 -- an out to a set that has no entry leads to no entry
@@ -88,10 +88,9 @@ led_push a st new t k q all mid more g given sets l is first second =
         (c.0, (c.2.0, q.out.act, gives_last a t.outs k q z (sent_to q.out.act (c.2.0 + 1)) l is (out_is q.out c.2.0 c.2.1) (has_back a st q.packets z g kept.packets.id c.1), under_back a st all c.2.0 (applied q.out.act z) g sets c.2.2))
 
 -- what was found came
-pub taken_back : (st s1 new : StoreState) (t : Transitions) (found back all next : List (ℕ × ℕ)) → Grows st s1 → HaveSets st back → Once back → AreFound st (IsLedBy st t (length t.outs) back) [] s1 found → IsGained s1 (Under s1 found) back [] new all next →
-    IsGained st (IsLedBy st t (length t.outs) back) back [] new all next
-taken_back st s1 new t found back all next g sets once f m =
-    gained_before st s1 new (Under s1 found) (IsLedBy st t (length t.outs) back) back [] all next g sets once tt tt m
+pub taken_back : (st s1 new : StoreState) (t : Transitions) (found back all : List (ℕ × ℕ)) (none : Bool) → Grows st s1 → HaveSets st back → Once back → AreFound st (IsLedBy st t (length t.outs) back) [] s1 found → IsWidened s1 (Under s1 found) back new all none → IsTakenBack st t back new all none
+taken_back st s1 new t found back all none g sets once f m =
+    widened_before st s1 new (Under s1 found) (IsLedBy st t (length t.outs) back) back all none g sets once m
     (λ i z w u. elim (f.from i z w u) [ inl none ↦ absurd none | inr c ↦ c ]) (λ i z w c. f.every i z w c)
 
 -- the place that stands at a number of the order
@@ -131,7 +130,7 @@ pub swept_next : (a st new : StoreState) (ts : List Transitions) (order : List (
     IsSweptSoFar a ts order goal st back k closed → Grows st new → IsTakenBack st (transitions_at ts j) back new all none → IsSweptSoFar a ts order goal new all (k + 1) (closed && none)
 swept_next a st new ts order goal back all k j closed none given lj is was g m = record {
   grows = grows_on a st new was.grows g;
-  sound = λ i z w u. elim (m.1.from i z (on z w) u) [
+  sound = λ i z w u. elim (m.from i z (on z w) u) [
     | inl old ↦ was.sound i z w old
     | inr came ↦
         let y : List ℕ = applied came.1.1 z in
@@ -139,9 +138,9 @@ swept_next a st new ts order goal back all k j closed none given lj is was g m =
         let rest = was.sound came.1.0 y (led_in_range a ts i z came.1.0 y given w led) came.1.3 in
         (suc rest.0, (came.1.0, y, led, rest.1))
   ];
-  kept = λ i z w u. m.1.kept i z (on z w) (was.kept i z w u);
-  packets = m.1.packets;
-  once = m.1.once;
+  kept = λ i z w u. m.kept i z (on z w) (was.kept i z w u);
+  packets = m.packets;
+  once = m.once;
   same = λ e i z w u. let b = both_pass closed none e in was.same b.0 i z w (stayed b.1 i z w u);
   done = λ e n l i z w c.
       let b = both_pass closed none e in
@@ -149,7 +148,7 @@ swept_next a st new ts order goal back all k j closed none given lj is was g m =
         | inl here ↦
             let at : place_in order n ≡ j = ap (λ r. place_in order r) here.1 ∙ is in
             let old : IsLedBy a t (length t.outs) goal i z = subst (λ r. IsLedBy a (transitions_at ts r) (length (transitions_at ts r).outs) goal i z) at c in
-            was.same b.0 i z w (stayed b.1 i z w (m.1.every i z (on z w) (led_now i z w old)))
+            was.same b.0 i z w (stayed b.1 i z w (m.every i z (on z w) (led_now i z w old)))
         | inr other ↦ was.done b.0 n (omega (arith, l, other.1)) i z w c
       ];
 }
@@ -161,10 +160,7 @@ swept_next a st new ts order goal back all k j closed none given lj is was g m =
     on z w = packet_on a st z was.grows w
 
     stayed : none ≡ true → (i : ℕ) (z : List ℕ) → IsStorePacket a z → Under new all i z → Under st back i z
-    stayed e i z w u = elim (under_or_not st back i z) [
-      | inl there ↦ there
-      | inr not ↦ absurd (subst (λ (ps : List (ℕ × ℕ)). Under new ps i z) (m.2 e) (m.1.next_new i z (on z w) u not))
-    ]
+    stayed e i z w u = m.same e i z (on z w) u
 
     led_now : (i : ℕ) (z : List ℕ) → IsStorePacket a z → IsLedBy a t (length t.outs) goal i z → IsLedBy st t (length t.outs) back i z
     led_now i z w c =

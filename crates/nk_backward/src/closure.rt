@@ -289,7 +289,7 @@ pub(crate) fn led_to(st: &mut Store, o: &Given, x: Id) -> Result<Id, AllocError>
 
 /// Adds those of the found packets that don't stand under their sets yet. Those of one set that stand next to each other go in at
 /// once.
-pub(crate) fn put_all_new(
+fn put_all_new(
     st: &mut Store,
     found: &[(SetId, Id)],
     back: &mut IndexMap<SetId, Id>,

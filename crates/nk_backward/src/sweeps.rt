@@ -1,23 +1,26 @@
 //! Entries taken back along all transitions in turn, some times over.
-ghost use Rattle.std.specs.Prelude.{◌≡◌, ◌&&◌, [], true, IfOk, OnOk, length};
+ghost use Rattle.std.specs.Prelude.{◌≡◌, ◌&&◌, ℕ, [], true, Some, IfOk, OnOk, length};
 ghost use Rattle.nk_store.specs.StoreState.{Grows};
-ghost use Rattle.nk_sets.specs.PacketSets.{IsSet};
-ghost use Rattle.nk_determ.specs.Pairs.{Once};
+ghost use Rattle.nk_sets.specs.PacketSets.{is_in, IsSet};
+ghost use Rattle.nk_determ.specs.Pairs.{Under, Once};
 ghost use Rattle.nk_outs.specs.Outs.{AreGiven};
 ghost use Rattle.nk_goal.specs.Entries.{HaveSets};
 ghost use Rattle.nk_backward.specs.Transitions.{AreAllGiven};
 ghost use Rattle.nk_backward.specs.Places.{AreAllPlaces};
 ghost use Rattle.nk_backward.specs.Closures.{AreFound};
-ghost use Rattle.nk_backward.specs.Sweeps.{IsLedOut, IsLedBy, IsTakenBack, IsSwept};
+ghost use Rattle.nk_backward.specs.Sweeps.{IsLedOut, IsLedBy, IsWidened, IsTakenBack, IsSwept};
 
-use crate::closure::{led_to, put_all_new};
+use crate::closure::led_to;
 use crate::postorder::{Rank, in_postorder};
+use crate::predecessors::{run_of_set, set_at};
 use crate::transitions::Transitions;
 use indexmap::IndexMap;
+use nk_apply::union_all;
 use nk_determ::SetId;
 use nk_field::List;
-use nk_goal::under;
+use nk_goal::{add, under};
 use nk_outs::Given;
+use nk_sets::is_empty;
 use nk_store::{Id, Store};
 use std::alloc::AllocError;
 
@@ -94,15 +97,62 @@ fn sweep_one(
         (λ none. IsTakenBack st.old t.now back.old.entries st.new back.new.entries none) }
 {
     let found = led_from(st, t, back)?;
-    let next = put_all_new(st, found.as_slice(), back)?;
-    Ok(has_none(&next))
+    let none = put_all(st, found.as_slice(), back)?;
+    Ok(none)
 }
 
-/// Whether there are no entries.
-fn has_none(ps: &List<(SetId, Id)>) -> bool
-    ensures { result ≡ true → ps.now ≡ [] }
+/// Adds the found packets under their sets. The answer is true only if none is new there. Those of one set that stand next to each
+/// other go in at once.
+fn put_all(
+    st: &mut Store,
+    found: &[(SetId, Id)],
+    back: &mut IndexMap<SetId, Id>,
+) -> Result<bool, AllocError>
+    requires found { HaveSets st.old found.now }
+    requires back { HaveSets st.old back.old.entries }
+    requires once { Once back.old.entries }
+    ensures grows { Grows st.old st.new }
+    ensures ok { IfOk result (λ none. IsWidened st.old
+        (Under st.old found.now) back.old.entries st.new back.new.entries none) }
 {
-    ps.len() == 0
+    let mut none = true;
+    let mut from = 0;
+    while from < found.len() {
+        let (to, run) = run_of_set(st.alloc(), found, from)?;
+        let y = union_all(st, run.as_slice())?;
+        let known = put(st, set_at(found, from), y, back)?;
+        none = both_hold(none, known);
+        from = to;
+    }
+    Ok(none)
+}
+
+/// Adds packets under a set. The answer is true only if none is new there: the set's diagram stays the same.
+fn put(st: &mut Store, s: SetId, y: Id, back: &mut IndexMap<SetId, Id>) -> Result<bool, AllocError>
+    requires packets { IsSet st.old y }
+    requires back { HaveSets st.old back.old.entries }
+    requires once { Once back.old.entries }
+    ensures grows { Grows st.old st.new }
+    ensures ok { IfOk result (λ none. IsWidened st.old (λ i z. (i ≡ s)
+        × (is_in st.old y z ≡ true)) back.old.entries st.new back.new.entries none) }
+{
+    if is_empty(st, y) {
+        return Ok(true);
+    }
+    let before = under(back, s);
+    add(st, back, s, y)?;
+    let after = under(back, s);
+    Ok(is_same(before, after))
+}
+
+/// Whether both are there and the same.
+fn is_same(before: Option<Id>, after: Option<Id>) -> bool
+    ensures { result ≡ true → (x : ℕ) × (before ≡ Some x) × (after ≡ Some x) }
+{
+    match (before, after) {
+        (Some(a), Some(b)) => a == b,
+        _ => false,
+    }
 }
 
 /// The packets from where the transitions of one place lead into the entries, those of each out by themselves.
