@@ -8,6 +8,7 @@ pub mod Putting
 pub mod Taking
 pub mod Missing
 pub mod Sided
+pub mod Restricting
 pub mod Starting
 pub mod Placing
 pub mod Widening

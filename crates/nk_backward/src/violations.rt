@@ -1,6 +1,7 @@
 //! The packets at which one side has a violation.
 ghost use Rattle.std.specs.Prelude.{◌≡◌, ◌<◌, ℕ, [], IfOk, OnOk, length, slice_index_or, List as Items};
 ghost use Rattle.nk_store.specs.StoreState.{StoreState, IsId, look, Grows, HasLeaves};
+ghost use Rattle.nk_apply.specs.Leaves.{guarded};
 ghost use Rattle.nk_sets.specs.PacketSets.{IsSet};
 ghost use Rattle.nk_determ.specs.Pairs.{AreLabelsBelow, EachPair, IsPair, Once};
 ghost use Rattle.nk_goal.specs.Entries.{HaveSets, IsAdded};
@@ -40,8 +41,7 @@ pub(crate) fn violations<G: Goal>(
     let mut back = IndexMap::new(st.alloc());
     for k in 0..entries.len() {
         let (s, x) = *entries.at(k);
-        let d = side_violations(st, ss, s, g, side)?;
-        let bad = at_packets(st, d, x)?;
+        let bad = side_violations(st, ss, s, x, g, side)?;
         add_some(st, &mut back, s, bad)?;
     }
     let all = listed(st.alloc(), back)?;
@@ -67,21 +67,25 @@ fn add_some(
     add(st, back, s, y)
 }
 
-/// The diagram of one side's violations of a set.
+/// The packets of x at which one side has a violation of a set. A side is taken from the violations there alone.
 fn side_violations<G: Goal>(
     st: &mut Store,
     ss: &Sets,
     s: SetId,
+    x: Id,
     g: &mut G,
     side: Side,
 ) -> Result<Id, AllocError>
     requires fits { G.fits g.old st.old }
     requires set { s < length ss.now }
     requires places { AreLabelsBelow (G.labels g.old) (slice_index_or ss.now s []) }
+    requires packets { IsId st.old x }
     ensures grows { Grows st.old st.new }
     ensures ok { IfOk result
-        (λ d. HasLeaves st.new d
-        (λ pk. of_side side (G.violations_of g.old st.old (slice_index_or ss.now s []) pk))) }
+        (λ r. HasLeaves st.new r
+        (λ pk. guarded
+        (of_side side (G.violations_of g.old st.old (slice_index_or ss.now s []) pk))
+        (look st.old x pk))) }
     ensures fits { OnOk result (G.fits g.new st.new) }
     ensures labels { OnOk result (G.labels g.new ≡ G.labels g.old) }
     ensures same { OnOk result
@@ -89,8 +93,10 @@ fn side_violations<G: Goal>(
         → G.violations_of g.new st set pk ≡ G.violations_of g.old st set pk) }
 {
     let all = g.bad(st, ss, s)?;
-    let own = only_side(st, all, side)?;
-    Ok(own)
+    let there = at_packets(st, x, all)?;
+    let own = only_side(st, there, side)?;
+    let r = at_packets(st, own, x)?;
+    Ok(r)
 }
 
 /// Of a diagram of violations those of one side.
