@@ -21,7 +21,7 @@ use Rattle.nk_apply.proofs.Members.{Has, contains_has, has_contains}
 use Rattle.nk_auto.specs.Plain.{Sends}
 use Rattle.nk_auto.specs.Continued.{IsFit, IsSilent}
 use Rattle.nk_auto.specs.Values.{is_between, KeepsWhere, IsConstant, gap}
-use Rattle.nk_auto.specs.ByValue.{arm_leaf, IsArm, AreBehind, AreArms, HaveOwnValues}
+use Rattle.nk_auto.specs.ByValue.{arm_leaf, IsArm, AreChildDiagrams, AreArms, HaveOwnValues}
 use Rattle.nk_auto.proofs.OneOut.{clipped}
 use Rattle.nk_auto.proofs.Sending.{out_of, sends_on, sends_back}
 use Rattle.nk_auto.proofs.Silences.{every_same, fit_before, packet_before}
@@ -32,9 +32,9 @@ abbrev pub Arm : Type 0
 Arm = (ℕ × ℕ) × ℕ
 
 -- a test and what is after it
-pub arm_behind : (st : StoreState) (f d : ℕ) (ends : ℕ × ℕ) (p : Policy) (ps : Policies) → KeepsWhere f (ends ∷ []) p →
+pub arm_child : (st : StoreState) (f d : ℕ) (ends : ℕ × ℕ) (p : Policy) (ps : Policies) → KeepsWhere f (ends ∷ []) p →
     IsSilent st d (seq_of ps) → IsChild st f d → IsArm st f (ends, d) (seq_of (part p ps))
-arm_behind st f d ends p ps keeps a child = record {
+arm_child st f d ends p ps keeps a child = record {
   child = child;
   ends = a.ends;
   sends = λ fit pk y t r.
@@ -57,12 +57,12 @@ arm_behind st f d ends p ps keeps a child = record {
 -- arms stay so in a store that grew
 pub arms_grow : (old new : StoreState) (f : ℕ) (xs : List Arm) (p : Policy) → Grows old new → AreArms old f xs p → AreArms new f xs p
 arms_grow old new f xs p g h = record {
-  behind = λ x c. child_grows old new f x.1 g (h.behind x c);
-  ends = λ x c pk w. every_same (λ o. o.target ≡ 0) _ _ (g.leaves x.1 pk (h.behind x c).id) (h.ends x c pk w);
+  children = λ x c. child_grows old new f x.1 g (h.children x c);
+  ends = λ x c pk w. every_same (λ o. o.target ≡ 0) _ _ (g.leaves x.1 pk (h.children x c).id) (h.ends x c pk w);
   sends = λ fit pk y t r.
       let both = h.sends (fit_before old new p g fit) pk y t (packet_before old new pk g r) in (
-        λ s. both.0 (s.0, s.1, s.2, sends_back old new s.0.1 pk y t g (h.behind s.0 s.1).id s.3),
-        λ s. let k = both.1 s in (k.0, k.1, k.2, sends_on old new k.0.1 pk y t g (h.behind k.0 k.1).id k.3),
+        λ s. both.0 (s.0, s.1, s.2, sends_back old new s.0.1 pk y t g (h.children s.0 s.1).id s.3),
+        λ s. let k = both.1 s in (k.0, k.1, k.2, sends_on old new k.0.1 pk y t g (h.children k.0 k.1).id k.3),
       );
 }
 
@@ -73,7 +73,7 @@ arms_more st f x xs more p ps pushed one a = subst (λ l. AreArms st f l (sum_of
   where
     both : AreArms st f (xs ++ x ∷ []) (sum_of (part p ps))
     both = record {
-      behind = λ z c. ⊎_elim (λ k. a.behind z k) (λ e. subst (λ u. IsChild st f u.1) e one.child) (Contains-push_cases xs x z c);
+      children = λ z c. ⊎_elim (λ k. a.children z k) (λ e. subst (λ u. IsChild st f u.1) e one.child) (Contains-push_cases xs x z c);
       ends = λ z c pk w.
           ⊎_elim
           (λ k. a.ends z k pk w)
@@ -101,7 +101,7 @@ pub arms_moved : (st : StoreState) (f : ℕ) (xs ys : List Arm) (p : Policy) →
 arms_moved st f xs ys p moved a =
     let back = λ (x : Arm) (c : Contains ys x). Contains-permutation ys xs x (IsPermutation-sym xs ys moved) c in
     record {
-      behind = λ x c. a.behind x (back x c);
+      children = λ x c. a.children x (back x c);
       ends = λ x c. a.ends x (back x c);
       sends = λ fit pk y t r. (
         λ s. (a.sends fit pk y t r).0 (s.0, back s.0 s.1, s.2, s.3),
@@ -219,12 +219,12 @@ arm_built st f from outside x ps xs h le rise child o below b =
 
 -- what is put for the interval at a place
 pub arm_step : (st : StoreState) (f from i outside : ℕ) (x : Arm) (arms : List Arm) (ps mid more : List (ℕ × ℕ)) → f < 18 → i < length arms →
-    x ≡ get_or arms i x → from ≤ x.0.0 → x.0.0 ≤ x.0.1 → AreBehind st f arms → IsConstant st outside [] →
+    x ≡ get_or arms i x → from ≤ x.0.0 → x.0.0 ≤ x.0.1 → AreChildDiagrams st f arms → IsConstant st outside [] →
     AreBelow from (take i arms) → mid ≡ ps ++ gap from x.0.0 outside → more ≡ mid ++ (x.0.1, x.1) ∷ [] →
     Built (by_arm st (take i arms)) st f from ps → Built (by_arm st (take (i + 1) arms)) st f (x.0.1 + 1) more
-arm_step st f from i outside x arms ps mid more h l is le rise behind o below first second b =
+arm_step st f from i outside x arms ps mid more h l is le rise children o below first second b =
     let put : more ≡ (ps ++ gap from x.0.0 outside) ++ (x.0.1, x.1) ∷ [] = second ∙ ap (λ qs. qs ++ (x.0.1, x.1) ∷ []) first in
-    let child : IsChild st f x.1 = behind x (i, l, sym is) in
+    let child : IsChild st f x.1 = children x (i, l, sym is) in
     subst (λ vs. Built (by_arm st vs) st f (x.0.1 + 1) more) (sym (take_next arms i x l is))
     (subst (λ qs. Built (by_arm st (take i arms ++ x ∷ [])) st f (x.0.1 + 1) qs) (sym put) (arm_built st f from outside x ps (take i arms) h le rise child o below b))
 

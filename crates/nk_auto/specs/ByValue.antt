@@ -28,12 +28,12 @@ abbrev pub OneArmSends : StoreState → ℕ → List ((ℕ × ℕ) × ℕ) → L
 OneArmSends st f xs pk y t = (x : (ℕ × ℕ) × ℕ) × Contains xs x × (is_between (slice_index pk f) x.0 ≡ true) × Sends st x.1 pk y t
 
 -- each diagram tests later fields alone
-abbrev pub AreBehind : StoreState → ℕ → List ((ℕ × ℕ) × ℕ) → Type 0
-AreBehind st f xs = (x : (ℕ × ℕ) × ℕ) → Contains xs x → IsChild st f x.1
+abbrev pub AreChildDiagrams : StoreState → ℕ → List ((ℕ × ℕ) × ℕ) → Type 0
+AreChildDiagrams st f xs = (x : (ℕ × ℕ) × ℕ) → Contains xs x → IsChild st f x.1
 
 -- without a record the policy ends where the field's value is in one of the intervals, as the diagram of that one says
 pub record AreArms (st : StoreState) (f : ℕ) (xs : List ((ℕ × ℕ) × ℕ)) (p : Policy) : Type 0 where
-  pub behind : AreBehind st f xs
+  pub children : AreChildDiagrams st f xs
   pub ends : (x : (ℕ × ℕ) × ℕ) → Contains xs x → HasOnlyFinals (look st x.1)
   pub sends : IsFit st.maxes p → (pk y : List ℕ) (t : ℕ) → IsStorePacket st pk →
       OneArmSends st f xs pk y t ↔ ((t ≡ 0) × Gives p pk [] y)

@@ -5,7 +5,7 @@ ghost use Rattle.nk_store.specs.StoreState.{IsId, IsChild, Grows};
 ghost use Rattle.nk_apply.specs.Unions.{HaveParts};
 ghost use Rattle.nk_auto.specs.Continued.{IsSilent};
 ghost use Rattle.nk_auto.specs.Values.{IsConstant};
-ghost use Rattle.nk_auto.specs.ByValue.{arm_leaf, AreBehind, AreArms, HaveOwnValues};
+ghost use Rattle.nk_auto.specs.ByValue.{arm_leaf, AreChildDiagrams, AreArms, HaveOwnValues};
 
 use crate::values::{push_gap, tested_value};
 use nk_algebra::empty;
@@ -122,7 +122,7 @@ fn is_rising(intervals: &[(u64, u64)], max: u64) -> bool {
 }
 
 /// Whether a diagram tests fields after this one alone.
-pub(crate) fn is_behind(st: &Store, f: Fid, d: Id) -> bool
+pub(crate) fn is_child(st: &Store, f: Fid, d: Id) -> bool
     requires { IsId st.now d }
     ensures { result ≡ true → IsChild st.now f d }
 {
@@ -140,7 +140,7 @@ pub(crate) fn choice_between(
     f: Fid,
     arms: &List<((u64, u64), Id)>,
 ) -> Result<Option<Id>, AllocError>
-    requires { AreBehind st.old f arms.now }
+    requires { AreChildDiagrams st.old f arms.now }
     ensures grows { Grows st.old st.new }
     ensures ok { IfOk result
         (λ o. IfSome o (λ d. (p : Policy) → AreArms st.old f arms.now p → IsSilent st.new d p)) }
@@ -164,7 +164,7 @@ fn arm_parts(
     outside: Id,
 ) -> Result<Option<List<(u64, Id)>>, AllocError>
     requires field { f < 18 }
-    requires behind { AreBehind st.now f arms.now }
+    requires children { AreChildDiagrams st.now f arms.now }
     requires outside { IsConstant st.now outside [] }
     ensures parts { IfOk result (λ o. IfSome o
         (HaveParts st.now f (λ v pk.

@@ -17,7 +17,7 @@ use std::alloc::AllocError;
 /// What a sequence does from a place on: the predicates that stand there side by side, as one, and the diagram of what is
 /// after them.
 #[derive(Clone, Copy)]
-pub struct Behind {
+pub struct GuardedRest {
     /// The diagram of the predicates; it holds for all packets where there is none.
     pub guard: Id,
     /// The diagram of what is after the predicates.
@@ -25,18 +25,18 @@ pub struct Behind {
 }
 
 /// A diagram with no predicate before it.
-pub fn unguarded(st: &mut Store, rest: Id) -> Result<Behind, AllocError>
+pub fn unguarded(st: &mut Store, rest: Id) -> Result<GuardedRest, AllocError>
     ensures grows { Grows st.old st.new }
     ensures ok { IfOk result
         (λ b. (p : Policy) (k : ℕ) → IsContinued st.old rest p k
         → IsGuarded st.new b.guard b.rest p k) }
 {
     let guard = identity(st)?;
-    Ok(Behind { guard, rest })
+    Ok(GuardedRest { guard, rest })
 }
 
 /// The predicates and what is after them as one diagram. The walk goes along the packets of the predicates alone.
-pub fn put_together(st: &mut Store, following: Behind) -> Result<Id, AllocError>
+pub fn put_together(st: &mut Store, following: GuardedRest) -> Result<Id, AllocError>
     requires guard { IsId st.old following.guard }
     requires rest { IsId st.old following.rest }
     ensures grows { Grows st.old st.new }
@@ -50,7 +50,7 @@ pub fn put_together(st: &mut Store, following: Behind) -> Result<Id, AllocError>
 }
 
 /// Puts one more predicate, `d`, before the predicates; what is after them stays.
-pub fn guarded_by(st: &mut Store, d: Id, following: Behind) -> Result<Behind, AllocError>
+pub fn guarded_by(st: &mut Store, d: Id, following: GuardedRest) -> Result<GuardedRest, AllocError>
     requires id { IsId st.old d }
     requires guard { IsId st.old following.guard }
     ensures grows { Grows st.old st.new }
@@ -61,7 +61,7 @@ pub fn guarded_by(st: &mut Store, d: Id, following: Behind) -> Result<Behind, Al
         → IsGuarded st.new b.guard b.rest (seq_of (part p ps)) k) }
 {
     let guard = both(st, d, following.guard)?;
-    Ok(Behind {
+    Ok(GuardedRest {
         guard,
         rest: following.rest,
     })

@@ -9,7 +9,7 @@ ghost use Rattle.nk_auto.specs.Continued.{IsSilent};
 ghost use Rattle.nk_auto.specs.ByValue.{IsArm, AreArms, AreAssignments};
 
 use crate::assignments::{assignment_after, drawn_once};
-use crate::by_value::{choice_between, common_field, is_behind};
+use crate::by_value::{choice_between, common_field, is_child};
 use crate::one_field::{range_where, set_where, test_where};
 use crate::values::{tested_value, tests_of_sum, tests_together};
 use nk_algebra::{empty, identity, negate, seq, union_all};
@@ -216,7 +216,7 @@ fn arm_of_all(
         return Ok(None);
     };
     let d = what_follows(st, ps, drawn)?;
-    if is_behind(st, f, d) {
+    if is_child(st, f, d) {
         Ok(Some((ends, d)))
     } else {
         Ok(None)

@@ -12,7 +12,7 @@ use crate::going_on::{
     after_dupless, after_not, after_predicate, after_range, after_set, after_test, before_dup,
     is_predicate_sum, is_wide_sum, link_rest, link_start, star_without_dup,
 };
-use crate::guards::{Behind, guard_of, guarded_by, put_together, unguarded};
+use crate::guards::{GuardedRest, guard_of, guarded_by, put_together, unguarded};
 use crate::nested::{BothWays, around, holds_star, nests, put_before};
 use crate::silence::{silent, silent_star};
 use nk_algebra::{empty, identity, seq, union, union_all};
@@ -317,7 +317,7 @@ fn write_all(
 fn write_first(
     st: &mut Store,
     p: &Pol,
-    following: Behind,
+    following: GuardedRest,
     base: u32,
     states: &mut List<Id>,
 ) -> Result<(), AllocError>
@@ -452,10 +452,10 @@ fn all_with_states(
 fn part_with_states(
     st: &mut Store,
     p: &Pol,
-    following: Behind,
+    following: GuardedRest,
     base: u32,
     states: &mut List<Id>,
-) -> Result<Behind, AllocError>
+) -> Result<GuardedRest, AllocError>
     requires guard { IsId st.old following.guard }
     requires rest { IsId st.old following.rest }
     ensures grows { Grows st.old st.new }

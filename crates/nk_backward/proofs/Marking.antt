@@ -10,7 +10,7 @@ use Rattle.nk_store.specs.StoreState.{StoreState, IsId, IsWhole, IsStorePacket, 
 use Rattle.nk_store.proofs.Stores.{grows_on}
 use Rattle.nk_apply.specs.Leaves.{guarded}
 use Rattle.nk_sets.specs.PacketSets.{has_some_out, is_in, IsImage}
-use Rattle.nk_outs.specs.declared.outs.Given.{Given}
+use Rattle.nk_outs.specs.declared.outs.OutPackets.{OutPackets}
 use Rattle.nk_outs.specs.Outs.{entry}
 use Rattle.nk_outs.proofs.Kept.{packet_on, has_on, get_or_same}
 use Rattle.nk_outs.proofs.Givens.{entry_at}
@@ -89,7 +89,7 @@ pub place_here : (ts : List Transitions) (places : List (ℕ × ℕ)) (n : ℕ) 
 place_here ts places n p are l is = (are p).0 (n, l, sym is)
 
 -- the out of a transition by its two indices
-pub out_here : (ts : List Transitions) (p : ℕ × ℕ) (t : Transitions) (q : Given) → p.0 < length ts → p.1 < length (transitions_at ts p.0).outs → t ≡ get_or ts p.0 t → q ≡ get_or t.outs p.1 q → q ≡ out_at ts p
+pub out_here : (ts : List Transitions) (p : ℕ × ℕ) (t : Transitions) (q : OutPackets) → p.0 < length ts → p.1 < length (transitions_at ts p.0).outs → t ≡ get_or ts p.0 t → q ≡ get_or t.outs p.1 q → q ≡ out_at ts p
 out_here ts p t q l m is_t is_q =
     let t_is : t ≡ transitions_at ts p.0 = at_place ts p.0 t l is_t in
     let k : p.1 < length t.outs = subst (λ (u : Transitions). p.1 < length u.outs) (sym t_is) m in
@@ -121,7 +121,7 @@ pub shows_back : (a b : StoreState) (ds : List (ℕ × ℕ)) (k t : ℕ) (y : Li
 shows_back a b ds k t y o g h l s = (s.0, s.1, s.2, subst (λ (os : List Out). Contains os o) (g.leaves (diagram_at ds s.0).1 y (h s.0 (omega (arith, l, s.1)))) s.3)
 
 -- an end has no diagram
-pub marked_end : (st : StoreState) (q : Given) (n : ℕ) (old : List (ℕ × ℕ)) → HaveDiagrams st old → q.out.target ≡ 0 → IsMarked st q n old st old
+pub marked_end : (st : StoreState) (q : OutPackets) (n : ℕ) (old : List (ℕ × ℕ)) → HaveDiagrams st old → q.out.target ≡ 0 → IsMarked st q n old st old
 marked_end st q n old ids e = record {
   ids = ids;
   from = λ t y o w s. inl s;
@@ -151,7 +151,7 @@ guarded_some st s y d h = by (look st s y) refl
     by (x ∷ xs) e = ap (λ (p : List Out). guarded p d) e
 
 -- the diagram of a transition
-pub marked_some : (st s1 s2 new : StoreState) (q : Given) (n t made mark d : ℕ) (old all : List (ℕ × ℕ)) → Grows st s1 → Grows s1 s2 → Grows s2 new → IsActFrom st.maxes 0 q.out.act → HaveDiagrams st old → t + 1 ≡ q.out.target → IsImage st q.out.act q.packets s1 made → HasLeaves s2 mark (λ pk. transition_out n ∷ []) →
+pub marked_some : (st s1 s2 new : StoreState) (q : OutPackets) (n t made mark d : ℕ) (old all : List (ℕ × ℕ)) → Grows st s1 → Grows s1 s2 → Grows s2 new → IsActFrom st.maxes 0 q.out.act → HaveDiagrams st old → t + 1 ≡ q.out.target → IsImage st q.out.act q.packets s1 made → HasLeaves s2 mark (λ pk. transition_out n ∷ []) →
     HasLeaves new d (λ pk. guarded (look s2 made pk) (look s2 mark pk)) → all ≡ old ++ (t, d) ∷ [] → IsMarked st q n old new all
 marked_some st s1 s2 new q n t made mark d old all g1 g2 g3 suits ids to image leaf cut is = record {
   ids = subst (HaveDiagrams new) (sym is) (λ k l. elim (eqb_tells k (length old)) [
@@ -209,13 +209,13 @@ marked_start st ts places = record {
 }
 
 -- one transition more
-pub marked_push : (a st new : StoreState) (ts : List Transitions) (places : List (ℕ × ℕ)) (k : ℕ) (q : Given) (ds all : List (ℕ × ℕ)) → Grows a st → AreAllGiven a ts → ArePlacesBelow ts (length ts) places → k < length places → q ≡ out_at ts (place_at places k) → AreMarked a ts places k st ds →
+pub marked_push : (a st new : StoreState) (ts : List Transitions) (places : List (ℕ × ℕ)) (k : ℕ) (q : OutPackets) (ds all : List (ℕ × ℕ)) → Grows a st → AreAllGiven a ts → ArePlacesBelow ts (length ts) places → k < length places → q ≡ out_at ts (place_at places k) → AreMarked a ts places k st ds →
     IsMarked st q k ds new all → AreMarked a ts places (k + 1) new all
 marked_push a st new ts places k q ds all g given are l is was one = record {
   ids = one.ids;
   goes = λ t y o w s. elim (one.from t y o (packet_on a st y g w) s) [
     | inl old ↦ was.goes t y o w old
-    | inr now ↦ (k, now.0, (l, subst (λ (e : Given). e.out.target ≡ t + 1) is now.1))
+    | inr now ↦ (k, now.0, (l, subst (λ (e : OutPackets). e.out.target ≡ t + 1) is now.1))
   ];
   comes = λ n t z m w i h. elim (eqb_tells n k) [
     | inr other ↦ one.kept t (packet_made ts places n z) (transition_out n) (was.comes n t z (omega (arith, m, other.1)) w i h)
@@ -223,8 +223,8 @@ marked_push a st new ts places k q ds all g given are l is was one = record {
         let e : q ≡ out_at ts (place_at places n) = is ∙ ap (λ (j : ℕ). out_at ts (place_at places j)) (sym same.1) in
         let at = place_is ts places n are i.0 in
         let has : is_in st (out_at ts (place_at places n)).packets z ≡ true = has_on a st (out_at ts (place_at places n)).packets z g (given (place_at places n).0 at.0 (place_at places n).1 at.1).packets.id h in
-        let shown = one.comes t z (packet_on a st z g w) (subst (λ (p : Given). p.out.target ≡ t + 1) (sym e) i.1) (subst (λ (p : Given). is_in st p.packets z ≡ true) (sym e) has) in
+        let shown = one.comes t z (packet_on a st z g w) (subst (λ (p : OutPackets). p.out.target ≡ t + 1) (sym e) i.1) (subst (λ (p : OutPackets). is_in st p.packets z ≡ true) (sym e) has) in
         subst (λ (j : ℕ). ShowsBelow new all (length all) t (packet_made ts places n z) (transition_out j)) (sym same.1)
-        (subst (λ (p : Given). ShowsBelow new all (length all) t (applied p.out.act z) (transition_out k)) e shown)
+        (subst (λ (p : OutPackets). ShowsBelow new all (length all) t (applied p.out.act z) (transition_out k)) e shown)
   ];
 }

@@ -10,7 +10,7 @@ use Rattle.nk_store.specs.StoreState.{StoreState, IsStorePacket, HasLeaves, look
 use Rattle.nk_store.proofs.Stores.{grows_on}
 use Rattle.nk_apply.specs.Leaves.{guarded}
 use Rattle.nk_sets.specs.PacketSets.{is_in}
-use Rattle.nk_outs.specs.declared.outs.Given.{Given}
+use Rattle.nk_outs.specs.declared.outs.OutPackets.{OutPackets}
 use Rattle.nk_outs.specs.Outs.{IsByOut, sent_to}
 use Rattle.nk_outs.proofs.Kept.{packet_on, packet_back, has_back}
 use Rattle.nk_witness.proofs.Pulling.{out_is}
@@ -89,7 +89,7 @@ predecessors_made st s1 new ts places ds all into g1 g2 given are marked moved j
     g = grows_on st s1 new g1 g2
 
 -- what a set's diagram has at some packets
-pub shown_some : (st s1 new : StoreState) (into : List (ℕ × ℕ)) (t x d e : ℕ) (es : List Given) → lookup (eqb t) into ≡ Some d → Grows st s1 → Grows s1 new → HasLeaves s1 e (λ pk. guarded (look st x pk) (look st d pk)) → IsByOut new e es → AreShownAt st into t x new es
+pub shown_some : (st s1 new : StoreState) (into : List (ℕ × ℕ)) (t x d e : ℕ) (es : List OutPackets) → lookup (eqb t) into ≡ Some d → Grows st s1 → Grows s1 new → HasLeaves s1 e (λ pk. guarded (look st x pk) (look st d pk)) → IsByOut new e es → AreShownAt st into t x new es
 shown_some st s1 new into t x d e es found g1 g2 h by = record {
   given = by.given;
   goes = λ y o w m.

@@ -10,7 +10,7 @@ use Rattle.nk_store.proofs.Stores.{grows_on}
 use Rattle.nk_sets.specs.PacketSets.{is_in, IsSet, IsPacketSetOf}
 use Rattle.nk_sets.proofs.SetLemmas.{both_pass, pass_both}
 use Rattle.nk_determ.specs.Pairs.{Under, Named, Once}
-use Rattle.nk_outs.specs.declared.outs.Given.{Given}
+use Rattle.nk_outs.specs.declared.outs.OutPackets.{OutPackets}
 use Rattle.nk_outs.specs.Outs.{AreGiven, IsGiven, sent_to}
 use Rattle.nk_outs.proofs.Kept.{Has, packet_on, has_on, has_back}
 use Rattle.nk_outs.proofs.Givens.{is_given_at, gives_on, gives_back, gives_more, gives_less, gives_last}
@@ -29,13 +29,13 @@ use Rattle.nk_backward.proofs.Widening.{widened_before}
 use Rattle.nk_backward.proofs.Taking.{leads_on, leads_grow}
 
 -- an out to a set that has no entry leads to no entry
-pub led_missing : (st : StoreState) (s : ℕ) (q : Given) (all : List (ℕ × ℕ)) (t i : ℕ) (z : List ℕ) → t + 1 ≡ q.out.target → lookup (eqb t) all ≡ None → IsLedOut st s q all i z → ⊥
+pub led_missing : (st : StoreState) (s : ℕ) (q : OutPackets) (all : List (ℕ × ℕ)) (t i : ℕ) (z : List ℕ) → t + 1 ≡ q.out.target → lookup (eqb t) all ≡ None → IsLedOut st s q all i z → ⊥
 led_missing st s q all t i z e miss m =
     let same : m.2.0 ≡ t = let k = m.2.1 in omega (arith, k, e) in
     not_found all t miss (subst (λ j. Named all j) same (under_named st all m.2.0 (applied q.out.act z) m.2.2))
 
 -- the packets that an out leads to those of its set's entry
-pub led_found : (st s1 : StoreState) (s : ℕ) (q : Given) (all : List (ℕ × ℕ)) (t x led : ℕ) (found more : List (ℕ × ℕ)) → Grows st s1 → HaveSets st found → Once all → lookup (eqb t) all ≡ Some x → t + 1 ≡ q.out.target →
+pub led_found : (st s1 : StoreState) (s : ℕ) (q : OutPackets) (all : List (ℕ × ℕ)) (t x led : ℕ) (found more : List (ℕ × ℕ)) → Grows st s1 → HaveSets st found → Once all → lookup (eqb t) all ≡ Some x → t + 1 ≡ q.out.target →
     IsPacketSetOf s1 led (λ pk. is_in st x (applied q.out.act pk) && is_in st q.packets pk) → more ≡ found ++ (s, led) ∷ [] → AreFound st (IsLedOut st s q all) found s1 more
 led_found st s1 s q all t x led found more g sets once here e is put = subst (AreFound st (IsLedOut st s q all) found s1) (sym put) (record {
   from = λ i z w u. elim (under_append s1 found ((s, led) ∷ []) i z u) [
@@ -62,7 +62,7 @@ led_found st s1 s q all t x led found more g sets once here e is put = subst (Ar
         (c.0, is.at z w.0 ∙ pass_both (is_in st x (applied q.out.act z)) (is_in st q.packets z) has c.1)
 
 -- an out more
-pub led_push : (a st new : StoreState) (t : Transitions) (k : ℕ) (q : Given) (all mid more : List (ℕ × ℕ)) → Grows a st → AreGiven a t.outs → HaveSets a all → k < length t.outs → q ≡ get_or t.outs k q →
+pub led_push : (a st new : StoreState) (t : Transitions) (k : ℕ) (q : OutPackets) (all mid more : List (ℕ × ℕ)) → Grows a st → AreGiven a t.outs → HaveSets a all → k < length t.outs → q ≡ get_or t.outs k q →
     AreFound a (IsLedBy a t k all) [] st mid → AreFound st (IsLedOut st t.source q all) mid new more → AreFound a (IsLedBy a t (k + 1) all) [] new more
 led_push a st new t k q all mid more g given sets l is first second =
     found_then a st new (IsLedBy a t k all) (IsLedOut st t.source q all) (IsLedBy a t (k + 1) all) [] mid more g first second parts left right

@@ -8,7 +8,7 @@ use Rattle.nk_store.proofs.Stores.{grows_on}
 use Rattle.nk_sets.specs.PacketSets.{is_in, IsSet, IsPacketSetOf}
 use Rattle.nk_sets.proofs.SetLemmas.{both_pass, pass_both}
 use Rattle.nk_determ.specs.Pairs.{Under, Once}
-use Rattle.nk_outs.specs.declared.outs.Given.{Given}
+use Rattle.nk_outs.specs.declared.outs.OutPackets.{OutPackets}
 use Rattle.nk_outs.specs.Outs.{entry, AreGiven}
 use Rattle.nk_goal.specs.Entries.{HaveSets, IsMerged}
 use Rattle.nk_outs.proofs.Kept.{Has, packet_on, has_on, has_back}
@@ -26,15 +26,15 @@ use Rattle.nk_backward.proofs.Preceding.{made_in_range, led_by, number_led}
 use Rattle.nk_backward.proofs.Gaining.{sets_on, found_then, found_before}
 
 -- what an out that stands for no transition takes back
-pub taken_none : (st : StoreState) (ts : List Transitions) (places : List (ℕ × ℕ)) (q : Given) (i : ℕ) (z : List ℕ) → ((n : ℕ) → n < length places → q.out.target ≡ n + 1 → ⊥) → IsTakenOut st ts places q i z → ⊥
+pub taken_none : (st : StoreState) (ts : List Transitions) (places : List (ℕ × ℕ)) (q : OutPackets) (i : ℕ) (z : List ℕ) → ((n : ℕ) → n < length places → q.out.target ≡ n + 1 → ⊥) → IsTakenOut st ts places q i z → ⊥
 taken_none st ts places q i z none k = none k.0 k.1 k.2
 
 -- the two indices that an out stands for are a transition's
-pub place_within : (ts : List Transitions) (places : List (ℕ × ℕ)) (q : Given) (p : ℕ × ℕ) → ArePlacesBelow ts (length ts) places → (n : ℕ) × (n < length places) × (q.out.target ≡ n + 1) × (p ≡ place_at places n) → (p.0 < length ts) × (p.1 < length (transitions_at ts p.0).outs)
+pub place_within : (ts : List Transitions) (places : List (ℕ × ℕ)) (q : OutPackets) (p : ℕ × ℕ) → ArePlacesBelow ts (length ts) places → (n : ℕ) × (n < length places) × (q.out.target ≡ n + 1) × (p ≡ place_at places n) → (p.0 < length ts) × (p.1 < length (transitions_at ts p.0).outs)
 place_within ts places q p are k = subst (λ (r : ℕ × ℕ). (r.0 < length ts) × (r.1 < length (transitions_at ts r.0).outs)) (sym k.3) (place_is ts places k.0 are k.1)
 
 -- the packets of an out taken back along its transition
-pub taken_one : (st s1 : StoreState) (ts : List Transitions) (places : List (ℕ × ℕ)) (q : Given) (p : ℕ × ℕ) (t : Transitions) (o : Given) (led : ℕ) (found more : List (ℕ × ℕ)) → Grows st s1 → HaveSets st found →
+pub taken_one : (st s1 : StoreState) (ts : List Transitions) (places : List (ℕ × ℕ)) (q : OutPackets) (p : ℕ × ℕ) (t : Transitions) (o : OutPackets) (led : ℕ) (found more : List (ℕ × ℕ)) → Grows st s1 → HaveSets st found →
     (n : ℕ) × (n < length places) × (q.out.target ≡ n + 1) × (p ≡ place_at places n) → t ≡ transitions_at ts p.0 → o ≡ entry t.outs p.1 → IsPacketSetOf s1 led (λ pk. is_in st q.packets (applied o.out.act pk) && is_in st o.packets pk) →
     more ≡ found ++ (t.source, led) ∷ [] → AreFound st (IsTakenOut st ts places q) found s1 more
 taken_one st s1 ts places q p t o led found more g sets k is_t is_o is put = subst (AreFound st (IsTakenOut st ts places q) found s1) (sym put) (record {
@@ -62,7 +62,7 @@ taken_one st s1 ts places q p t o led found more g sets k is_t is_o is put = sub
     on : (i : ℕ) (z : List ℕ) → IsStorePacket st z → (i ≡ t.source) × (is_in s1 led z ≡ true) → IsTakenOut st ts places q i z
     on i z w c =
         let two = both_pass (is_in st q.packets (applied o.out.act z)) (is_in st o.packets z) (sym (is.at z w.0) ∙ c.1) in
-        (n, k.1, k.2, ap (λ (u : Transitions). u.source) (sym t_is) ∙ sym c.0, subst (λ (e : Given). is_in st e.packets z ≡ true) o_is two.1, subst (λ (e : Given). is_in st q.packets (applied e.out.act z) ≡ true) o_is two.0)
+        (n, k.1, k.2, ap (λ (u : Transitions). u.source) (sym t_is) ∙ sym c.0, subst (λ (e : OutPackets). is_in st e.packets z ≡ true) o_is two.1, subst (λ (e : OutPackets). is_in st q.packets (applied e.out.act z) ≡ true) o_is two.0)
 
     off : (i : ℕ) (z : List ℕ) → IsStorePacket st z → IsTakenOut st ts places q i z → (i ≡ t.source) × (is_in s1 led z ≡ true)
     off i z w c =
@@ -71,23 +71,23 @@ taken_one st s1 ts places q p t o led found more g sets k is_t is_o is put = sub
         let from : is_in st (out_at ts (place_at places n)).packets z ≡ true = subst (λ (j : ℕ). LeavesFrom st ts places j z) e c.4 in
         let to : is_in st q.packets (applied (out_at ts (place_at places n)).out.act z) ≡ true = subst (λ (j : ℕ). is_in st q.packets (packet_made ts places j z) ≡ true) e c.5 in (
           sym source ∙ ap (λ (u : Transitions). u.source) (sym t_is),
-          is.at z w.0 ∙ pass_both (is_in st q.packets (applied o.out.act z)) (is_in st o.packets z) (subst (λ (e : Given). is_in st q.packets (applied e.out.act z) ≡ true) (sym o_is) to) (subst (λ (e : Given). is_in st e.packets z ≡ true) (sym o_is) from),
+          is.at z w.0 ∙ pass_both (is_in st q.packets (applied o.out.act z)) (is_in st o.packets z) (subst (λ (e : OutPackets). is_in st q.packets (applied e.out.act z) ≡ true) (sym o_is) to) (subst (λ (e : OutPackets). is_in st e.packets z ≡ true) (sym o_is) from),
         )
 
 -- an out more
-pub taken_push : (a st new : StoreState) (ts : List Transitions) (places : List (ℕ × ℕ)) (es : List Given) (k : ℕ) (q : Given) (found mid more : List (ℕ × ℕ)) → Grows a st → AreAllGiven a ts → ArePlacesBelow ts (length ts) places → AreGiven a es → k < length es → q ≡ entry es k →
+pub taken_push : (a st new : StoreState) (ts : List Transitions) (places : List (ℕ × ℕ)) (es : List OutPackets) (k : ℕ) (q : OutPackets) (found mid more : List (ℕ × ℕ)) → Grows a st → AreAllGiven a ts → ArePlacesBelow ts (length ts) places → AreGiven a es → k < length es → q ≡ entry es k →
     AreFound a (IsTakenBelow a ts places es k) found st mid → AreFound st (IsTakenOut st ts places q) mid new more → AreFound a (IsTakenBelow a ts places es (k + 1)) found new more
 taken_push a st new ts places es k q found mid more g given are outs l is first second =
     found_then a st new (IsTakenBelow a ts places es k) (IsTakenOut st ts places q) (IsTakenBelow a ts places es (k + 1)) found mid more g first second parts (λ i z w c. (c.0, omega (arith, c.1), c.2)) right
   where
     set : IsSet a q.packets
-    set = subst (λ (e : Given). IsSet a e.packets) (sym is) (outs k l).packets
+    set = subst (λ (e : OutPackets). IsSet a e.packets) (sym is) (outs k l).packets
 
     parts : (i : ℕ) (z : List ℕ) → IsStorePacket a z → IsTakenBelow a ts places es (k + 1) i z → IsTakenBelow a ts places es k i z ⊎ IsTakenOut st ts places q i z
     parts i z w c = elim (eqb_tells c.0 k) [
       | inr other ↦ inl (c.0, let m = c.1 in omega (arith, m, other.1), c.2)
       | inl same ↦
-          let m : IsTakenOut a ts places q i z = subst (λ (e : Given). IsTakenOut a ts places e i z) (ap (λ (j : ℕ). entry es j) same.1 ∙ sym is) c.2 in
+          let m : IsTakenOut a ts places q i z = subst (λ (e : OutPackets). IsTakenOut a ts places e i z) (ap (λ (j : ℕ). entry es j) same.1 ∙ sym is) c.2 in
           let n : ℕ = m.0 in
           let at = place_is ts places n are m.1 in
           inr (n, m.1, m.2, m.3, has_on a st (out_at ts (place_at places n)).packets z g (given (place_at places n).0 at.0 (place_at places n).1 at.1).packets.id m.4, has_on a st q.packets (packet_made ts places n z) g set.id m.5)
@@ -98,10 +98,10 @@ taken_push a st new ts places es k q found mid more g given are outs l is first 
         let n : ℕ = m.0 in
         let at = place_is ts places n are m.1 in
         let back : IsTakenOut a ts places q i z = (n, m.1, m.2, m.3, has_back a st (out_at ts (place_at places n)).packets z g (given (place_at places n).0 at.0 (place_at places n).1 at.1).packets.id m.4, has_back a st q.packets (packet_made ts places n z) g set.id m.5) in
-        (k, omega arith, subst (λ (e : Given). IsTakenOut a ts places e i z) is back)
+        (k, omega arith, subst (λ (e : OutPackets). IsTakenOut a ts places e i z) is back)
 
 -- all outs that stand for transitions into the set at the packets of x
-pub taken_all : (st s1 new : StoreState) (ts : List Transitions) (places into : List (ℕ × ℕ)) (t x : ℕ) (es : List Given) (found more : List (ℕ × ℕ)) → Grows st s1 → AreAllGiven st ts → HaveSets st found → ArePredecessors st ts places into → AreShownAt st into t x s1 es →
+pub taken_all : (st s1 new : StoreState) (ts : List Transitions) (places into : List (ℕ × ℕ)) (t x : ℕ) (es : List OutPackets) (found more : List (ℕ × ℕ)) → Grows st s1 → AreAllGiven st ts → HaveSets st found → ArePredecessors st ts places into → AreShownAt st into t x s1 es →
     AreFound s1 (IsTakenBelow s1 ts places es (length es)) found new more → AreFound st (LeadsToSet st ts t x) found new more
 taken_all st s1 new ts places into t x es found more g given sets pre shown m =
     found_before st s1 new (IsTakenBelow s1 ts places es (length es)) (LeadsToSet st ts t x) found more g sets m on off

@@ -8,7 +8,7 @@ use Rattle.nk_store.specs.Leaves.{Suits}
 use Rattle.nk_store.specs.StoreState.{StoreState, IsStorePacket, Grows, look}
 use Rattle.nk_store.proofs.Stores.{grows_on}
 use Rattle.nk_determ.specs.Sets.{SetsGrow}
-use Rattle.nk_outs.specs.declared.outs.Given.{Given}
+use Rattle.nk_outs.specs.declared.outs.OutPackets.{OutPackets}
 use Rattle.nk_determ.specs.Pairs.{AreStates, IsPair, IsStep}
 use Rattle.nk_outs.specs.Outs.{AreGiven, GivesAny, IsByOut}
 use Rattle.nk_outs.specs.Outs.{sent_to}
@@ -39,7 +39,7 @@ pub at_place : (ts : List Transitions) (n : ℕ) (t : Transitions) → n < lengt
 at_place ts n t l is = is ∙ get_or_default ts n t nowhere l
 
 -- what outs give leads to packets in range
-pub given_in_range : (st : StoreState) (es : List Given) (z : List ℕ) (g : List (ℕ × ℕ)) (t : ℕ) → AreGiven st es → IsStorePacket st z → GivesAny st es z (sent_to g (t + 1)) → IsStorePacket st (applied g z)
+pub given_in_range : (st : StoreState) (es : List OutPackets) (z : List ℕ) (g : List (ℕ × ℕ)) (t : ℕ) → AreGiven st es → IsStorePacket st z → GivesAny st es z (sent_to g (t + 1)) → IsStorePacket st (applied g z)
 given_in_range st es z g t k w m =
     acts_in_range st.maxes 0 g z (subst (λ (o : Out). Suits st.maxes o) m.3 (k m.0 m.2).suits) w
 
@@ -55,17 +55,17 @@ all_given_on a b ts g k i l = given_on a b (transitions_at ts i).outs g (k i l)
 -- transitions lead on as the store grows
 pub led_on : (a b : StoreState) (ts : List Transitions) (i : ℕ) (z : List ℕ) (t : ℕ) (y : List ℕ) → Grows a b → AreAllGiven a ts → IsLed a ts i z t y → IsLed b ts i z t y
 led_on a b ts i z t y g k m =
-    let es : List Given = (transitions_at ts m.0).outs in
+    let es : List OutPackets = (transitions_at ts m.0).outs in
     (m.0, m.1, m.2, m.3, gives_on a b es 0 (length es) z (sent_to m.1 (t + 1)) g (k m.0 m.2) (omega arith) m.4, m.5)
 
 -- where they lead in a grown store they led before
 pub led_back : (a b : StoreState) (ts : List Transitions) (i : ℕ) (z : List ℕ) (t : ℕ) (y : List ℕ) → Grows a b → AreAllGiven a ts → IsLed b ts i z t y → IsLed a ts i z t y
 led_back a b ts i z t y g k m =
-    let es : List Given = (transitions_at ts m.0).outs in
+    let es : List OutPackets = (transitions_at ts m.0).outs in
     (m.0, m.1, m.2, m.3, gives_back a b es 0 (length es) z (sent_to m.1 (t + 1)) g (k m.0 m.2) (omega arith) m.4, m.5)
 
 -- the outs of the diagram of a set state lead where its steps do
-pub steps_from_of : (st s1 s2 : StoreState) (nss : List (List ℕ)) (states set : List ℕ) (x d : ℕ) (es : List Given) → Grows st s1 → Grows s1 s2 → IsStateAt st states set x s1 nss d → IsByOut s2 d es → AreStepsFrom st states set x s2 nss es
+pub steps_from_of : (st s1 s2 : StoreState) (nss : List (List ℕ)) (states set : List ℕ) (x d : ℕ) (es : List OutPackets) → Grows st s1 → Grows s1 s2 → IsStateAt st states set x s1 nss d → IsByOut s2 d es → AreStepsFrom st states set x s2 nss es
 steps_from_of st s1 s2 nss states set x d es g1 g2 at by = record {
   given = by.given;
   goes = λ z g t w m.

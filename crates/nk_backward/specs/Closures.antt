@@ -3,7 +3,7 @@
 use Rattle.std.specs.Prelude.{◌≡◌, ℕ, ◌+◌, ◌<◌, ◌⊎◌, true, List, length}
 use Rattle.nk_store.specs.StoreState.{StoreState, IsStorePacket}
 use Rattle.nk_sets.specs.PacketSets.{is_in}
-use Rattle.nk_outs.specs.declared.outs.Given.{Given}
+use Rattle.nk_outs.specs.declared.outs.OutPackets.{OutPackets}
 use Rattle.nk_outs.specs.Outs.{entry}
 use Rattle.nk_determ.specs.Pairs.{Under, Once}
 use Rattle.nk_goal.specs.Entries.{HaveSets}
@@ -12,12 +12,12 @@ use Rattle.nk_backward.specs.Transitions.{transitions_at, IsLed, LeadsInto}
 use Rattle.nk_backward.specs.Predecessors.{place_at, LeavesFrom, packet_made}
 
 -- the transition that an out stands for leads from the packet z under the set i to a packet of the out
-abbrev pub IsTakenOut : StoreState → List Transitions → List (ℕ × ℕ) → Given → ℕ → List ℕ → Type 0
+abbrev pub IsTakenOut : StoreState → List Transitions → List (ℕ × ℕ) → OutPackets → ℕ → List ℕ → Type 0
 IsTakenOut st ts places q i z =
     (n : ℕ) × (n < length places) × (q.out.target ≡ n + 1) × ((transitions_at ts (place_at places n).0).source ≡ i) × LeavesFrom st ts places n z × (is_in st q.packets (packet_made ts places n z) ≡ true)
 
 -- the transition that one of the first k outs stands for leads from the packet z under the set i to a packet of the out
-abbrev pub IsTakenBelow : StoreState → List Transitions → List (ℕ × ℕ) → List Given → ℕ → ℕ → List ℕ → Type 0
+abbrev pub IsTakenBelow : StoreState → List Transitions → List (ℕ × ℕ) → List OutPackets → ℕ → ℕ → List ℕ → Type 0
 IsTakenBelow st ts places es k i z = (j : ℕ) × (j < k) × IsTakenOut st ts places (entry es j) i z
 
 -- a transition leads from the packet z under the set i to a packet of x under the set t

@@ -3,4 +3,4 @@ pub mod Predecessors
 pub mod Places
 pub mod Closures
 pub mod Sweeps
-pub mod Starts
+pub mod ViolatingStarts

@@ -6,13 +6,13 @@ use Rattle.nk_field.specs.Act.{applied}
 use Rattle.nk_store.specs.declared.node.Out.{Out}
 use Rattle.nk_store.specs.StoreState.{StoreState, IsId, IsWhole, IsStorePacket, look}
 use Rattle.nk_sets.specs.PacketSets.{is_in}
-use Rattle.nk_outs.specs.declared.outs.Given.{Given}
+use Rattle.nk_outs.specs.declared.outs.OutPackets.{OutPackets}
 use Rattle.nk_outs.specs.Outs.{entry, AreGiven, GivesAny, sent_to}
 use Rattle.nk_backward.specs.declared.transitions.Transitions.{Transitions}
 use Rattle.nk_backward.specs.Transitions.{transitions_at}
 
 -- the out of a transition by its two indices: that of its set's transitions among all, and that of its out among their outs
-abbrev pub out_at : List Transitions → ℕ × ℕ → Given
+abbrev pub out_at : List Transitions → ℕ × ℕ → OutPackets
 out_at ts p = entry (transitions_at ts p.0).outs p.1
 
 -- the list has the two indices of each transition whose first index is below k, and no others
@@ -60,7 +60,7 @@ abbrev pub FindDiagrams : StoreState → List (ℕ × ℕ) → Type 0
 FindDiagrams st into = (t d : ℕ) → lookup (eqb t) into ≡ Some d → IsId st d
 
 -- a diagram for the n-th transition stands after the others, unless it is an end
-pub record IsMarked (st : StoreState) (q : Given) (n : ℕ) (old : List (ℕ × ℕ)) (new : StoreState) (all : List (ℕ × ℕ)) : Type 0 where
+pub record IsMarked (st : StoreState) (q : OutPackets) (n : ℕ) (old : List (ℕ × ℕ)) (new : StoreState) (all : List (ℕ × ℕ)) : Type 0 where
   pub ids : HaveDiagrams new all
   pub from : (t : ℕ) (y : List ℕ) (o : Out) → IsStorePacket st y → ShowsBelow new all (length all) t y o → ShowsBelow st old (length old) t y o ⊎ ((o ≡ transition_out n) × (q.out.target ≡ t + 1))
   pub kept : (t : ℕ) (y : List ℕ) (o : Out) → ShowsBelow st old (length old) t y o → ShowsBelow new all (length all) t y o
@@ -108,7 +108,7 @@ pub record ArePredecessors (st : StoreState) (ts : List Transitions) (places int
   pub comes : (n t : ℕ) (z : List ℕ) → IsStorePacket st z → IsInto ts places n t → LeavesFrom st ts places n z → Shows st into t (packet_made ts places n z) (transition_out n)
 
 -- what the set's diagram has at the packets of x
-pub record AreShownAt (st : StoreState) (into : List (ℕ × ℕ)) (t x : ℕ) (new : StoreState) (es : List Given) : Type 0 where
+pub record AreShownAt (st : StoreState) (into : List (ℕ × ℕ)) (t x : ℕ) (new : StoreState) (es : List OutPackets) : Type 0 where
   pub given : AreGiven new es
   pub goes : (y : List ℕ) (o : Out) → IsStorePacket st y → GivesAny new es y o → (is_in st x y ≡ true) × Shows st into t y o
   pub comes : (y : List ℕ) (o : Out) → IsStorePacket st y → is_in st x y ≡ true → Shows st into t y o → GivesAny new es y o

@@ -5,14 +5,14 @@ use Rattle.nk_field.specs.Act.{applied}
 use Rattle.nk_store.specs.StoreState.{StoreState, IsStorePacket}
 use Rattle.nk_sets.specs.PacketSets.{is_in}
 use Rattle.nk_determ.specs.Pairs.{Under, Once}
-use Rattle.nk_outs.specs.declared.outs.Given.{Given}
+use Rattle.nk_outs.specs.declared.outs.OutPackets.{OutPackets}
 use Rattle.nk_outs.specs.Outs.{GivesOut, sent_to}
 use Rattle.nk_goal.specs.Entries.{HaveSets}
 use Rattle.nk_backward.specs.declared.transitions.Transitions.{Transitions}
 use Rattle.nk_backward.specs.Transitions.{IsLed, LeadsInto}
 
 -- the out leads from the packet z under the set s to a packet of an entry
-abbrev pub IsLedOut : StoreState → ℕ → Given → List (ℕ × ℕ) → ℕ → List ℕ → Type 0
+abbrev pub IsLedOut : StoreState → ℕ → OutPackets → List (ℕ × ℕ) → ℕ → List ℕ → Type 0
 IsLedOut st s q all i z = (i ≡ s) × (is_in st q.packets z ≡ true) × ((u : ℕ) × (u + 1 ≡ q.out.target) × Under st all u (applied q.out.act z))
 
 -- one of the first k outs of a set leads from the packet z to a packet of an entry

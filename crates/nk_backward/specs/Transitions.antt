@@ -6,7 +6,7 @@ use Rattle.nk_sets.specs.PacketSets.{is_in}
 use Rattle.nk_determ.specs.Pairs.{Node, Under, Named, IsStep}
 use Rattle.nk_outs.specs.Outs.{AreGiven, GivesAny}
 use Rattle.nk_outs.specs.Outs.{sent_to}
-use Rattle.nk_outs.specs.declared.outs.Given.{Given}
+use Rattle.nk_outs.specs.declared.outs.OutPackets.{OutPackets}
 use Rattle.nk_backward.specs.declared.transitions.Transitions.{Transitions}
 
 -- the entries of all levels, in turn
@@ -33,7 +33,7 @@ LeadsInto st ts Goal zero i z = Goal i z
 LeadsInto st ts Goal (suc n) i z = (t : ℕ) × (y : List ℕ) × IsLed st ts i z t y × LeadsInto st ts Goal n t y
 
 -- the outs lead from the packets of x exactly where a step of the set does
-pub record AreStepsFrom (st : StoreState) (states set : List ℕ) (x : ℕ) (new : StoreState) (nss : List (List ℕ)) (es : List Given) : Type 0 where
+pub record AreStepsFrom (st : StoreState) (states set : List ℕ) (x : ℕ) (new : StoreState) (nss : List (List ℕ)) (es : List OutPackets) : Type 0 where
   pub given : AreGiven new es
   pub goes : (z : List ℕ) (g : List (ℕ × ℕ)) (t : ℕ) → IsStorePacket st z → GivesAny new es z (sent_to g (t + 1)) →
       (is_in st x z ≡ true) × (t < length nss) × IsStep st states (set, z) (slice_index_or nss t [], applied g z)

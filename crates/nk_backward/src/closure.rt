@@ -19,8 +19,8 @@ use indexmap::IndexMap;
 use nk_apply::{both, union_all};
 use nk_determ::SetId;
 use nk_field::List;
-use nk_goal::{Entries, add, add_level, unmet};
-use nk_outs::Given;
+use nk_goal::{Entries, add, add_level, unvisited};
+use nk_outs::OutPackets;
 use nk_sets::{is_empty, preimage};
 use nk_store::{Id, Store};
 use std::alloc::{AllocError, Global};
@@ -229,7 +229,7 @@ fn take_outs(
     st: &mut Store,
     ts: &List<Transitions>,
     places: &List<(usize, usize)>,
-    outs: &List<Given>,
+    outs: &List<OutPackets>,
     found: &mut List<(SetId, Id)>,
 ) -> Result<(), AllocError>
     requires given { AreAllGiven st.old ts.now }
@@ -252,7 +252,7 @@ fn take_out(
     st: &mut Store,
     ts: &List<Transitions>,
     places: &List<(usize, usize)>,
-    q: &Given,
+    q: &OutPackets,
     found: &mut List<(SetId, Id)>,
 ) -> Result<(), AllocError>
     requires given { AreAllGiven st.old ts.now }
@@ -268,13 +268,13 @@ fn take_out(
     };
     let t = ts.at(place.0);
     let o = t.outs.at(place.1);
-    let led = led_to(st, o, q.packets)?;
+    let led = preimage_of_out(st, o, q.packets)?;
     found.push((t.source, led))?;
     Ok(())
 }
 
 /// The packets of an out that the out's act makes packets of this set.
-pub(crate) fn led_to(st: &mut Store, o: &Given, x: Id) -> Result<Id, AllocError>
+pub(crate) fn preimage_of_out(st: &mut Store, o: &OutPackets, x: Id) -> Result<Id, AllocError>
     requires from { IsSet st.old o.now.packets }
     requires to { IsSet st.old x }
     ensures grows { Grows st.old st.new }
@@ -333,7 +333,7 @@ fn put_new(
         × (is_in st.old y z ≡ true)) back.old.entries next.old.entries st.new back.new.entries
         next.new.entries) }
 {
-    let rest = unmet(st, back, s, y)?;
+    let rest = unvisited(st, back, s, y)?;
     if is_empty(st, rest) {
         return Ok(());
     }

@@ -142,7 +142,7 @@ fn unmet_after(
     }
     let outs = &ts.at(k).outs;
     for i in done..outs.len() {
-        if let Some(next) = led_to(outs.at(i).out.target, places, ranks) {
+        if let Some(next) = place_of_target(outs.at(i).out.target, places, ranks) {
             return Some((next, i + 1));
         }
     }
@@ -161,7 +161,7 @@ fn next_of(places: &SetPlaces, ranks: &List<Rank>, k: usize) -> Option<usize> {
 }
 
 /// The first place of the set that a target stands for, if it has no rank.
-fn led_to(target: u64, places: &SetPlaces, ranks: &List<Rank>) -> Option<usize> {
+fn place_of_target(target: u64, places: &SetPlaces, ranks: &List<Rank>) -> Option<usize> {
     if target == 0 {
         return None;
     }

@@ -11,7 +11,7 @@ use crate::transitions::Transitions;
 use nk_apply::{union, union_all};
 use nk_determ::SetId;
 use nk_field::{Act, List};
-use nk_outs::{Given, by_out};
+use nk_outs::{OutPackets, packets_by_out};
 use nk_sets::{at_packets, image};
 use nk_store::{Id, Out, Store};
 use std::alloc::{AllocError, Global};
@@ -94,7 +94,7 @@ fn marked_all(
 /// Puts the diagram of a transition after others, with the set that it leads into.
 fn push_marked(
     st: &mut Store,
-    q: &Given,
+    q: &OutPackets,
     n: usize,
     all: &mut List<(SetId, Id)>,
 ) -> Result<(), AllocError>
@@ -230,7 +230,7 @@ pub(crate) fn outs_into(
     pre: &Predecessors,
     t: SetId,
     x: Id,
-) -> Result<List<Given>, AllocError>
+) -> Result<List<OutPackets>, AllocError>
     requires packets { IsSet st.old x }
     requires ids { FindDiagrams st.old pre.now.into.entries }
     ensures grows { Grows st.old st.new }
@@ -239,7 +239,7 @@ pub(crate) fn outs_into(
     match found(&pre.into, t) {
         Some(d) => {
             let there = at_packets(st, x, d)?;
-            let outs = by_out(st, there)?;
+            let outs = packets_by_out(st, there)?;
             Ok(outs)
         }
         None => Ok(List::new(st.alloc())),

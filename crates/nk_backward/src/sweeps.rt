@@ -10,7 +10,7 @@ ghost use Rattle.nk_backward.specs.Places.{AreAllPlaces};
 ghost use Rattle.nk_backward.specs.Closures.{AreFound};
 ghost use Rattle.nk_backward.specs.Sweeps.{IsLedOut, IsLedBy, IsWidened, IsTakenBack, IsSwept};
 
-use crate::closure::led_to;
+use crate::closure::preimage_of_out;
 use crate::postorder::{Rank, in_postorder};
 use crate::predecessors::{run_of_set, set_at};
 use crate::transitions::Transitions;
@@ -18,8 +18,8 @@ use indexmap::IndexMap;
 use nk_apply::union_all;
 use nk_determ::SetId;
 use nk_field::List;
-use nk_goal::{add, under};
-use nk_outs::Given;
+use nk_goal::{add, packets_of_set};
+use nk_outs::OutPackets;
 use nk_sets::is_empty;
 use nk_store::{Id, Store};
 use std::alloc::AllocError;
@@ -139,9 +139,9 @@ fn put(st: &mut Store, s: SetId, y: Id, back: &mut IndexMap<SetId, Id>) -> Resul
     if is_empty(st, y) {
         return Ok(true);
     }
-    let before = under(back, s);
+    let before = packets_of_set(back, s);
     add(st, back, s, y)?;
-    let after = under(back, s);
+    let after = packets_of_set(back, s);
     Ok(is_same(before, after))
 }
 
@@ -180,7 +180,7 @@ fn led_from(
 fn push_led(
     st: &mut Store,
     s: SetId,
-    o: &Given,
+    o: &OutPackets,
     back: &IndexMap<SetId, Id>,
     found: &mut List<(SetId, Id)>,
 ) -> Result<(), AllocError>
@@ -195,10 +195,10 @@ fn push_led(
     if o.out.target == 0 {
         return Ok(());
     }
-    let Some(x) = under(back, SetId::from_target(o.out.target)) else {
+    let Some(x) = packets_of_set(back, SetId::from_target(o.out.target)) else {
         return Ok(());
     };
-    let led = led_to(st, o, x)?;
+    let led = preimage_of_out(st, o, x)?;
     found.push((s, led))?;
     Ok(())
 }

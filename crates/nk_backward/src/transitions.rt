@@ -9,7 +9,7 @@ ghost use Rattle.nk_backward.specs.Transitions.{explored_entries, AreStepsFrom, 
 use crate::entries::all_entries;
 use nk_determ::{Levels, SetId, Sets};
 use nk_field::List;
-use nk_outs::{Given, by_out};
+use nk_outs::{OutPackets, packets_by_out};
 use nk_steps::local_state;
 use nk_store::{Id, Store};
 use std::alloc::AllocError;
@@ -19,7 +19,7 @@ pub(crate) struct Transitions {
     /// The set.
     pub(crate) source: SetId,
     /// The outs, each with its packets.
-    pub(crate) outs: List<Given>,
+    pub(crate) outs: List<OutPackets>,
 }
 
 impl Drop for Transitions {
@@ -102,7 +102,7 @@ fn outs_from(
     states: &[Id],
     s: SetId,
     x: Id,
-) -> Result<List<Given>, AllocError>
+) -> Result<List<OutPackets>, AllocError>
     requires states { AreStates st.old states.now }
     requires set { s < length ss.old }
     requires places { AreLabelsBelow (length states.now) (slice_index_or ss.old s []) }
@@ -113,6 +113,6 @@ fn outs_from(
         (λ es. AreStepsFrom st.old states.now (slice_index_or ss.old s []) x st.new ss.new es) }
 {
     let d = local_state(st, ss, states, s, x)?;
-    let outs = by_out(st, d)?;
+    let outs = packets_by_out(st, d)?;
     Ok(outs)
 }

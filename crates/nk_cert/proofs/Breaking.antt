@@ -15,7 +15,7 @@ use Rattle.nk_store.specs.StoreState.{StoreState, IsStorePacket}
 use Rattle.nk_store.proofs.InRange.{packet_in_range, packet_of_fields}
 use Rattle.nk_determ.specs.Pairs.{Node, AreLabelsBelow, IsStep}
 use Rattle.nk_reach.specs.Sides.{EndsAt}
-use Rattle.nk_determ.specs.Breaks.{Walks, IsBreak, Breaks}
+use Rattle.nk_determ.specs.Counterexamples.{Walks, IsCounterexampleWithTarget, IsCounterexample}
 use Rattle.nk_runs.specs.Labels.{IsAmong}
 use Rattle.nk_runs.proofs.Walking.{walk_in_range, walks_met, walk_places, given_walked}
 use Rattle.nk_cert.specs.Equality.{Side, on_left, on_right, IsAloneFrom, IsOfOneAlone, IsLeastDifference}
@@ -77,7 +77,7 @@ module _ (fields : FieldTable) (st : StoreState) (states : List ℕ) (left right
 
   module _ (bad : List ℕ → List ℕ → List Out) (goal : IsOneSided st states left right (1 + dups_of p) bad) (start : ℕ) where
     -- with target 0 the left policy's histories alone
-    pub left_breaks : (f : Found) → IsBreak st states (0 ∷ []) start bad 0 f ↔ IsAloneFrom (IsAmong st start) p q f
+    pub left_breaks : (f : Found) → IsCounterexampleWithTarget st states (0 ∷ []) start bad 0 f ↔ IsAloneFrom (IsAmong st start) p q f
     left_breaks f = (
       λ b.
           let e = end_is f b.end b.starts.packet b.walk in
@@ -97,7 +97,7 @@ module _ (fields : FieldTable) (st : StoreState) (states : List ℕ) (left right
     )
 
     -- with target 1 the right policy's
-    pub right_breaks : (f : Found) → IsBreak st states (0 ∷ []) start bad 1 f ↔ IsAloneFrom (IsAmong st start) q p f
+    pub right_breaks : (f : Found) → IsCounterexampleWithTarget st states (0 ∷ []) start bad 1 f ↔ IsAloneFrom (IsAmong st start) q p f
     right_breaks f = (
       λ b.
           let e = end_is f b.end b.starts.packet b.walk in
@@ -117,32 +117,32 @@ module _ (fields : FieldTable) (st : StoreState) (states : List ℕ) (left right
     )
 
     -- and there is no other target
-    pub no_other_breaks : (t : ℕ) (f : Found) → IsBreak st states (0 ∷ []) start bad t f → (t ≡ 0) ⊎ (t ≡ 1)
+    pub no_other_breaks : (t : ℕ) (f : Found) → IsCounterexampleWithTarget st states (0 ∷ []) start bad t f → (t ≡ 0) ⊎ (t ≡ 1)
     no_other_breaks t f b = goal.targets b.end.0 b.end.1 (record { act = b.makes.0; target = t }) b.makes.1
 
     module _ (each : HasEach st start) where
       -- from all packets
-      of_side : (side : Side) (f : Found) → IsBreak st states (0 ∷ []) start bad (target_of_side side) f → IsOfOneAlone fields p q side f
+      of_side : (side : Side) (f : Found) → IsCounterexampleWithTarget st states (0 ∷ []) start bad (target_of_side side) f → IsOfOneAlone fields p q side f
       of_side on_left f b =
           let h = (left_breaks f).0 b in (packet_of_fields fields st f.start a.over h.0.0, h.1, h.2)
       of_side on_right f b =
           let h = (right_breaks f).0 b in (packet_of_fields fields st f.start a.over h.0.0, h.1, h.2)
 
-      breaks_by : (side : Side) (f : Found) → IsOfOneAlone fields p q side f → Breaks st states (0 ∷ []) start bad f
+      breaks_by : (side : Side) (f : Found) → IsOfOneAlone fields p q side f → IsCounterexample st states (0 ∷ []) start bad f
       breaks_by on_left f h =
           let r = packet_in_range fields st f.start a.over h.0 in (0, (left_breaks f).1 ((r, each f.start r), h.1, h.2))
       breaks_by on_right f h =
           let r = packet_in_range fields st f.start a.over h.0 in (1, (right_breaks f).1 ((r, each f.start r), h.1, h.2))
 
-      some_side : (f : Found) → Breaks st states (0 ∷ []) start bad f → (side : Side) × IsOfOneAlone fields p q side f
+      some_side : (f : Found) → IsCounterexample st states (0 ∷ []) start bad f → (side : Side) × IsOfOneAlone fields p q side f
       some_side f b =
           ⊎_elim
-          (λ e. (on_left, of_side on_left f (subst (λ t. IsBreak st states (0 ∷ []) start bad t f) e b.1)))
-          (λ e. (on_right, of_side on_right f (subst (λ t. IsBreak st states (0 ∷ []) start bad t f) e b.1)))
+          (λ e. (on_left, of_side on_left f (subst (λ t. IsCounterexampleWithTarget st states (0 ∷ []) start bad t f) e b.1)))
+          (λ e. (on_right, of_side on_right f (subst (λ t. IsCounterexampleWithTarget st states (0 ∷ []) start bad t f) e b.1)))
           (no_other_breaks b.0 f b.1)
 
       -- so the least that breaks is the least difference
-      pub least_difference : (side : Side) (f : Found) → IsBreak st states (0 ∷ []) start bad (target_of_side side) f
-          → IsLeast (λ g. Breaks st states (0 ∷ []) start bad g) f → IsLeastDifference fields p q side f
+      pub least_difference : (side : Side) (f : Found) → IsCounterexampleWithTarget st states (0 ∷ []) start bad (target_of_side side) f
+          → IsLeast (λ g. IsCounterexample st states (0 ∷ []) start bad g) f → IsLeastDifference fields p q side f
       least_difference side f b least =
           (of_side side f b, (some_side f least.0, λ g h. least.1 g (breaks_by h.0 g h.1)))

@@ -22,7 +22,7 @@ use Rattle.nk_determ.specs.States.{StateLeads}
 use Rattle.nk_auto.proofs.Stating.{label_within}
 use Rattle.nk_determ.specs.Pairs.{AreLabelsBelow, IsStep}
 use Rattle.nk_reach.specs.Sides.{alone, alone_sided, ends_of, ends_same, AreOneSided, EndsAt}
-use Rattle.nk_determ.specs.Breaks.{MakesWithTarget}
+use Rattle.nk_determ.specs.Counterexamples.{MakesWithTarget}
 use Rattle.nk_goal.proofs.Growing.{place_of}
 use Rattle.nk_runs.proofs.Numbers.{dup_within}
 use Rattle.nk_runs.proofs.Listings.{all_listed, some_decided, sends_decided, empty_from, first_of_some, both_decided, decided_for, above_zero}

@@ -16,7 +16,7 @@ use Rattle.nk_determ.specs.Sets.{HasEachSetOnce}
 use Rattle.nk_determ.specs.Pairs.{AreStates}
 use Rattle.nk_determ.specs.Levels.{AreLevels}
 use Rattle.nk_reach.specs.Sides.{alone, ends_of}
-use Rattle.nk_determ.specs.Breaks.{IsBreak, Breaks}
+use Rattle.nk_determ.specs.Counterexamples.{IsCounterexampleWithTarget, IsCounterexample}
 use Rattle.nk_goal.proofs.Growing.{states_grow}
 use Rattle.nk_outs.proofs.Kept.{has_on}
 use Rattle.nk_runs.proofs.Stands.{packet_back, are_states}
@@ -98,8 +98,8 @@ module _ (fields : FieldTable) (first : StoreState) (states : List ℕ) (left ri
 
   -- and what is least of all that break the goal is the least difference
   pub difference_is : AreTidy new → (side : Side) (f : Found)
-      → IsBreak new states (slice_index_or ss (first_set ls) []) (first_packets ls) (λ set pk. violations_in new ends set pk) (witness_target side) f
-      → IsLeast (λ g. Breaks new states (slice_index_or ss (first_set ls) []) (first_packets ls) (λ set pk. violations_in new ends set pk) g) f
+      → IsCounterexampleWithTarget new states (slice_index_or ss (first_set ls) []) (first_packets ls) (λ set pk. violations_in new ends set pk) (witness_target side) f
+      → IsLeast (λ g. IsCounterexample new states (slice_index_or ss (first_set ls) []) (first_packets ls) (λ set pk. violations_in new ends set pk) g) f
       → IsLeastDifference fields p q (whose side) f
   difference_is tidy side f breaks least =
       let states_are = are_states first states (either_of p q) a.states_are in
@@ -108,9 +108,9 @@ module _ (fields : FieldTable) (first : StoreState) (states : List ℕ) (left ri
       least_difference fields new states left right p q here (λ set pk. violations_in new ends set pk)
       (goal_now fields first states left right bound p q a is new ss ends ls broken lv) (first_packets ls)
       (each_first first states left right bound new ss ends ls broken states_are lv) (whose side) f
-      (subst (λ t. IsBreak new states (0 ∷ []) (first_packets ls) (λ set pk. violations_in new ends set pk) t f) (same_target side)
-      (subst (λ s. IsBreak new states s (first_packets ls) (λ set pk. violations_in new ends set pk) (witness_target side) f) alone_set breaks))
-      (subst (λ s. IsLeast (λ g. Breaks new states s (first_packets ls) (λ set pk. violations_in new ends set pk) g) f) alone_set least)
+      (subst (λ t. IsCounterexampleWithTarget new states (0 ∷ []) (first_packets ls) (λ set pk. violations_in new ends set pk) t f) (same_target side)
+      (subst (λ s. IsCounterexampleWithTarget new states s (first_packets ls) (λ set pk. violations_in new ends set pk) (witness_target side) f) alone_set breaks))
+      (subst (λ s. IsLeast (λ g. IsCounterexample new states s (first_packets ls) (λ set pk. violations_in new ends set pk) g) f) alone_set least)
 
 -- the levels, where the states are given as a slice
 module _ (new : StoreState) (ss : List (List ℕ)) (ends : List ℕ) (ls : List (List (ℕ × ℕ))) (slice states : List ℕ) (same : slice ≡ states) where
@@ -119,15 +119,15 @@ module _ (new : StoreState) (ss : List (List ℕ)) (ends : List ℕ) (ls : List 
   levels_at broken h =
       subst (λ r. AreLevels new new ss r (first_set ls) (first_packets ls) (λ set pk. violations_in new ends set pk) ls broken) (sym same) h
 
-  pub break_at : (t : ℕ) (f : Found) → IsBreak new slice (slice_index_or ss (first_set ls) []) (first_packets ls) (λ set pk. violations_in new ends set pk) t f
-      → IsBreak new states (slice_index_or ss (first_set ls) []) (first_packets ls) (λ set pk. violations_in new ends set pk) t f
+  pub break_at : (t : ℕ) (f : Found) → IsCounterexampleWithTarget new slice (slice_index_or ss (first_set ls) []) (first_packets ls) (λ set pk. violations_in new ends set pk) t f
+      → IsCounterexampleWithTarget new states (slice_index_or ss (first_set ls) []) (first_packets ls) (λ set pk. violations_in new ends set pk) t f
   break_at t f h =
-      subst (λ r. IsBreak new r (slice_index_or ss (first_set ls) []) (first_packets ls) (λ set pk. violations_in new ends set pk) t f) same h
+      subst (λ r. IsCounterexampleWithTarget new r (slice_index_or ss (first_set ls) []) (first_packets ls) (λ set pk. violations_in new ends set pk) t f) same h
 
-  pub least_at : (f : Found) → IsLeast (λ g. Breaks new slice (slice_index_or ss (first_set ls) []) (first_packets ls) (λ set pk. violations_in new ends set pk) g) f
-      → IsLeast (λ g. Breaks new states (slice_index_or ss (first_set ls) []) (first_packets ls) (λ set pk. violations_in new ends set pk) g) f
+  pub least_at : (f : Found) → IsLeast (λ g. IsCounterexample new slice (slice_index_or ss (first_set ls) []) (first_packets ls) (λ set pk. violations_in new ends set pk) g) f
+      → IsLeast (λ g. IsCounterexample new states (slice_index_or ss (first_set ls) []) (first_packets ls) (λ set pk. violations_in new ends set pk) g) f
   least_at f h =
-      subst (λ r. IsLeast (λ g. Breaks new r (slice_index_or ss (first_set ls) []) (first_packets ls) (λ set pk. violations_in new ends set pk) g) f) same h
+      subst (λ r. IsLeast (λ g. IsCounterexample new r (slice_index_or ss (first_set ls) []) (first_packets ls) (λ set pk. violations_in new ends set pk) g) f) same h
 
 -- a policy that is numbered from a number on is the same numbered so once more
 pub right_numbered : (q r : Policy) (n m : ℕ) → r ≡ marked_from q n → n ≡ m → marked_from r m ≡ r

@@ -24,7 +24,7 @@ use Rattle.nk_determ.specs.Pairs.{Node, AreLabelsBelow}
 use Rattle.nk_determ.specs.Levels.{At, AreLevels}
 use Rattle.nk_reach.specs.Sides.{label_side, EndsAt}
 pub use Rattle.nk_reach.proofs.SideLabels.{mark_below, mark_above, below_from, above_from}
-use Rattle.nk_determ.specs.Breaks.{MakesWithTarget}
+use Rattle.nk_determ.specs.Counterexamples.{MakesWithTarget}
 pub use Rattle.nk_runs.proofs.Listings.{both_decided, decided_for, above_zero, empty_from, first_of_some}
 use Rattle.nk_runs.proofs.Listings.{either_decided, some_decided, sends_decided}
 use Rattle.nk_runs.proofs.Stands.{stands, packet_back}

@@ -15,7 +15,7 @@ use indexmap::IndexMap;
 use nk_apply::empty;
 use nk_determ::{Levels, SetId, Sets};
 use nk_field::List;
-use nk_goal::{add_level, under};
+use nk_goal::{add_level, packets_of_set};
 use nk_policy::{Pol, Pols};
 use nk_sets::set_pol;
 use nk_store::{Id, Store};
@@ -36,8 +36,8 @@ pub fn certificate_of(st: &mut Store, ss: &Sets, lv: &Levels) -> Result<Certific
 {
     let sets = later_sets(ss, lv)?;
     let none = empty(st)?;
-    let met = later_packets(st, lv)?;
-    let rows = set_rows(st, ss, &met, none, sets.as_slice())?;
+    let visited = later_packets(st, lv)?;
+    let rows = set_rows(st, ss, &visited, none, sets.as_slice())?;
     Ok(Certificate {
         start: everything(st.alloc()),
         rows,
@@ -50,34 +50,34 @@ fn later_packets(st: &mut Store, lv: &Levels) -> Result<IndexMap<SetId, Id>, All
         → HaveSets st.old (slice_index_or lv.now.levels i []) }
     ensures grows { Grows st.old st.new }
     ensures ok { IfOk result
-        (λ met. AreLaterPackets st.old lv.now.levels
-        (length lv.now.levels - 1) st.new met.entries) }
+        (λ visited. AreLaterPackets st.old lv.now.levels
+        (length lv.now.levels - 1) st.new visited.entries) }
 {
-    let mut met = IndexMap::new(st.alloc());
+    let mut visited = IndexMap::new(st.alloc());
     for i in 1..lv.levels.len() {
         let level = lv.levels.at(i);
-        add_level(st, &mut met, level)?;
+        add_level(st, &mut visited, level)?;
     }
-    Ok(met)
+    Ok(visited)
 }
 
 /// The rows of some sets, in their order.
 fn set_rows(
     st: &Store,
     ss: &Sets,
-    met: &IndexMap<SetId, Id>,
+    visited: &IndexMap<SetId, Id>,
     none: Id,
     sets: &[SetId],
 ) -> Result<List<(List<u64>, Pol)>, AllocError>
     requires sets { All (λ s. s < length ss.now) sets.now }
-    requires packets { HaveSets st.now met.now.entries }
+    requires packets { HaveSets st.now visited.now.entries }
     requires none { IsSet st.now none }
     ensures { IfOk result (λ rs.
-        HaveRows (IsRowBy st.now ss.now met.now.entries none) sets.now (row_values rs)) }
+        HaveRows (IsRowBy st.now ss.now visited.now.entries none) sets.now (row_values rs)) }
 {
     let mut rows = List::new(st.alloc());
     for set in sets {
-        let row = set_row(st, ss, met, none, *set)?;
+        let row = set_row(st, ss, visited, none, *set)?;
         rows.push(row)?;
     }
     Ok(rows)
@@ -87,26 +87,27 @@ fn set_rows(
 fn set_row(
     st: &Store,
     ss: &Sets,
-    met: &IndexMap<SetId, Id>,
+    visited: &IndexMap<SetId, Id>,
     none: Id,
     set: SetId,
 ) -> Result<(List<u64>, Pol), AllocError>
     requires set { set < length ss.now }
-    requires packets { HaveSets st.now met.now.entries }
+    requires packets { HaveSets st.now visited.now.entries }
     requires none { IsSet st.now none }
-    ensures { IfOk result (λ r. IsRowBy st.now ss.now met.now.entries none set (held_row_value r)) }
+    ensures { IfOk result (λ r.
+        IsRowBy st.now ss.now visited.now.entries none set (held_row_value r)) }
 {
     let members = Vec::from_slice(st.alloc(), ss.members(set))?;
-    let packets = packets_under(met, none, set);
+    let packets = packets_under(visited, none, set);
     let predicate = set_pol(st, packets)?;
     Ok((List::from_vec(members), predicate))
 }
 
 /// The packets under a set.
-fn packets_under(met: &IndexMap<SetId, Id>, none: Id, set: SetId) -> Id
-    ensures { result ≡ packets_at met.now.entries none set }
+fn packets_under(visited: &IndexMap<SetId, Id>, none: Id, set: SetId) -> Id
+    ensures { result ≡ packets_at visited.now.entries none set }
 {
-    match under(met, set) {
+    match packets_of_set(visited, set) {
         Some(packets) => packets,
         None => none,
     }

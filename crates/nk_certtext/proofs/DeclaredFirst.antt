@@ -13,7 +13,7 @@ use Rattle.nk_grammar.specs.FileMachine.{Reading, reading, read_one, declaration
 use Rattle.nk_grammar.specs.Certified.{Row}
 use Rattle.nk_grammar.specs.CertifiedMachine.{CertifiedPhase, declaring, row_wanted, start_wanted, start_read, number_wanted, numbers_read, in_row, Certifying, is_certificate, is_start_word, row_in, in_line, certificate_begins, still_declaring, row_on, next_certifying, open_certified, judged_certified}
 use Rattle.nk_grammar.specs.Terminal.{is_colon_terminal}
-use Rattle.nk_grammar.specs.CertifiedProgress.{CertifiedProgress, Going, Stopped, bare, done_declarations, SoFar, so_far, nothing_so_far, so_far_judged, so_far_after, IsRead}
+use Rattle.nk_grammar.specs.CertifiedProgress.{CertifiedProgress, Going, Stopped, bare, done_declarations, ParsedPrefix, so_far, nothing_so_far, so_far_judged, so_far_after, IsRead}
 
 -- the certificate has begun
 abbrev IsAfter : CertifiedPhase → Type 0
@@ -29,7 +29,7 @@ abbrev AreAfter : CertifiedProgress → List Row → Type 0
 AreAfter (Going p line) rs = HasNoRow p rs
 AreAfter (Stopped e) rs = ⊤
 
-abbrev IsOrdered : SoFar → Type 0
+abbrev IsOrdered : ParsedPrefix → Type 0
 IsOrdered s = AreAfter s.progress s.rows
 
 -- a state after the word `certificate` has these declarations
@@ -98,7 +98,7 @@ done_after (declaring r) ds b = absurd b
 done_after p ds b = refl
 
 -- the state that a token leads to
-judged_ordered : (o : Option Certifying) (s : SoFar) (line : ℕ) → HaveNoRow o → IsOrdered (so_far_judged (judged_certified line o) s line)
+judged_ordered : (o : Option Certifying) (s : ParsedPrefix) (line : ℕ) → HaveNoRow o → IsOrdered (so_far_judged (judged_certified line o) s line)
 judged_ordered None s line h = tt
 judged_ordered (Some c) s line h = by (nat_le (open_certified c) 256)
   where
@@ -106,7 +106,7 @@ judged_ordered (Some c) s line h = by (nat_le (open_certified c) 256)
     by true = bare_no_row c.phase c.rows h
     by false = tt
 
-judged_keeps : (ds : List Declaration) (o : Option Certifying) (s : SoFar) (line : ℕ) → s.declarations ≡ ds → Keeps ds o
+judged_keeps : (ds : List Declaration) (o : Option Certifying) (s : ParsedPrefix) (line : ℕ) → s.declarations ≡ ds → Keeps ds o
     → (so_far_judged (judged_certified line o) s line).declarations ≡ ds
 judged_keeps ds None s line is h = is
 judged_keeps ds (Some c) s line is h = by (nat_le (open_certified c) 256)
@@ -120,7 +120,7 @@ keeps_no_row ds None h = tt
 keeps_no_row ds (Some c) h = after_no_row c.phase c.rows h.0
 
 -- what a token changes: there is no row so far, or the declarations stay
-abbrev IsOrderedOn : List Declaration → List Row → SoFar → Type 0
+abbrev IsOrderedOn : List Declaration → List Row → ParsedPrefix → Type 0
 IsOrderedOn ds rs s = IsOrdered s × ((rs ≡ []) ⊎ (s.declarations ≡ ds))
 
 after_ordered : (p : CertifiedPhase) (line : ℕ) (ds : List Declaration) (rs : List Row) (t : Token) → IsAfter p
@@ -146,7 +146,7 @@ one_ordered (Going (number_wanted l) line) ds rs t h = after_ordered (number_wan
 one_ordered (Going (numbers_read l ns) line) ds rs t h = after_ordered (numbers_read l ns) line ds rs t tt
 one_ordered (Going (in_row l ns s) line) ds rs t h = after_ordered (in_row l ns s) line ds rs t tt
 
-all_ordered : (ts : List Token) (s : SoFar) → IsOrdered s → IsOrdered (fold so_far_after s ts)
+all_ordered : (ts : List Token) (s : ParsedPrefix) → IsOrdered s → IsOrdered (fold so_far_after s ts)
 all_ordered [] s h = h
 all_ordered (t ∷ ts) s h = all_ordered ts (so_far_after s t) (one_ordered s.progress s.declarations s.rows t h).0
 
@@ -164,4 +164,4 @@ declared_first ts t ds es rs qs p q h k =
   where
     by : (rs ≡ []) ⊎ ((so_far_after (so_far p ds rs) t).declarations ≡ ds) → (rs ≡ []) ⊎ (es ≡ ds)
     by (inl e) = inl e
-    by (inr e) = inr (sym (ap (λ (s : SoFar). s.declarations) (one_read ts t ds es rs qs p q h k)) ∙ e)
+    by (inr e) = inr (sym (ap (λ (s : ParsedPrefix). s.declarations) (one_read ts t ds es rs qs p q h k)) ∙ e)

@@ -18,7 +18,7 @@ ghost use Rattle.nk_apply.specs.Unions.{AreIds};
 ghost use Rattle.nk_determ.specs.Sets.{HasEachSetOnce};
 ghost use Rattle.nk_determ.specs.Pairs.{AreLabelsBelow};
 ghost use Rattle.nk_reach.specs.Sides.{alone, ends_of, AreOneSided};
-ghost use Rattle.nk_determ.specs.Breaks.{IsBreak, Breaks};
+ghost use Rattle.nk_determ.specs.Counterexamples.{IsCounterexampleWithTarget, IsCounterexample};
 ghost use Rattle.nk_runs.specs.Labels.{IsAmong};
 ghost use Rattle.nk_cert.specs.Equality.{Side, AreSame, HasOneAlone, IsAloneFrom, IsLeastDifference};
 ghost use Rattle.nk_cert.specs.Together.{AreNumbered, either_of, AgreeBySets, HavePositionSets};
@@ -201,25 +201,28 @@ pub fn histories_of_one_side_break()
         → IsAutomatonOfBoth fields st states left right p q
         → (bad : List ℕ → List ℕ → List Out) → IsOneSided st states left right (1 + dups_of p) bad
         → (start : ℕ) (f : Found)
-        → IsBreak st states (0 ∷ []) start bad 0 f ↔ IsAloneFrom (IsAmong st start) p q f }
+        → IsCounterexampleWithTarget st states (0 ∷ []) start bad 0 f ↔ IsAloneFrom
+        (IsAmong st start) p q f }
     ensures right { (fields : FieldTable) (st : StoreState) (states : List ℕ) (left right : ℕ)
         (p q : Policy)
         → IsAutomatonOfBoth fields st states left right p q
         → (bad : List ℕ → List ℕ → List Out) → IsOneSided st states left right (1 + dups_of p) bad
         → (start : ℕ) (f : Found)
-        → IsBreak st states (0 ∷ []) start bad 1 f ↔ IsAloneFrom (IsAmong st start) q p f }
+        → IsCounterexampleWithTarget st states (0 ∷ []) start bad 1 f ↔ IsAloneFrom
+        (IsAmong st start) q p f }
     ensures no_other { (fields : FieldTable) (st : StoreState) (states : List ℕ) (left right : ℕ)
         (p q : Policy)
         → IsAutomatonOfBoth fields st states left right p q
         → (bad : List ℕ → List ℕ → List Out) → IsOneSided st states left right (1 + dups_of p) bad
-        → (start t : ℕ) (f : Found) → IsBreak st states (0 ∷ []) start bad t f → (t ≡ 0) ⊎ (t ≡ 1) }
+        → (start t : ℕ) (f : Found) → IsCounterexampleWithTarget st states (0 ∷ []) start bad t f
+        → (t ≡ 0) ⊎ (t ≡ 1) }
     ensures least { (fields : FieldTable) (st : StoreState) (states : List ℕ) (left right : ℕ)
         (p q : Policy)
         → IsAutomatonOfBoth fields st states left right p q
         → (bad : List ℕ → List ℕ → List Out) → IsOneSided st states left right (1 + dups_of p) bad
         → (start : ℕ) → HasEach st start → (side : Side) (f : Found)
-        → IsBreak st states (0 ∷ []) start bad (target_of_side side) f
-        → IsLeast (λ g. Breaks st states (0 ∷ []) start bad g) f
+        → IsCounterexampleWithTarget st states (0 ∷ []) start bad (target_of_side side) f
+        → IsLeast (λ g. IsCounterexample st states (0 ∷ []) start bad g) f
         → IsLeastDifference fields p q side f }
 {}
 

@@ -31,7 +31,7 @@ use Rattle.nk_merge.proofs.Policies.{set_gives}
 use Rattle.nk_compile.specs.Ready.{sets_of}
 use Rattle.nk_compile.specs.Refusals.{found_from}
 use Rattle.nk_compile.proofs.Results.{set_there}
-use Rattle.nk_compact.specs.declared.compact.Apart.{Apart}
+use Rattle.nk_compact.specs.declared.compact.DistinguishingHistory.{DistinguishingHistory}
 use Rattle.nk_compact.specs.Compacted.{IsOfFirstSetAlone, IsLeastAlone, IsClass, IsFirstSet, IsApartIn, classes_apart, AreAparts}
 use Rattle.nk_compact.specs.MergedTable.{GivesAfter, AreSetsAlike, AreTagClasses, IsOfClass}
 use Rattle.nk_compact.specs.Told.{number_on_side, IsDistinguished, pairs_after, first_pairs, AreDistinguished}
@@ -137,7 +137,7 @@ module _ (fields : FieldTable) (p : Policy) (distinct : HasDistinct p) (st : Sto
           )
 
       -- what is told of two classes tells them apart
-      told_is : (i j : ℕ) → i < length firsts → j < length firsts → (a : Apart) → IsDistinguished st states ss tags firsts i j a → IsApartIn fields p (sets_of ss tags) classes a
+      told_is : (i j : ℕ) → i < length firsts → j < length firsts → (a : DistinguishingHistory) → IsDistinguished st states ss tags firsts i j a → IsApartIn fields p (sets_of ss tags) classes a
       told_is i j li lj a k =
           let inside : (c : ℕ) → c < length firsts → slice_index firsts c < length tags = λ c lt. subst (λ n. slice_index firsts c < n) count (fm.member c lt).0 in
           record {
@@ -265,14 +265,14 @@ rows_turn n (suc m) =
     inl (let lt = r.0 in let e = s.0 in omega (arith, lt, e)))
 
 -- what is told in order is in order
-told_turn : (P : ℕ × ℕ → Apart → Type 0) → ((q : ℕ × ℕ) (a : Apart) → P q a → (a.first ≡ suc q.0) × (a.second ≡ suc q.1)) → (qs : List (ℕ × ℕ)) (all : List Apart) → InTurn qs → Matched P qs all →
-    AllPairs (λ (a b : Apart). (a.first < b.first) ⊎ ((a.first ≡ b.first) × (a.second < b.second))) all
+told_turn : (P : ℕ × ℕ → DistinguishingHistory → Type 0) → ((q : ℕ × ℕ) (a : DistinguishingHistory) → P q a → (a.first ≡ suc q.0) × (a.second ≡ suc q.1)) → (qs : List (ℕ × ℕ)) (all : List DistinguishingHistory) → InTurn qs → Matched P qs all →
+    AllPairs (λ (a b : DistinguishingHistory). (a.first < b.first) ⊎ ((a.first ≡ b.first) × (a.second < b.second))) all
 told_turn P h [] [] t m = λ i j d lt less. absurd (omega (arith, less))
 told_turn P h [] (a ∷ more) t m = absurd m
 told_turn P h (q ∷ qs) [] t m = absurd m
 told_turn P h (q ∷ qs) (a ∷ more) t m =
-    AllPairs-cons (λ (a b : Apart). (a.first < b.first) ⊎ ((a.first ≡ b.first) × (a.second < b.second))) a more
-    (all_from_members (λ (b : Apart). (a.first < b.first) ⊎ ((a.first ≡ b.first) × (a.second < b.second))) more (λ b i.
+    AllPairs-cons (λ (a b : DistinguishingHistory). (a.first < b.first) ⊎ ((a.first ≡ b.first) × (a.second < b.second))) a more
+    (all_from_members (λ (b : DistinguishingHistory). (a.first < b.first) ⊎ ((a.first ≡ b.first) × (a.second < b.second))) more (λ b i.
     let s = of_second P qs more b m.1 i in
     let e = h q a m.0 in
     let f = h s.0 b s.2 in
@@ -290,11 +290,11 @@ module _ (fields : FieldTable) (p : Policy) (distinct : HasDistinct p) (st : Sto
     (ss : List (List ℕ)) (tags classes firsts : List ℕ) (dups : (i : ℕ) → i < length tags → AreDups p (set_of_tag ss tags i))
     (count : length classes ≡ length tags) (from_one : (i : ℕ) → i < length tags → 1 ≤ slice_index classes i) (fm : AreFirsts classes firsts) where
   -- what is told of any two classes in turn tells any two apart
-  pub told_all : (aparts : List Apart) → AreDistinguished st states ss tags firsts (first_pairs (length firsts) (length firsts)) aparts → AreAparts fields p (sets_of ss tags) classes aparts
+  pub told_all : (aparts : List DistinguishingHistory) → AreDistinguished st states ss tags firsts (first_pairs (length firsts) (length firsts)) aparts → AreAparts fields p (sets_of ss tags) classes aparts
   told_all aparts k =
       let n = length firsts in
       let numbers : map classes_apart aparts ≡ map raised (first_pairs n n) =
-      matched_maps (λ (q : ℕ × ℕ) (a : Apart). IsDistinguished st states ss tags firsts q.0 q.1 a) raised classes_apart (λ q a t. ap (λ x. (x, a.second)) t.first_is ∙ ap (λ y. (suc q.0, y)) t.second_is) (first_pairs n n) aparts k in
+      matched_maps (λ (q : ℕ × ℕ) (a : DistinguishingHistory). IsDistinguished st states ss tags firsts q.0 q.1 a) raised classes_apart (λ q a t. ap (λ x. (x, a.second)) t.first_is ∙ ap (λ y. (suc q.0, y)) t.second_is) (first_pairs n n) aparts k in
       record {
         exactly = λ i j. (
           λ c.
@@ -315,9 +315,9 @@ module _ (fields : FieldTable) (p : Policy) (distinct : HasDistinct p) (st : Sto
               let same : (suc a.0, suc b.0) ≡ (i, j) = ap (λ x. (x, suc b.0)) (sym a.2) ∙ ap (λ y. (i, y)) (sym b.2) in
               subst (λ (l : List (ℕ × ℕ)). Contains l (i, j)) (sym numbers) (contains_from_in (map raised (first_pairs n n)) (i, j) (subst (λ (q : ℕ × ℕ). In (map raised (first_pairs n n)) q) same there)),
         );
-        in_order = told_turn (λ (q : ℕ × ℕ) (a : Apart). IsDistinguished st states ss tags firsts q.0 q.1 a) (λ q a t. (t.first_is, t.second_is)) (first_pairs n n) aparts (rows_turn n n) k;
+        in_order = told_turn (λ (q : ℕ × ℕ) (a : DistinguishingHistory). IsDistinguished st states ss tags firsts q.0 q.1 a) (λ q a t. (t.first_is, t.second_is)) (first_pairs n n) aparts (rows_turn n n) k;
         each = all_from_members (IsApartIn fields p (sets_of ss tags) classes) aparts (λ a i.
-            let s = of_second (λ (q : ℕ × ℕ) (a : Apart). IsDistinguished st states ss tags firsts q.0 q.1 a) (first_pairs n n) aparts a k i in
+            let s = of_second (λ (q : ℕ × ℕ) (a : DistinguishingHistory). IsDistinguished st states ss tags firsts q.0 q.1 a) (first_pairs n n) aparts a k i in
             let r = rows_from n n s.0 s.1 in
             told_is fields p distinct st states over auto tidy ss tags classes firsts dups count from_one fm s.0.0 s.0.1 r.0 r.2 a s.2);
       }

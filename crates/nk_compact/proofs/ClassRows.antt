@@ -20,14 +20,14 @@ use Rattle.nk_extract.specs.Buckets.{bucket_of, AreBuckets}
 use Rattle.nk_group.specs.Groups.{groups_of, rows_after}
 use Rattle.nk_table.specs.declared.Table.{Table}
 use Rattle.nk_table.specs.declared.Tables.{Tables}
-use Rattle.nk_switches.specs.declared.stop.ActingTag.{ActingTag}
-use Rattle.nk_switches.specs.declared.stop.ClassHere.{ClassHere}
-use Rattle.nk_switches.specs.declared.stop.ClassStop.{ClassStop}
-use Rattle.nk_switches.specs.declared.stop.Stop.{Stop}
+use Rattle.nk_switches.specs.declared.switch_tags.ActingTag.{ActingTag}
+use Rattle.nk_switches.specs.declared.switch_tags.ClassHere.{ClassHere}
+use Rattle.nk_switches.specs.declared.switch_tags.SwitchClasses.{SwitchClasses}
+use Rattle.nk_switches.specs.declared.switch_tags.SwitchTags.{SwitchTags}
 use Rattle.nk_switches.specs.Matched.{Matched}
 use Rattle.nk_switches.specs.Tagged.{set_of_tag, members_of}
 use Rattle.nk_switches.specs.Made.{IsTagAt}
-use Rattle.nk_switches.specs.Classed.{class_of, acting_tag, LeadsTo, IsActingAt, IsClassAt, IsClassStop, IsClassTreeAt, IsClassTableAt}
+use Rattle.nk_switches.specs.Classed.{class_of, acting_tag, LeadsTo, IsActingAt, IsClassAt, AreSwitchClasses, IsClassTreeAt, IsClassTableAt}
 use Rattle.nk_switches.proofs.Matching.{of_second, matched_maps}
 use Rattle.nk_compile.specs.Comings.{ComesTo, HasComing}
 use Rattle.nk_compile.specs.MetUnder.{IsMetUnder}
@@ -40,7 +40,7 @@ use Rattle.nk_compile.proofs.Results.{set_there, set_within, tag_at, results_are
 use Rattle.nk_compile.proofs.StatesOfPositions.{IsTagged}
 use Rattle.nk_compile.proofs.TagPlaces.{tags_stand}
 use Rattle.nk_compile.proofs.TagTables.{tagged, comes_rows}
-use Rattle.nk_compact.specs.ClassStops.{acting_of, classes_among, class_stop_of}
+use Rattle.nk_compact.specs.ClassesAtSwitches.{acting_of, classes_among, switch_classes_of}
 use Rattle.nk_compact.specs.Mergeable.{IsMergeable}
 use Rattle.nk_compact.specs.MergedTable.{IsOfClass, IsMetMember, ActsFor, IsClassTree, HasClassRowsAt, IsClassTable, IsMergedTable}
 use Rattle.nk_compact.proofs.ActingTags.{acting_from, acting_some, IsFirstMet, IsNoneMet, acting_is, IsClassOf, class_from, start_there, class_there, classes_rise}
@@ -114,7 +114,7 @@ module _ (fields : FieldTable) (topo : Topology) (tag : ℕ) (p : Policy) (st : 
   member_at : (i c : ℕ) → i < length tags → slice_index classes i ≡ c → IsOfClass classes c i
   member_at i c lt is = get_index classes i (subst (λ n. i < n) (sym classes_count) lt) ∙ ap Some is
 
-  module _ (s : Stop) (coming : HasComing ends ss tags (length tags) s) where
+  module _ (s : SwitchTags) (coming : HasComing ends ss tags (length tags) s) where
     -- a tag that comes here is one of them
     tag_within : (t : ℕ) → In s.tags t → t ≤ length tags
     tag_within t i = members_from_all (λ n. n ≤ length tags) s.tags coming.within t i
@@ -257,7 +257,7 @@ module _ (fields : FieldTable) (topo : Topology) (tag : ℕ) (p : Policy) (st : 
             (f.0, member_at f.0 (suc low) inside (f.4 ∙ ap suc e), (rows_here s.switch (suc f.0)).0 ((coming.exactly (suc f.0)).0 (contains_from_in s.tags (suc f.0) f.3)))
 
     -- the table of a switch
-    table_is : (t : Table) → IsClassTableAt st ss states tags classes tag (class_stop_of classes met firsts s) t → IsClassTable fields tag Start p sets classes t
+    table_is : (t : Table) → IsClassTableAt st ss states tags classes tag (switch_classes_of classes met firsts s) t → IsClassTable fields tag Start p sets classes t
     table_is t k =
         let all = classes_among classes met firsts s.tags (length firsts) in
         let numbers : map (λ (e : TagTree). e.tag) k.trees ≡ map (λ (h : ClassHere). h.class) all =
@@ -279,7 +279,7 @@ module _ (fields : FieldTable) (topo : Topology) (tag : ℕ) (p : Policy) (st : 
         }
 
     -- a switch's classes can be put into its table
-    pub class_stop_is : IsClassStop st ss states tags tag (class_stop_of classes met firsts s)
+    pub class_stop_is : AreSwitchClasses st ss states tags tag (switch_classes_of classes met firsts s)
     class_stop_is =
         all_from_members (IsClassAt st ss states tags tag s.switch) (classes_among classes met firsts s.tags (length firsts)) (λ h i.
         ⊎_elim
@@ -303,27 +303,27 @@ module _ (fields : FieldTable) (topo : Topology) (tag : ℕ) (p : Policy) (st : 
         at t le = tag_at 0 fields topo tag p st ss states tags m.clear m.ready tagged_here s.switch t le
 
   -- so it is with each switch
-  pub class_stops_are : (stops : List Stop) (all : List ClassStop) → All (HasComing ends ss tags (length tags)) stops → all ≡ map (class_stop_of classes met firsts) stops →
-      All (IsClassStop st ss states tags tag) all
-  class_stops_are stops all coming is =
-      subst (All (IsClassStop st ss states tags tag)) (sym is)
-      (all_from_members (IsClassStop st ss states tags tag) (map (class_stop_of classes met firsts) stops) (λ q i.
-      let f = from_mapped (class_stop_of classes met firsts) stops q i in
-      subst (IsClassStop st ss states tags tag) (sym f.2) (class_stop_is f.0 (members_from_all (HasComing ends ss tags (length tags)) stops coming f.0 f.1))))
+  pub class_stops_are : (by_switch : List SwitchTags) (all : List SwitchClasses) → All (HasComing ends ss tags (length tags)) by_switch → all ≡ map (switch_classes_of classes met firsts) by_switch →
+      All (AreSwitchClasses st ss states tags tag) all
+  class_stops_are by_switch all coming is =
+      subst (All (AreSwitchClasses st ss states tags tag)) (sym is)
+      (all_from_members (AreSwitchClasses st ss states tags tag) (map (switch_classes_of classes met firsts) by_switch) (λ q i.
+      let f = from_mapped (switch_classes_of classes met firsts) by_switch q i in
+      subst (AreSwitchClasses st ss states tags tag) (sym f.2) (class_stop_is f.0 (members_from_all (HasComing ends ss tags (length tags)) by_switch coming f.0 f.1))))
 
   -- the tags that come are tags with classes
-  pub tags_have_classes : (stops : List Stop) → All (HasComing ends ss tags (length tags)) stops → All (λ (s : Stop). All (λ t. t ≤ length classes) s.tags) stops
-  tags_have_classes stops coming k d lt j e less = subst (λ n. get_or (get_or stops k d).tags j e ≤ n) (sym classes_count) ((coming k d lt).within j e less)
+  pub tags_have_classes : (by_switch : List SwitchTags) → All (HasComing ends ss tags (length tags)) by_switch → All (λ (s : SwitchTags). All (λ t. t ≤ length classes) s.tags) by_switch
+  tags_have_classes by_switch coming k d lt j e less = subst (λ n. get_or (get_or by_switch k d).tags j e ≤ n) (sym classes_count) ((coming k d lt).within j e less)
 
   -- the first members have classes
   pub firsts_within : All (λ i. i < length classes) firsts
   firsts_within k d lt = subst (λ n. n < length classes) (get_or_default firsts k 0 d lt) (m.firsts_are.member k lt).0
 
   -- the tables of all switches
-  pub merged_are : (stops : List Stop) (ts : List Table) → map (λ (s : Stop). s.switch) stops ≡ numbers_of topo → All (HasComing ends ss tags (length tags)) stops →
-      Matched (IsClassTableAt st ss states tags classes tag) (map (class_stop_of classes met firsts) stops) ts → (t : Tables) → t.fields ≡ fields → t.topo ≡ topo → t.tables ≡ ts →
+  pub merged_are : (by_switch : List SwitchTags) (ts : List Table) → map (λ (s : SwitchTags). s.switch) by_switch ≡ numbers_of topo → All (HasComing ends ss tags (length tags)) by_switch →
+      Matched (IsClassTableAt st ss states tags classes tag) (map (switch_classes_of classes met firsts) by_switch) ts → (t : Tables) → t.fields ≡ fields → t.topo ≡ topo → t.tables ≡ ts →
       IsMergedTable fields topo Start p sets classes t
-  merged_are stops ts switches coming k t same_fields same_topology are = record {
+  merged_are by_switch ts switches coming k t same_fields same_topology are = record {
     tag = tag;
     tag_declared = m.clear.tag_is;
     in_order = subst (λ l. AreTags p Start l) (sym m.ready.numbered) m.ready.in_order;
@@ -332,16 +332,16 @@ module _ (fields : FieldTable) (topo : Topology) (tag : ℕ) (p : Policy) (st : 
     same_topology = same_topology;
     switches =
         ap (map (λ (u : Table). u.switch)) are
-        ∙ matched_maps (IsClassTableAt st ss states tags classes tag) (λ (s : ClassStop). s.switch) (λ (u : Table). u.switch) (λ s u q. q.switch) (map (class_stop_of classes met firsts) stops) ts k
-        ∙ stops_switches stops ∙ switches;
+        ∙ matched_maps (IsClassTableAt st ss states tags classes tag) (λ (s : SwitchClasses). s.switch) (λ (u : Table). u.switch) (λ s u q. q.switch) (map (switch_classes_of classes met firsts) by_switch) ts k
+        ∙ stops_switches by_switch ∙ switches;
     each =
         subst (All (IsClassTable fields tag Start p sets classes)) (sym are)
         (all_from_members (IsClassTable fields tag Start p sets classes) ts (λ u i.
-        let s = of_second (IsClassTableAt st ss states tags classes tag) (map (class_stop_of classes met firsts) stops) ts u k i in
-        let f = from_mapped (class_stop_of classes met firsts) stops s.0 s.1 in
-        table_is f.0 (members_from_all (HasComing ends ss tags (length tags)) stops coming f.0 f.1) u (subst (λ q. IsClassTableAt st ss states tags classes tag q u) f.2 s.2)));
+        let s = of_second (IsClassTableAt st ss states tags classes tag) (map (switch_classes_of classes met firsts) by_switch) ts u k i in
+        let f = from_mapped (switch_classes_of classes met firsts) by_switch s.0 s.1 in
+        table_is f.0 (members_from_all (HasComing ends ss tags (length tags)) by_switch coming f.0 f.1) u (subst (λ q. IsClassTableAt st ss states tags classes tag q u) f.2 s.2)));
   }
     where
-      stops_switches : (xs : List Stop) → map (λ (s : ClassStop). s.switch) (map (class_stop_of classes met firsts) xs) ≡ map (λ (s : Stop). s.switch) xs
+      stops_switches : (xs : List SwitchTags) → map (λ (s : SwitchClasses). s.switch) (map (switch_classes_of classes met firsts) xs) ≡ map (λ (s : SwitchTags). s.switch) xs
       stops_switches [] = refl
       stops_switches (x ∷ xs) = ap (λ l. x.switch ∷ l) (stops_switches xs)

@@ -15,7 +15,7 @@ use Rattle.nk_merge.specs.Distinguish.{Distinguishes, IsLeastOfOne}
 use Rattle.nk_merge.specs.Classes.{AreFirsts}
 use Rattle.nk_merge.proofs.Growing.{alike_back, least_back}
 use Rattle.nk_compile.specs.Refusals.{found_from}
-use Rattle.nk_compact.specs.declared.compact.Apart.{Apart}
+use Rattle.nk_compact.specs.declared.compact.DistinguishingHistory.{DistinguishingHistory}
 use Rattle.nk_compact.specs.Told.{number_on_side, first_member_set, IsDistinguished, pairs_after, first_pairs, AreDistinguished, IsBase}
 
 module _ (st : StoreState) (states : List ℕ) (ss : List (List ℕ)) (tags firsts : List ℕ) (i j s t : ℕ) (s_is : s ≡ get_or tags (get_or firsts i 0) 0) (t_is : t ≡ get_or tags (get_or firsts j 0) 0) where
@@ -30,7 +30,7 @@ module _ (st : StoreState) (states : List ℕ) (ss : List (List ℕ)) (tags firs
   none_alike o e k = subst (Distinguishes st states (first_member_set ss tags firsts i) (first_member_set ss tags firsts j)) e (of_classes o k)
 
   -- and what is found is told
-  pub some_told : (o : Option declared.Found) (f : declared.Found) → o ≡ Some f → Distinguishes st states (labels_after (get_or ss s [])) (labels_after (get_or ss t [])) o → (a : Apart) →
+  pub some_told : (o : Option declared.Found) (f : declared.Found) → o ≡ Some f → Distinguishes st states (labels_after (get_or ss s [])) (labels_after (get_or ss t [])) o → (a : DistinguishingHistory) →
       a ≡ record { first = i + 1; second = j + 1; alone = number_on_side f.side (i + 1) (j + 1); start = f.start; history = f.history } → IsDistinguished st states ss tags firsts i j a
   some_told o f e k a is =
       let found = subst (Distinguishes st states (first_member_set ss tags firsts i) (first_member_set ss tags firsts j)) e (of_classes o k) in
@@ -78,7 +78,7 @@ module _ (base : StoreState) (first : List (List ℕ)) (st : StoreState) (ss : L
       (subst (λ s. AreAlike st states (first_member_set first tags firsts i) s) (first_kept j lj) (subst (λ s. AreAlike st states s (first_member_set ss tags firsts j)) (first_kept i li) k))
 
   -- what is told there is told of the beginning
-  pub told_then : (i j : ℕ) → i < length firsts → j < length firsts → (a : Apart) → IsDistinguished st states ss tags firsts i j a → IsDistinguished base states first tags firsts i j a
+  pub told_then : (i j : ℕ) → i < length firsts → j < length firsts → (a : DistinguishingHistory) → IsDistinguished st states ss tags firsts i j a → IsDistinguished base states first tags firsts i j a
   told_then i j li lj a k = record {
     first_is = k.first_is;
     second_is = k.second_is;
@@ -91,7 +91,7 @@ module _ (base : StoreState) (first : List (List ℕ)) (st : StoreState) (ss : L
   }
 
   -- one more in a row
-  pub told_more : (i j : ℕ) → i < j → j < length firsts → (pairs : List (ℕ × ℕ)) (all longer : List Apart) (a : Apart) → IsDistinguished st states ss tags firsts i j a → longer ≡ all ++ a ∷ [] →
+  pub told_more : (i j : ℕ) → i < j → j < length firsts → (pairs : List (ℕ × ℕ)) (all longer : List DistinguishingHistory) (a : DistinguishingHistory) → IsDistinguished st states ss tags firsts i j a → longer ≡ all ++ a ∷ [] →
       AreDistinguished base states first tags firsts (pairs ++ pairs_after i j) all → AreDistinguished base states first tags firsts (pairs ++ pairs_after i (j + 1)) longer
   told_more i j lt inside pairs all longer a one is k =
       let li : i < length firsts = omega (arith, lt, inside) in
@@ -100,7 +100,7 @@ module _ (base : StoreState) (first : List (List ℕ)) (st : StoreState) (ss : L
       let here : pairs_after i (j + 1) ≡ pairs_after i j ++ (i, j) ∷ [] = ap (pairs_after i) (sym next) ∙ ap (λ t. pairs_after i j ++ cond t ((i, j) ∷ []) []) less in
       subst (λ l. AreDistinguished base states first tags firsts l longer) (append_assoc pairs (pairs_after i j) ((i, j) ∷ []) ∙ ap (λ l. pairs ++ l) (sym here))
       (subst (AreDistinguished base states first tags firsts ((pairs ++ pairs_after i j) ++ (i, j) ∷ [])) (sym is)
-      (matched_push (λ (q : ℕ × ℕ) (x : Apart). IsDistinguished base states first tags firsts q.0 q.1 x) (pairs ++ pairs_after i j) all (i, j) a k (told_then i j li inside a one)))
+      (matched_push (λ (q : ℕ × ℕ) (x : DistinguishingHistory). IsDistinguished base states first tags firsts q.0 q.1 x) (pairs ++ pairs_after i j) all (i, j) a k (told_then i j li inside a one)))
 
 -- a row begins after its place
 row_none : (i j : ℕ) → j ≤ suc i → pairs_after i j ≡ []
@@ -110,13 +110,13 @@ row_none i (suc j) le =
     let less : ltb i j ≡ false = grind (arith, nat_tests, le) in
     ap (λ l. l ++ cond (ltb i j) ((i, j) ∷ []) []) (row_none i j low) ∙ ap (λ t. cond t ((i, j) ∷ []) []) less
 
-pub row_start : (base : StoreState) (states : List ℕ) (first : List (List ℕ)) (tags firsts : List ℕ) (i : ℕ) (pairs : List (ℕ × ℕ)) (all : List Apart) → AreDistinguished base states first tags firsts pairs all →
+pub row_start : (base : StoreState) (states : List ℕ) (first : List (List ℕ)) (tags firsts : List ℕ) (i : ℕ) (pairs : List (ℕ × ℕ)) (all : List DistinguishingHistory) → AreDistinguished base states first tags firsts pairs all →
     AreDistinguished base states first tags firsts (pairs ++ pairs_after i (i + 1)) all
 row_start base states first tags firsts i pairs all k =
     subst (λ l. AreDistinguished base states first tags firsts l all) (sym (ap (λ l. pairs ++ l) (row_none i (i + 1) (omega arith)) ∙ append-nil pairs)) k
 
 -- one row more
-pub rows_more : (base : StoreState) (states : List ℕ) (first : List (List ℕ)) (tags firsts : List ℕ) (n i : ℕ) (all : List Apart) → AreDistinguished base states first tags firsts (first_pairs n i ++ pairs_after i n) all →
+pub rows_more : (base : StoreState) (states : List ℕ) (first : List (List ℕ)) (tags firsts : List ℕ) (n i : ℕ) (all : List DistinguishingHistory) → AreDistinguished base states first tags firsts (first_pairs n i ++ pairs_after i n) all →
     AreDistinguished base states first tags firsts (first_pairs n (i + 1)) all
 rows_more base states first tags firsts n i all k =
     let next : suc i ≡ i + 1 = omega arith in

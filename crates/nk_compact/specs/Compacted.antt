@@ -15,7 +15,7 @@ use Rattle.nk_compile.specs.declared.refusal.Refusal.TheVariants.{NoPolicy, TooM
 use Rattle.nk_compile.specs.Carries.{Carries}
 use Rattle.nk_compile.specs.OffEdge.{EndsOnEdges}
 use Rattle.nk_compile.specs.Refusals.{static_refusal, found_from, IsReason}
-use Rattle.nk_compact.specs.declared.compact.Apart.{Apart}
+use Rattle.nk_compact.specs.declared.compact.DistinguishingHistory.{DistinguishingHistory}
 use Rattle.nk_compact.specs.declared.compact.Compact.{Compact}
 use Rattle.nk_compact.specs.MergedTable.{GivesAfter, AreTagClasses, IsOfClass, IsFirstPlace, IsMergedTable}
 
@@ -38,7 +38,7 @@ abbrev pub IsFirstSet : List (List ℕ) → List ℕ → ℕ → List ℕ → Ty
 IsFirstSet tags classes c s = (i : ℕ) × IsFirstPlace (IsOfClass classes c) i × (slice_get tags i ≡ Some s)
 
 -- what tells two classes apart: the least history that the state of one of both gives alone, and which of both
-pub record IsApartIn (fields : FieldTable) (p : Policy) (tags : List (List ℕ)) (classes : List ℕ) (a : Apart) : Type 0 where
+pub record IsApartIn (fields : FieldTable) (p : Policy) (tags : List (List ℕ)) (classes : List ℕ) (a : DistinguishingHistory) : Type 0 where
   pub s : List ℕ
   pub t : List ℕ
   pub of_first : IsFirstSet tags classes a.first s
@@ -46,13 +46,13 @@ pub record IsApartIn (fields : FieldTable) (p : Policy) (tags : List (List ℕ))
   pub least : ((a.alone ≡ a.first) × IsLeastAlone fields p s t (found_from a.start a.history)) ⊎ ((a.alone ≡ a.second) × IsLeastAlone fields p t s (found_from a.start a.history))
 
 -- the two classes
-abbrev pub classes_apart : Apart → ℕ × ℕ
+abbrev pub classes_apart : DistinguishingHistory → ℕ × ℕ
 classes_apart a = (a.first, a.second)
 
 -- exactly one for each two classes, the first below the second, by the first and then by the second
-pub record AreAparts (fields : FieldTable) (p : Policy) (tags : List (List ℕ)) (classes : List ℕ) (aparts : List Apart) : Type 0 where
+pub record AreAparts (fields : FieldTable) (p : Policy) (tags : List (List ℕ)) (classes : List ℕ) (aparts : List DistinguishingHistory) : Type 0 where
   pub exactly : (i j : ℕ) → Contains {X = ℕ × ℕ} (map classes_apart aparts) (i, j) ↔ ((i < j) × IsClass classes i × IsClass classes j)
-  pub in_order : AllPairs (λ (a b : Apart). (a.first < b.first) ⊎ ((a.first ≡ b.first) × (a.second < b.second))) aparts
+  pub in_order : AllPairs (λ (a b : DistinguishingHistory). (a.first < b.first) ⊎ ((a.first ≡ b.first) × (a.second < b.second))) aparts
   pub each : All (IsApartIn fields p tags classes) aparts
 
 -- the merged tables of a compilable policy, by its tag sets and their classes, which are no more than the tag has values above 0,

@@ -1,4 +1,4 @@
-pub mod ClassStops
+pub mod ClassesAtSwitches
 pub mod Compacted
 pub mod Mergeable
 pub mod MergedTable

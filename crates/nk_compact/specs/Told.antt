@@ -9,7 +9,7 @@ use Rattle.nk_switches.specs.Matched.{Matched}
 use Rattle.nk_merge.specs.Alike.{labels_after, tag_set}
 use Rattle.nk_merge.specs.Distinguish.{IsLeastOfOne}
 use Rattle.nk_compile.specs.Refusals.{found_from}
-use Rattle.nk_compact.specs.declared.compact.Apart.{Apart}
+use Rattle.nk_compact.specs.declared.compact.DistinguishingHistory.{DistinguishingHistory}
 
 -- of two numbers the first for the left side, the second for the right one
 abbrev pub number_on_side : Side → ℕ → ℕ → ℕ
@@ -21,7 +21,7 @@ abbrev pub first_member_set : List (List ℕ) → List ℕ → List ℕ → ℕ 
 first_member_set ss tags firsts c = labels_after (tag_set ss tags (slice_index firsts c))
 
 -- what tells the classes at these places apart: the least history that the state of one of both gives alone, and which of both
-pub record IsDistinguished (st : StoreState) (states : List ℕ) (ss : List (List ℕ)) (tags firsts : List ℕ) (i j : ℕ) (a : Apart) : Type 0 where
+pub record IsDistinguished (st : StoreState) (states : List ℕ) (ss : List (List ℕ)) (tags firsts : List ℕ) (i j : ℕ) (a : DistinguishingHistory) : Type 0 where
   pub first_is : a.first ≡ suc i
   pub second_is : a.second ≡ suc j
   pub side : Side
@@ -39,7 +39,7 @@ first_pairs n zero = []
 first_pairs n (suc i) = first_pairs n i ++ pairs_after i n
 
 -- each pair in turn is told
-abbrev pub AreDistinguished : StoreState → List ℕ → List (List ℕ) → List ℕ → List ℕ → List (ℕ × ℕ) → List Apart → Type 0
+abbrev pub AreDistinguished : StoreState → List ℕ → List (List ℕ) → List ℕ → List ℕ → List (ℕ × ℕ) → List DistinguishingHistory → Type 0
 AreDistinguished st states ss tags firsts pairs aparts = Matched (λ q a. IsDistinguished st states ss tags firsts q.0 q.1 a) pairs aparts
 
 -- a store and sets of the beginning, which have grown; the tags' sets are known there, and their labels are places of states

@@ -6,7 +6,7 @@ ghost use Rattle.nk_merge.specs.Alike.{AreAlike};
 ghost use Rattle.nk_merge.specs.DisjointCopies.{IsDisjointCopy};
 ghost use Rattle.nk_compact.specs.Told.{number_on_side, first_member_set, IsDistinguished, AreDistinguished, IsBase, pairs_after, first_pairs};
 
-use crate::compact::Apart;
+use crate::compact::DistinguishingHistory;
 use nk_determ::{SetId, Sets};
 use nk_field::List;
 use nk_merge::{DisjointCopy, distinguish};
@@ -23,7 +23,7 @@ pub fn aparts(
     disjoint: &mut DisjointCopy,
     tags: &[SetId],
     firsts: &[usize],
-) -> Result<List<Apart>, AllocError>
+) -> Result<List<DistinguishingHistory>, AllocError>
     requires disjoint { IsDisjointCopy st.old states.now disjoint.old }
     requires base { IsBase st.old ss.old st.old ss.old states.now tags.now firsts.now }
     requires different { (i j : ℕ) → i < j → j < length firsts.now
@@ -51,7 +51,7 @@ fn apart_row(
     tags: &[SetId],
     firsts: &[usize],
     i: usize,
-    all: &mut List<Apart>,
+    all: &mut List<DistinguishingHistory>,
 ) -> Result<(), AllocError>
     requires disjoint { IsDisjointCopy st.old states.now disjoint.old }
     requires base { IsBase st.old ss.old st.old ss.old states.now tags.now firsts.now }
@@ -86,7 +86,7 @@ fn apart_of(
     firsts: &[usize],
     i: usize,
     j: usize,
-) -> Result<Apart, AllocError>
+) -> Result<DistinguishingHistory, AllocError>
     requires disjoint { IsDisjointCopy st.old states.now disjoint.old }
     requires base { IsBase st.old ss.old st.old ss.old states.now tags.now firsts.now }
     requires first { i < length firsts.now }
@@ -117,7 +117,7 @@ fn set_of_first(tags: &[SetId], firsts: &[usize], c: usize) -> SetId
 }
 
 /// The history that tells two classes apart, with their numbers.
-fn told(found: Found, first: u64, second: u64) -> Apart
+fn told(found: Found, first: u64, second: u64) -> DistinguishingHistory
     ensures { result ≡ record {
       first = first;
       second = second;
@@ -130,7 +130,7 @@ fn told(found: Found, first: u64, second: u64) -> Apart
         Side::Left => first,
         Side::Right => second,
     };
-    Apart {
+    DistinguishingHistory {
         first,
         second,
         alone,

@@ -27,7 +27,7 @@ use std::alloc::{AllocError, Global};
 /// Why two classes of tag sets are no single one: a packet from which the states of one of them give a history that those of the
 /// other don't.
 #[derive(Drop)]
-pub struct Apart {
+pub struct DistinguishingHistory {
     /// The lesser class.
     pub first: u64,
     /// The other class.
@@ -46,7 +46,7 @@ pub struct Compact {
     /// The tables; tags in them are the numbers of classes of tag sets.
     pub tables: Tables,
     /// For each two classes, in order, why they are no single one.
-    pub aparts: List<Apart>,
+    pub aparts: List<DistinguishingHistory>,
 }
 
 /// The tables of a named policy in which tag sets after which the same histories are left share a tag.

@@ -2,10 +2,10 @@
 #![tactic(auto)]
 
 mod aparts;
-mod class_stops;
 mod compact;
 pub mod laws;
 mod merged;
 mod met;
+mod switch_classes;
 
-pub use compact::{Apart, Compact, compile_compact};
+pub use compact::{Compact, DistinguishingHistory, compile_compact};

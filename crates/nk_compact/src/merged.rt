@@ -8,8 +8,8 @@ ghost use Rattle.nk_compile.specs.Ready.{sets_of};
 ghost use Rattle.nk_compact.specs.Mergeable.{IsMergeable};
 ghost use Rattle.nk_compact.specs.MergedTable.{IsMergedTable};
 
-use crate::class_stops::class_stops;
-use nk_compile::{link_ends, tag_stops};
+use crate::switch_classes::classes_at_switches;
+use nk_compile::{link_ends, tags_at_switches};
 use nk_determ::{SetId, Sets};
 use nk_field::List;
 use nk_merge::Classes;
@@ -45,9 +45,9 @@ pub fn merged_tables(
         (sets_of ss.old tags.now) classes.now.numbers t) }
 {
     let ends = link_ends(st.alloc(), p, states.len())?;
-    let stops = tag_stops(st.alloc(), topo, ends.as_slice(), ss, tags)?;
+    let by_switch = tags_at_switches(st.alloc(), topo, ends.as_slice(), ss, tags)?;
     let numbers = classes.numbers.as_slice();
     let firsts = classes.firsts.as_slice();
-    let here = class_stops(st.alloc(), stops.as_slice(), numbers, firsts, met)?;
+    let here = classes_at_switches(st.alloc(), by_switch.as_slice(), numbers, firsts, met)?;
     class_tables(st, ss, states, tags, numbers, here.as_slice())
 }

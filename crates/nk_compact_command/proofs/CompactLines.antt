@@ -23,7 +23,7 @@ use Rattle.nk_names.specs.ReadBack.{IsWritable}
 use Rattle.nk_names.proofs.Named.{let_named}
 use Rattle.nk_tabtext.specs.ReadBack.{ReadsPrintedTables}
 use Rattle.nk_tabtext.specs.Values.{tables_of}
-use Rattle.nk_compact.specs.declared.compact.Apart.{Apart}
+use Rattle.nk_compact.specs.declared.compact.DistinguishingHistory.{DistinguishingHistory}
 use Rattle.nk_compact.specs.declared.compact.Compact.{Compact}
 use Rattle.nk_compact.specs.Compacted.{IsFirstSet, IsApartIn, IsCompacted}
 use Rattle.nk_compact.proofs.Merging.{index_get}
@@ -56,7 +56,7 @@ module _ (fields : FieldTable) (writable : IsWritable fields) (p : Policy) (dist
       let le : c ≤ most_tags fields fields.tag = subst (λ n. n ≤ most_tags fields fields.tag) (index_get classes f.0 c f.1.0) (few f.0) in
       omega (arith, le, small)
 
-  words_plain : (a : Apart) → IsApartIn fields p tags classes a → IsPlain (apart_words fields a)
+  words_plain : (a : DistinguishingHistory) → IsApartIn fields p tags classes a → IsPlain (apart_words fields a)
   words_plain a h =
       let one = number_small a.first h.s h.of_first in
       let two = number_small a.second h.t h.of_second in
@@ -83,12 +83,12 @@ module _ (fields : FieldTable) (writable : IsWritable fields) (p : Policy) (dist
       (plain_after head (packet_bytes fields true a.start) numbers (packet_plain fields writable.names writable.maxima true a.start start)) refl)
       (history_plain fields writable.names writable.maxima true a.history gives.0 gives.1)
 
-  is_comment : (a : Apart) → IsApartIn fields p tags classes a → IsCommentLine (apart_line fields a)
+  is_comment : (a : DistinguishingHistory) → IsApartIn fields p tags classes a → IsCommentLine (apart_line fields a)
   is_comment a h = record { body = apart_words fields a; plain = words_plain a h; is = refl }
 
-  are_comments : (aparts : List Apart) → All (IsApartIn fields p tags classes) aparts → All (λ a. IsCommentLine (apart_line fields a)) aparts
+  are_comments : (aparts : List DistinguishingHistory) → All (IsApartIn fields p tags classes) aparts → All (λ a. IsCommentLine (apart_line fields a)) aparts
   are_comments aparts h =
-      all_from_members (λ (a : Apart). IsCommentLine (apart_line fields a)) aparts (λ a i. is_comment a (members_from_all (IsApartIn fields p tags classes) aparts h a i))
+      all_from_members (λ (a : DistinguishingHistory). IsCommentLine (apart_line fields a)) aparts (λ a i. is_comment a (members_from_all (IsApartIn fields p tags classes) aparts h a i))
 
 -- ---- what is printed
 

@@ -10,7 +10,7 @@ use Rattle.nk_names.specs.ProgramOf.{DeclaredProgram, program_by}
 use Rattle.nk_tabtext.specs.Text.{table_bytes}
 use Rattle.nk_tabtext.specs.Values.{tables_of}
 use Rattle.nk_compile.specs.declared.refusal.Refusal.{Refusal}
-use Rattle.nk_compact.specs.declared.compact.Apart.{Apart}
+use Rattle.nk_compact.specs.declared.compact.DistinguishingHistory.{DistinguishingHistory}
 use Rattle.nk_compact.specs.declared.compact.Compact.{Compact}
 use Rattle.nk_compact.specs.Compacted.{IsCompacted, IsCompactRefused}
 use Rattle.nk_compile_commands.specs.Messages.{refusal_line}
@@ -20,13 +20,13 @@ use Rattle.nk_compile_commands.specs.TextTables.{HasFewGroups}
 
 -- what a comment says of two tags: the one that alone gives the history, the packet that it starts at, and the history, with every
 -- field
-abbrev pub apart_words : FieldTable → Apart → List ℕ
+abbrev pub apart_words : FieldTable → DistinguishingHistory → List ℕ
 apart_words fields a =
     codes " apart " ++ decimal a.first ++ codes " " ++ decimal a.second ++ codes " : " ++ decimal a.alone ++ codes " alone : start "
     ++ packet_bytes fields true a.start ++ codes " : history " ++ history_bytes fields true a.history
 
 -- the line of it
-abbrev pub apart_line : FieldTable → Apart → List ℕ
+abbrev pub apart_line : FieldTable → DistinguishingHistory → List ℕ
 apart_line fields a = codes "#" ++ apart_words fields a ++ codes "\n"
 
 -- the tables' text, and after it the comment lines

@@ -11,7 +11,7 @@ ghost use Rattle.nk_reply.specs.Reply.{outcome_of};
 
 use crate::laws::{compacted_tables_are_in_order, compacted_tables_are_printable};
 use itoa::Buffer;
-use nk_compact::{Apart, Compact, compile_compact};
+use nk_compact::{Compact, DistinguishingHistory, compile_compact};
 use nk_compile::CompileError;
 use nk_compile_commands::refusal_message;
 use nk_field::{Fields, history_text, packet_text};
@@ -73,7 +73,7 @@ fn push_aparts(
     alloc: Global,
     out: &mut Vec<u8>,
     fields: &Fields,
-    aparts: &[Apart],
+    aparts: &[DistinguishingHistory],
 ) -> Result<(), AllocError>
     ensures { OnOk result (out.new.items
         ≡ out.old.items ++ flat_map (apart_line fields.now) aparts.now) }
@@ -89,7 +89,7 @@ fn push_apart(
     alloc: Global,
     out: &mut Vec<u8>,
     fields: &Fields,
-    apart: &Apart,
+    apart: &DistinguishingHistory,
 ) -> Result<(), AllocError>
     ensures { OnOk result (out.new.items ≡ out.old.items ++ apart_line fields.now apart.now) }
 {
@@ -99,7 +99,7 @@ fn push_apart(
 }
 
 /// Appends two tags, and which of them has the history.
-fn push_tags(out: &mut Vec<u8>, apart: &Apart) -> Result<(), AllocError>
+fn push_tags(out: &mut Vec<u8>, apart: &DistinguishingHistory) -> Result<(), AllocError>
     ensures { OnOk result (out.new.items
         ≡ out.old.items ++ decimal apart.now.first ++ codes " " ++ decimal apart.now.second
         ++ codes " : " ++ decimal apart.now.alone) }
@@ -116,7 +116,7 @@ fn push_alone(
     alloc: Global,
     out: &mut Vec<u8>,
     fields: &Fields,
-    apart: &Apart,
+    apart: &DistinguishingHistory,
 ) -> Result<(), AllocError>
     ensures { OnOk result (out.new.items
         ≡ out.old.items ++ codes " alone : start " ++ packet_bytes fields.now true apart.now.start

@@ -3,19 +3,19 @@ use Rattle.std.proofs.Common.{◌≡◌, ℕ, ◌+◌, ◌<◌, Option, Some, No
 use Rattle.std.proofs.lemmas.List.{get_or-map, length-map}
 use Rattle.nk_topo.specs.Topology.{Topology, SwitchPorts, IsTopology, numbers_of}
 use Rattle.std.specs.Prelude.{All, AllPairs, map, slice_index_or, Result, Ok, Err, OnOk}
-use Rattle.nk_switches.specs.declared.stop.Stop.{Stop}
+use Rattle.nk_switches.specs.declared.switch_tags.SwitchTags.{SwitchTags}
 use Rattle.nk_switches.specs.Tagged.{set_of_tag}
 use Rattle.nk_compile.specs.Comings.{first_end, HasComing, with_end}
 use Rattle.nk_compile.proofs.ComingSteps.{all_more, all_same, switches_stay}
 
 -- all switches with one tag more
-pub coming_on : (ends : List (Option ℕ)) (ss : List (List ℕ)) (tags : List ℕ) (i : ℕ) (end : Option ℕ) (all : List Stop) → first_end ends (set_of_tag ss tags i) ≡ end →
+pub coming_on : (ends : List (Option ℕ)) (ss : List (List ℕ)) (tags : List ℕ) (i : ℕ) (end : Option ℕ) (all : List SwitchTags) → first_end ends (set_of_tag ss tags i) ≡ end →
     All (HasComing ends ss tags i) all → All (HasComing ends ss tags (i + 1)) (with_end end (i + 1) all)
 coming_on ends ss tags i None all e k = all_same ends ss tags i all e k
 coming_on ends ss tags i (Some sw) all e k = all_more ends ss tags i sw all e k
 
 -- the switches stay
-pub switches_on : (end : Option ℕ) (tag : ℕ) (all : List Stop) → map (λ (s : Stop). s.switch) (with_end end tag all) ≡ map (λ (s : Stop). s.switch) all
+pub switches_on : (end : Option ℕ) (tag : ℕ) (all : List SwitchTags) → map (λ (s : SwitchTags). s.switch) (with_end end tag all) ≡ map (λ (s : SwitchTags). s.switch) all
 switches_on None tag all = refl
 switches_on (Some sw) tag all = switches_stay sw tag all
 

@@ -7,7 +7,7 @@ use Rattle.std.proofs.lemmas.List.{get_or-map, get_or_default, length-map}
 use Rattle.std.proofs.lemmas.Bool.Decides.{nat_tests}
 use Rattle.nk_field.proofs.Lists.{In, in_from_contains, contains_from_in, in_either, in_left, in_right, in_mapped, numbers_decided}
 use Rattle.nk_field.proofs.Ascending.{Rising, rising_from, increasing_from, members_from_all, all_from_members}
-use Rattle.nk_switches.specs.declared.stop.Stop.{Stop}
+use Rattle.nk_switches.specs.declared.switch_tags.SwitchTags.{SwitchTags}
 use Rattle.nk_switches.specs.Tagged.{set_of_tag}
 use Rattle.nk_compile.specs.Comings.{first_end, ComesTo, HasComing, with_tag}
 use Rattle.nk_compile.proofs.Reached.{same_some}
@@ -19,13 +19,13 @@ rising_push (x ∷ xs) z r h =
     ((λ y i. ⊎_elim (λ a. r.0 y a) (λ b. ⊎_elim (λ e. subst (λ n. x < n) (sym e) (h x (inl refl))) (λ n. absurd n) b) (in_either xs (z ∷ []) y i)), rising_push xs z r.1 (λ y i. h y (inr i)))
 
 -- at the switch
-tag_put : (sw tag : ℕ) (s : Stop) → s.switch ≡ sw → with_tag sw tag s ≡ record { switch = s.switch; tags = s.tags ++ tag ∷ [] }
+tag_put : (sw tag : ℕ) (s : SwitchTags) → s.switch ≡ sw → with_tag sw tag s ≡ record { switch = s.switch; tags = s.tags ++ tag ∷ [] }
 tag_put sw tag s e =
     let t : s.switch == sw ≡ true = grind (arith, nat_tests, e) in
     ap (λ b. if b then record { switch = s.switch; tags = s.tags ++ tag ∷ [] } else s) t
 
 -- at another one
-tag_not_put : (sw tag : ℕ) (s : Stop) → (s.switch ≡ sw → ⊥) → with_tag sw tag s ≡ s
+tag_not_put : (sw tag : ℕ) (s : SwitchTags) → (s.switch ≡ sw → ⊥) → with_tag sw tag s ≡ s
 tag_not_put sw tag s ne =
     let t : s.switch == sw ≡ false = grind (arith, nat_tests, ne) in
     ap (λ b. if b then record { switch = s.switch; tags = s.tags ++ tag ∷ [] } else s) t
@@ -45,7 +45,7 @@ module _ (ends : List (Option ℕ)) (ss : List (List ℕ)) (tags : List ℕ) whe
   ]
 
   -- a tag that comes to no such switch
-  pub coming_same : (i : ℕ) (s : Stop) → (first_end ends (set_of_tag ss tags i) ≡ Some s.switch → ⊥) → HasComing ends ss tags i s → HasComing ends ss tags (i + 1) s
+  pub coming_same : (i : ℕ) (s : SwitchTags) → (first_end ends (set_of_tag ss tags i) ≡ Some s.switch → ⊥) → HasComing ends ss tags i s → HasComing ends ss tags (i + 1) s
   coming_same i s never k = record {
     ascend = k.ascend;
     within = λ j d lt. let a = k.within j d lt in omega (arith, a);
@@ -56,10 +56,10 @@ module _ (ends : List (Option ℕ)) (ss : List (List ℕ)) (tags : List ℕ) whe
   }
 
   -- a tag that comes to a switch
-  pub coming_more : (i sw : ℕ) (s : Stop) → first_end ends (set_of_tag ss tags i) ≡ Some sw → HasComing ends ss tags i s → HasComing ends ss tags (i + 1) (with_tag sw (i + 1) s)
+  pub coming_more : (i sw : ℕ) (s : SwitchTags) → first_end ends (set_of_tag ss tags i) ≡ Some sw → HasComing ends ss tags i s → HasComing ends ss tags (i + 1) (with_tag sw (i + 1) s)
   coming_more i sw s end k = by (numbers_decided s.switch sw)
     where
-      longer : Stop
+      longer : SwitchTags
       longer = record { switch = s.switch; tags = s.tags ++ (i + 1) ∷ [] }
 
       here : s.switch ≡ sw → HasComing ends ss tags (i + 1) longer
@@ -95,49 +95,49 @@ module _ (ends : List (Option ℕ)) (ss : List (List ℕ)) (tags : List ℕ) whe
           (coming_same i s (λ f. ne (same_some s.switch sw (sym f ∙ end))) k)
 
   -- all switches with one tag more
-  pub all_more : (i sw : ℕ) (all : List Stop) → first_end ends (set_of_tag ss tags i) ≡ Some sw → All (HasComing ends ss tags i) all → All (HasComing ends ss tags (i + 1)) (map (with_tag sw (i + 1)) all)
+  pub all_more : (i sw : ℕ) (all : List SwitchTags) → first_end ends (set_of_tag ss tags i) ≡ Some sw → All (HasComing ends ss tags i) all → All (HasComing ends ss tags (i + 1)) (map (with_tag sw (i + 1)) all)
   all_more i sw all end k = all_from_members (HasComing ends ss tags (i + 1)) (map (with_tag sw (i + 1)) all) (there all (λ s m. members_from_all (HasComing ends ss tags i) all k s m))
     where
-      there : (xs : List Stop) → ((s : Stop) → In xs s → HasComing ends ss tags i s) → (s : Stop) → In (map (with_tag sw (i + 1)) xs) s → HasComing ends ss tags (i + 1) s
+      there : (xs : List SwitchTags) → ((s : SwitchTags) → In xs s → HasComing ends ss tags i s) → (s : SwitchTags) → In (map (with_tag sw (i + 1)) xs) s → HasComing ends ss tags (i + 1) s
       there [] h s m = absurd m
       there (x ∷ xs) h s (inl e) = subst (HasComing ends ss tags (i + 1)) (sym e) (coming_more i sw x end (h x (inl refl)))
       there (x ∷ xs) h s (inr m) = there xs (λ y n. h y (inr n)) s m
 
   -- or none
-  pub all_same : (i : ℕ) (all : List Stop) → first_end ends (set_of_tag ss tags i) ≡ None → All (HasComing ends ss tags i) all → All (HasComing ends ss tags (i + 1)) all
+  pub all_same : (i : ℕ) (all : List SwitchTags) → first_end ends (set_of_tag ss tags i) ≡ None → All (HasComing ends ss tags i) all → All (HasComing ends ss tags (i + 1)) all
   all_same i all none k j d lt = coming_same i (get_or all j d) (λ f. let z : None ≡ Some (get_or all j d).switch = sym none ∙ f in cc) (k j d lt)
 
 -- the switches stay
-pub switches_stay : (sw tag : ℕ) (all : List Stop) → map (λ (s : Stop). s.switch) (map (with_tag sw tag) all) ≡ map (λ (s : Stop). s.switch) all
+pub switches_stay : (sw tag : ℕ) (all : List SwitchTags) → map (λ (s : SwitchTags). s.switch) (map (with_tag sw tag) all) ≡ map (λ (s : SwitchTags). s.switch) all
 switches_stay sw tag [] = refl
 switches_stay sw tag (s ∷ all) =
-    ap (λ n. n ∷ map (λ (x : Stop). x.switch) (map (with_tag sw tag) all)) (by (numbers_decided s.switch sw)) ∙ ap (λ l. s.switch ∷ l) (switches_stay sw tag all)
+    ap (λ n. n ∷ map (λ (x : SwitchTags). x.switch) (map (with_tag sw tag) all)) (by (numbers_decided s.switch sw)) ∙ ap (λ l. s.switch ∷ l) (switches_stay sw tag all)
   where
     by : (s.switch ≡ sw) ⊎ (s.switch ≡ sw → ⊥) → (with_tag sw tag s).switch ≡ s.switch
-    by (inl e) = ap (λ (x : Stop). x.switch) (tag_put sw tag s e)
-    by (inr ne) = ap (λ (x : Stop). x.switch) (tag_not_put sw tag s ne)
+    by (inl e) = ap (λ (x : SwitchTags). x.switch) (tag_put sw tag s e)
+    by (inr ne) = ap (λ (x : SwitchTags). x.switch) (tag_not_put sw tag s ne)
 
 -- where no switch is the one, nothing is put
-pub none_put : (sw tag : ℕ) (all : List Stop) → ((s : Stop) → In all s → s.switch ≡ sw → ⊥) → map (with_tag sw tag) all ≡ all
+pub none_put : (sw tag : ℕ) (all : List SwitchTags) → ((s : SwitchTags) → In all s → s.switch ≡ sw → ⊥) → map (with_tag sw tag) all ≡ all
 none_put sw tag [] h = refl
 none_put sw tag (s ∷ all) h = ap (λ x. x ∷ map (with_tag sw tag) all) (tag_not_put sw tag s (h s (inl refl))) ∙ ap (λ l. s ∷ l) (none_put sw tag all (λ x i. h x (inr i)))
 
 -- where one is, at its place
-pub one_put : (sw tag place : ℕ) (all : List Stop) (d : Stop) → Rising (map (λ (s : Stop). s.switch) all) → place < length all → (get_or all place d).switch ≡ sw →
+pub one_put : (sw tag place : ℕ) (all : List SwitchTags) (d : SwitchTags) → Rising (map (λ (s : SwitchTags). s.switch) all) → place < length all → (get_or all place d).switch ≡ sw →
     set all place (record { switch = (get_or all place d).switch; tags = (get_or all place d).tags ++ tag ∷ [] }) ≡ map (with_tag sw tag) all
 one_put sw tag place [] d r lt e = absurd (omega (arith, lt))
 one_put sw tag zero (s ∷ all) d r lt e =
     ap (λ l. record { switch = s.switch; tags = s.tags ++ tag ∷ [] } ∷ l)
-    (sym (none_put sw tag all (λ x i f. let a = r.0 x.switch (in_mapped (λ (y : Stop). y.switch) all x i) in omega (arith, a, e, f))))
+    (sym (none_put sw tag all (λ x i f. let a = r.0 x.switch (in_mapped (λ (y : SwitchTags). y.switch) all x i) in omega (arith, a, e, f))))
     ∙ ap (λ x. x ∷ map (with_tag sw tag) all) (sym (tag_put sw tag s e))
 one_put sw tag (suc place) (s ∷ all) d r lt e =
     let inside : place < length all = omega (arith, lt) in
     let member : In all (get_or all place d) = there all place inside in
-    let a = r.0 (get_or all place d).switch (in_mapped (λ (y : Stop). y.switch) all (get_or all place d) member) in
+    let a = r.0 (get_or all place d).switch (in_mapped (λ (y : SwitchTags). y.switch) all (get_or all place d) member) in
     ap (λ l. s ∷ l) (one_put sw tag place all d r.1 inside e)
     ∙ ap (λ x. x ∷ map (with_tag sw tag) all) (sym (tag_not_put sw tag s (λ f. omega (arith, a, e, f))))
   where
-    there : (xs : List Stop) (i : ℕ) → i < length xs → In xs (get_or xs i d)
+    there : (xs : List SwitchTags) (i : ℕ) → i < length xs → In xs (get_or xs i d)
     there [] i l = absurd (omega (arith, l))
     there (x ∷ xs) zero l = inl refl
     there (x ∷ xs) (suc i) l = inr (there xs i (omega (arith, l)))
@@ -166,26 +166,26 @@ not_there xs n i up e other k lt at = elim (numbers_decided k i) [
     following more =
         let r = up i k 0 more lt in
         let within : prefix_len (λ m. nat_lt m n) xs < length xs = omega (arith, more, lt, e) in
-        let stop : nat_lt (get_or xs i 0) n ≡ false = subst (λ j. nat_lt (get_or xs j 0) n ≡ false) (sym e) (prefix_len_stops (λ m. nat_lt m n) xs 0 within) in
-        grind (arith, nat_tests, stop, r, at)
+        let switch_entry : nat_lt (get_or xs i 0) n ≡ false = subst (λ j. nat_lt (get_or xs j 0) n ≡ false) (sym e) (prefix_len_stops (λ m. nat_lt m n) xs 0 within) in
+        grind (arith, nat_tests, switch_entry, r, at)
 
 -- where the switch isn't there
-pub none_put_at : (sw tag : ℕ) (all : List Stop) (switches : List ℕ) → map (λ (s : Stop). s.switch) all ≡ switches → ((k : ℕ) → k < length switches → get_or switches k 0 ≡ sw → ⊥) →
+pub none_put_at : (sw tag : ℕ) (all : List SwitchTags) (switches : List ℕ) → map (λ (s : SwitchTags). s.switch) all ≡ switches → ((k : ℕ) → k < length switches → get_or switches k 0 ≡ sw → ⊥) →
     map (with_tag sw tag) all ≡ all
 none_put_at sw tag all switches same none =
     none_put sw tag all (λ s i e.
-    let c = contains_from_in (map (λ (x : Stop). x.switch) all) s.switch (in_mapped (λ (x : Stop). x.switch) all s i) in
-    let at : get_or (map (λ (x : Stop). x.switch) all) c.0 0 ≡ s.switch = get_or_default (map (λ (x : Stop). x.switch) all) c.0 0 s.switch c.1 ∙ c.2 in
+    let c = contains_from_in (map (λ (x : SwitchTags). x.switch) all) s.switch (in_mapped (λ (x : SwitchTags). x.switch) all s i) in
+    let at : get_or (map (λ (x : SwitchTags). x.switch) all) c.0 0 ≡ s.switch = get_or_default (map (λ (x : SwitchTags). x.switch) all) c.0 0 s.switch c.1 ∙ c.2 in
     none c.0 (subst (λ l. c.0 < length l) same c.1) (ap (λ l. get_or l c.0 0) (sym same) ∙ at ∙ e))
 
 -- and where it is
-pub one_put_at : (sw tag place : ℕ) (all new : List Stop) (switches : List ℕ) → map (λ (s : Stop). s.switch) all ≡ switches → AllPairs (λ p q. p < q) switches →
-    (place < length switches) × (get_or switches place 0 ≡ sw) → ((s : Stop) → new ≡ set all place (record { switch = (get_or all place s).switch; tags = (get_or all place s).tags ++ tag ∷ [] })) →
+pub one_put_at : (sw tag place : ℕ) (all new : List SwitchTags) (switches : List ℕ) → map (λ (s : SwitchTags). s.switch) all ≡ switches → AllPairs (λ p q. p < q) switches →
+    (place < length switches) × (get_or switches place 0 ≡ sw) → ((s : SwitchTags) → new ≡ set all place (record { switch = (get_or all place s).switch; tags = (get_or all place s).tags ++ tag ∷ [] })) →
     new ≡ map (with_tag sw tag) all
 one_put_at sw tag place all new switches same up found is =
-    let d : Stop = record { switch = 0; tags = [] } in
-    let up' : AllPairs (λ p q. p < q) (map (λ (s : Stop). s.switch) all) = subst (AllPairs (λ p q. p < q)) (sym same) up in
-    let rises : Rising (map (λ (s : Stop). s.switch) all) = rising_from (map (λ (s : Stop). s.switch) all) (λ k lt. let one : k < k + 1 = omega arith in up' k (k + 1) 0 one lt) in
-    let inside : place < length all = subst (λ n. place < n) (length-map all (λ (s : Stop). s.switch)) (subst (λ l. place < length l) (sym same) found.0) in
-    let here : (get_or all place d).switch ≡ sw = sym (get_or-map (λ (s : Stop). s.switch) all place d 0 inside) ∙ ap (λ l. get_or l place 0) same ∙ found.1 in
+    let d : SwitchTags = record { switch = 0; tags = [] } in
+    let up' : AllPairs (λ p q. p < q) (map (λ (s : SwitchTags). s.switch) all) = subst (AllPairs (λ p q. p < q)) (sym same) up in
+    let rises : Rising (map (λ (s : SwitchTags). s.switch) all) = rising_from (map (λ (s : SwitchTags). s.switch) all) (λ k lt. let one : k < k + 1 = omega arith in up' k (k + 1) 0 one lt) in
+    let inside : place < length all = subst (λ n. place < n) (length-map all (λ (s : SwitchTags). s.switch)) (subst (λ l. place < length l) (sym same) found.0) in
+    let here : (get_or all place d).switch ≡ sw = sym (get_or-map (λ (s : SwitchTags). s.switch) all place d 0 inside) ∙ ap (λ l. get_or l place 0) same ∙ found.1 in
     is d ∙ one_put sw tag place all d rises inside here

@@ -26,7 +26,7 @@ use Rattle.nk_tag.specs.Numbers.{IsAtOdd, AreEntries, AreNumbers}
 use Rattle.nk_runs.specs.Labels.{IsAmong}
 use Rattle.nk_determ.specs.Levels.{AreLevels}
 use Rattle.nk_determ.specs.Pairs.{EachPair, IsPair, Named}
-use Rattle.nk_determ.specs.Breaks.{Breaks}
+use Rattle.nk_determ.specs.Counterexamples.{IsCounterexample}
 use Rattle.nk_runs.proofs.Stands.{stands}
 use Rattle.nk_runs.proofs.Ends.{none_ends}
 use Rattle.nk_runs.proofs.Breaking.{is_alert, breaks_given}
@@ -96,11 +96,11 @@ module _ (fields : FieldTable) (topo : Topology) (tag : ℕ) (p : Policy) (old f
 module _ (fields : FieldTable) (topo : Topology) (tag : ℕ) (p : Policy) (old : StoreState) (states : List ℕ) (clear : IsClear fields topo tag p) (over : IsOver fields old) (auto : IsAutomaton old states 1 p) (f : Found)
     (k : IsLeastOff topo tag old states f) where
   -- what breaks the goal is a history off each edge port, and the other way round
-  breaks : (g : Found) → Breaks k.first states (0 ∷ []) k.start k.bad g ↔ (IsAmong k.first k.start g.start × Gives p g.start g.records g.last × (is_no_edge topo g.last ≡ true))
+  breaks : (g : Found) → IsCounterexample k.first states (0 ∷ []) k.start k.bad g ↔ (IsAmong k.first k.start g.start × Gives p g.start g.records g.last × (is_no_edge topo g.last ≡ true))
   breaks g =
       breaks_given k.first states (λ y. is_no_edge topo y ≡ true) k.bad k.wrong k.start p (stands old k.first states 1 p auto k.grew) (numbered_distinct p 1 clear.numbered) k.tidy g
 
-  off_of : (g : Found) → Breaks k.first states (0 ∷ []) k.start k.bad g → EndsOffEdge fields topo p g
+  off_of : (g : Found) → IsCounterexample k.first states (0 ∷ []) k.start k.bad g → EndsOffEdge fields topo p g
   off_of g b =
       let h = (breaks g).0 b in
       record {
@@ -109,7 +109,7 @@ module _ (fields : FieldTable) (topo : Topology) (tag : ℕ) (p : Policy) (old :
         off = not_both (is_edge topo (slice_index g.last 0) (slice_index g.last 1)) h.2;
       }
 
-  of_off : (g : Found) → EndsOffEdge fields topo p g → Breaks k.first states (0 ∷ []) k.start k.bad g
+  of_off : (g : Found) → EndsOffEdge fields topo p g → IsCounterexample k.first states (0 ∷ []) k.start k.bad g
   of_off g e =
       (breaks g).1 (
         is_among fields topo tag p old k.first k.start clear over k.grew k.start_is g.start e.starts,

@@ -25,7 +25,7 @@ use Rattle.nk_determ.specs.States.{StateLeads}
 use Rattle.nk_extract.specs.Buckets.{AreBuckets}
 use Rattle.nk_group.specs.Groups.{groups_of, rows_after}
 use Rattle.nk_table.specs.declared.Table.{Table}
-use Rattle.nk_switches.specs.declared.stop.Stop.{Stop}
+use Rattle.nk_switches.specs.declared.switch_tags.SwitchTags.{SwitchTags}
 use Rattle.nk_switches.specs.Tagged.{set_of_tag, members_of, LeadsWith}
 use Rattle.nk_switches.specs.Made.{TagTree, rows_of_trees, IsTagTree, IsTableAt, IsTagAt}
 use Rattle.nk_compile.specs.PrintedTable.{IsOfTag, StateRecords, IsResult, IsTreeOfTag}
@@ -197,7 +197,7 @@ module _ (first : ℕ) (fields : FieldTable) (topo : Topology) (tag : ℕ) (p : 
   }
 
   -- the table of a switch is the printed one
-  pub switch_table_is : (s : Stop) (t : Table) → IsStrictlyIncreasing s.tags → ((n : ℕ) → Contains s.tags n ↔ HasRowsAt p (sets_of ss tags) s.switch n) → All (λ n. n ≤ length tags) s.tags →
+  pub switch_table_is : (s : SwitchTags) (t : Table) → IsStrictlyIncreasing s.tags → ((n : ℕ) → Contains s.tags n ↔ HasRowsAt p (sets_of ss tags) s.switch n) → All (λ n. n ≤ length tags) s.tags →
       IsTableAt st ss states tags tag s t → IsSwitchTable fields tag p (sets_of ss tags) t
   switch_table_is s t ascend exactly within k = record {
     trees = k.trees;

@@ -16,10 +16,10 @@ use Rattle.nk_names.specs.Accepted.{IsStartPacket}
 use Rattle.nk_store.specs.StoreState.{StoreState}
 use Rattle.nk_table.specs.declared.Table.{Table}
 use Rattle.nk_table.specs.declared.Tables.{Tables}
-use Rattle.nk_switches.specs.declared.stop.Stop.{Stop}
+use Rattle.nk_switches.specs.declared.switch_tags.SwitchTags.{SwitchTags}
 use Rattle.nk_switches.specs.Matched.{Matched}
 use Rattle.nk_switches.specs.Tagged.{set_of_tag, AreOnce}
-use Rattle.nk_switches.specs.Made.{IsTableAt, IsStop}
+use Rattle.nk_switches.specs.Made.{IsTableAt, AreSwitchTags}
 use Rattle.nk_switches.proofs.Matching.{of_second, matched_maps}
 use Rattle.nk_compile.specs.NumberedAfter.{tags_after, IsTableAfter}
 use Rattle.nk_compile.specs.WholeTable.{HasRowsAt, IsSwitchTable, link_end}
@@ -99,19 +99,19 @@ module _ (first : ℕ) (fields : FieldTable) (topo : Topology) (tag : ℕ) (p : 
     )
 
     -- a switch's tags can be put into its table
-    pub stop_is : (s : Stop) → HasComing ends ss tags (length tags) s → IsStop st ss states tags tag s
-    stop_is s k j d lt = tag_at first fields topo tag p st ss states tags clear ready tagged s.switch (get_or s.tags j d) (k.within j d lt)
+    pub switch_tags_are : (s : SwitchTags) → HasComing ends ss tags (length tags) s → AreSwitchTags st ss states tags tag s
+    switch_tags_are s k j d lt = tag_at first fields topo tag p st ss states tags clear ready tagged s.switch (get_or s.tags j d) (k.within j d lt)
 
     -- the table of a switch
-    table_is : (s : Stop) (t : Table) → HasComing ends ss tags (length tags) s → IsTableAt st ss states tags tag s t → IsSwitchTable fields tag p (sets_of ss tags) t
+    table_is : (s : SwitchTags) (t : Table) → HasComing ends ss tags (length tags) s → IsTableAt st ss states tags tag s t → IsSwitchTable fields tag p (sets_of ss tags) t
     table_is s t k at =
         switch_table_is first fields topo tag p st ss states tags clear ready tagged s t k.ascend
         (λ n. let a = k.exactly n in let b = comes_rows s.switch n in (λ c. b.0 (a.0 c), λ h. a.1 (b.1 h))) k.within at
 
     -- the tables of all switches
-    pub tables_are : (stops : List Stop) (ts : List Table) → map (λ (s : Stop). s.switch) stops ≡ numbers_of topo → All (HasComing ends ss tags (length tags)) stops →
-        Matched (IsTableAt st ss states tags tag) stops ts → (t : Tables) → t.fields ≡ fields → t.topo ≡ topo → t.tables ≡ ts → IsTableAfter first fields topo (IsStartPacket fields topo) p t
-    tables_are stops ts switches coming m t same_fields same_topology are = record {
+    pub tables_are : (by_switch : List SwitchTags) (ts : List Table) → map (λ (s : SwitchTags). s.switch) by_switch ≡ numbers_of topo → All (HasComing ends ss tags (length tags)) by_switch →
+        Matched (IsTableAt st ss states tags tag) by_switch ts → (t : Tables) → t.fields ≡ fields → t.topo ≡ topo → t.tables ≡ ts → IsTableAfter first fields topo (IsStartPacket fields topo) p t
+    tables_are by_switch ts switches coming m t same_fields same_topology are = record {
       tag = tag;
       tags = ready.sets;
       tag_declared = clear.tag_is;
@@ -120,9 +120,9 @@ module _ (first : ℕ) (fields : FieldTable) (topo : Topology) (tag : ℕ) (p : 
       same_topology = same_topology;
       switches =
           ap (map (λ (u : Table). u.switch)) are
-          ∙ matched_maps (IsTableAt st ss states tags tag) (λ (s : Stop). s.switch) (λ (u : Table). u.switch) (λ s u k. k.switch) stops ts m ∙ switches;
+          ∙ matched_maps (IsTableAt st ss states tags tag) (λ (s : SwitchTags). s.switch) (λ (u : Table). u.switch) (λ s u k. k.switch) by_switch ts m ∙ switches;
       each = subst (λ sets. All (IsSwitchTable fields tag p sets) t.tables) ready.numbered (
           subst (All (IsSwitchTable fields tag p (sets_of ss tags))) (sym are) (all_from_members (IsSwitchTable fields tag p (sets_of ss tags)) ts (λ u i.
-          let s = of_second (IsTableAt st ss states tags tag) stops ts u m i in
-          table_is s.0 u (members_from_all (HasComing ends ss tags (length tags)) stops coming s.0 s.1) s.2)));
+          let s = of_second (IsTableAt st ss states tags tag) by_switch ts u m i in
+          table_is s.0 u (members_from_all (HasComing ends ss tags (length tags)) by_switch coming s.0 s.1) s.2)));
     }

@@ -19,7 +19,7 @@ use Rattle.nk_runs.specs.Wrong.{AreWrongEnds}
 use Rattle.nk_sets.specs.PacketSets.{has_some_out}
 use Rattle.nk_determ.specs.Pairs.{AreStates}
 use Rattle.nk_determ.specs.Levels.{AreLevels}
-use Rattle.nk_determ.specs.Breaks.{MakesWithTarget, Breaks}
+use Rattle.nk_determ.specs.Counterexamples.{MakesWithTarget, IsCounterexample}
 use Rattle.nk_witness.specs.Finds.{first_set, first_packets}
 use Rattle.nk_witness.proofs.Settling.{settled}
 use Rattle.nk_store.proofs.Stores.{grows_same}
@@ -140,7 +140,7 @@ levels_later old mid ss states goal_states ends set start goal_set now ls broken
 pub least_is : (topo : Topology) (tag : ℕ) (old first mid : StoreState) (states goal_states : List ℕ) (off goal_set from s : ℕ) (before ss : List (List ℕ)) (bad now : List ℕ → List ℕ → List Out) (ls : List (List (ℕ × ℕ))) (broken : Bool) (f : Found) →
     Grows old mid → AreTidy mid → goal_set ≡ off → goal_states ≡ states → IsLabels before s (0 ∷ []) → SetsGrow before ss → IsSetInRange mid off (is_no_edge topo) → IsPredicate mid off → IsSetInRange mid from (is_start topo tag) →
     ((places x : List ℕ) → now places x ≡ wrong_leaf mid goal_set goal_states places x) → AreLevels first mid ss states s from bad ls broken →
-    IsLeast (Breaks mid states (get_or ss (first_set ls) []) (first_packets ls) now) f → IsLeastOff topo tag old states f
+    IsLeast (IsCounterexample mid states (get_or ss (first_set ls) []) (first_packets ls) now) f → IsLeastOff topo tag old states f
 least_is topo tag old first mid states goal_states off goal_set from s before ss bad now ls broken f grew tidy same_set same_states labels more is_off passing is_from same are least = record {
   first = mid;
   grew = grew;
@@ -153,6 +153,6 @@ least_is topo tag old first mid states goal_states off goal_set from s before ss
       (sym (same places x ∙ ap (λ (r : List ℕ). wrong_leaf mid goal_set r places x) same_states ∙ ap (λ q. wrong_leaf mid q states places x) same_set))
       (ends_wrong mid topo tidy off states is_off passing places x y t inside r);
   least =
-      subst (λ set. IsLeast (Breaks mid states set (first_packets ls) now) f)
+      subst (λ set. IsLeast (IsCounterexample mid states set (first_packets ls) now) f)
       (ap (λ (v : List (ℕ × ℕ)). get_or ss (get_or v 0 (0, 0)).0 []) are.start_is ∙ set_kept before ss s more labels.within ∙ labels.members) least;
 }

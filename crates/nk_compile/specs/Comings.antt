@@ -2,7 +2,7 @@
 use Rattle.std.specs.Prelude.{◌≡◌, ◌↔◌, ◌==◌, ◌++◌, if◌then◌else◌, ℕ, zero, suc, ◌<◌, ◌≤◌, Option, Some, None, List, [], ◌∷◌, length, map, slice_index_or, Contains, All}
 use Rattle.std.specs.List.Sorted.{IsStrictlyIncreasing}
 use Rattle.nk_policy.specs.Policy.{Policy, Policies}
-use Rattle.nk_switches.specs.declared.stop.Stop.{Stop}
+use Rattle.nk_switches.specs.declared.switch_tags.SwitchTags.{SwitchTags}
 use Rattle.nk_switches.specs.Tagged.{set_of_tag}
 use Rattle.nk_compile.specs.WholeTable.{first_number, link_end, link_end_among}
 
@@ -27,20 +27,20 @@ ComesTo ends ss tags count sw zero = Unit {0}
 ComesTo ends ss tags count sw (suc t) = (t < count) × (first_end ends (set_of_tag ss tags t) ≡ Some sw)
 
 -- the switch's tags ascend and are those that come there, of tag 0 and the first so many others
-pub record HasComing (ends : List (Option ℕ)) (ss : List (List ℕ)) (tags : List ℕ) (count : ℕ) (s : Stop) : Type 0 where
+pub record HasComing (ends : List (Option ℕ)) (ss : List (List ℕ)) (tags : List ℕ) (count : ℕ) (s : SwitchTags) : Type 0 where
   pub ascend : IsStrictlyIncreasing s.tags
   pub within : All (λ t. t ≤ count) s.tags
   pub exactly : (t : ℕ) → Contains s.tags t ↔ ComesTo ends ss tags count s.switch t
 
 -- the switch with one tag more
-abbrev pub longer : Stop → ℕ → Stop
+abbrev pub longer : SwitchTags → ℕ → SwitchTags
 longer s tag = record { switch = s.switch; tags = s.tags ++ tag ∷ [] }
 
 -- the tag put at the end of the switch's tags, if it is this switch
-abbrev pub with_tag : ℕ → ℕ → Stop → Stop
+abbrev pub with_tag : ℕ → ℕ → SwitchTags → SwitchTags
 with_tag sw tag s = if s.switch == sw then longer s tag else s
 
 -- the tag put at the end of the tags of the switch where it comes
-abbrev pub with_end : Option ℕ → ℕ → List Stop → List Stop
+abbrev pub with_end : Option ℕ → ℕ → List SwitchTags → List SwitchTags
 with_end None tag all = all
 with_end (Some sw) tag all = map (with_tag sw tag) all

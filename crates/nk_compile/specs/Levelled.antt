@@ -12,7 +12,7 @@ use Rattle.nk_compile.specs.declared.refusal.CompileError.{CompileError}
 use Rattle.nk_compile.specs.declared.refusal.CompileError.TheVariants as compile
 use Rattle.nk_compile.specs.declared.refusal.Refusal.TheVariants as refusal
 use Rattle.nk_field.specs.Order.{Found, IsLeast}
-use Rattle.nk_determ.specs.Breaks.{Breaks}
+use Rattle.nk_determ.specs.Counterexamples.{IsCounterexample}
 use Rattle.nk_runs.specs.Wrong.{AreWrongEnds}
 use Rattle.nk_edges.specs.Edges.{is_start, is_no_edge}
 use Rattle.nk_edges.specs.PacketSets.{IsSetInRange}
@@ -41,7 +41,7 @@ pub record IsLeastOff (topo : Topology) (tag : ℕ) (old : StoreState) (states :
   pub bad : List ℕ → List ℕ → List Out
   pub start_is : IsSetInRange first start (is_start topo tag)
   pub wrong : AreWrongEnds first states (is_no_edge topo) bad
-  pub least : IsLeast (Breaks first states (0 ∷ []) start bad) f
+  pub least : IsLeast (IsCounterexample first states (0 ∷ []) start bad) f
 
 -- why there are no levels without such an end: memory ran out, or the least history with one is told
 abbrev pub IsOffFault : Topology → ℕ → StoreState → List ℕ → CompileError → Type 0

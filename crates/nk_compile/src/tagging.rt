@@ -14,7 +14,7 @@ ghost use Rattle.nk_compile.specs.Ready.{sets_of, IsClear, IsReady};
 
 use crate::ends::link_ends;
 use crate::prepared::Prepared;
-use crate::stops::tag_stops;
+use crate::switch_tags::tags_at_switches;
 use nk_determ::{SetId, Sets};
 use nk_field::{Fields, List};
 use nk_policy::Pol;
@@ -46,8 +46,8 @@ fn tag_tables<S: TableSink>(
         → (t : Tables) → t.fields ≡ fields → t.topo ≡ topo.now → t.tables ≡ ts
         → IsTableAfter first fields topo.now (IsStartPacket fields topo.now) p t)) }
 {
-    let stops = tag_stops(st.alloc(), topo, ends, ss, tags)?;
-    switch_tables(st, ss, states, tags, stops.as_slice(), sink)
+    let by_switch = tags_at_switches(st.alloc(), topo, ends, ss, tags)?;
+    switch_tables(st, ss, states, tags, by_switch.as_slice(), sink)
 }
 
 /// So many times one set, and these after.

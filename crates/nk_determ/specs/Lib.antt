@@ -7,6 +7,6 @@ pub mod Unchanged
 pub mod Reach
 pub mod Pairs
 pub mod Levels
-pub mod Breaks
+pub mod Counterexamples
 pub mod InOrder
 pub mod Automaton

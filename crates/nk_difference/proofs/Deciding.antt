@@ -13,7 +13,7 @@ use Rattle.nk_policy.proofs.PositionSteps.{left_gives, right_gives}
 use Rattle.nk_store.specs.StoreState.{StoreState, IsStorePacket}
 use Rattle.nk_determ.specs.Pairs.{Node, IsStep}
 use Rattle.nk_reach.specs.Sides.{EndsAt}
-use Rattle.nk_determ.specs.Breaks.{Walks}
+use Rattle.nk_determ.specs.Counterexamples.{Walks}
 use Rattle.nk_runs.proofs.Walking.{walk_in_range, walks_met, given_walked}
 use Rattle.nk_cert.specs.Together.{either_of, IsAtEither, EndsWithin}
 use Rattle.nk_cert.specs.Levelled.{IsAutomatonOfBoth}

@@ -292,8 +292,8 @@ added_put st new ps t y v g h o j = record {
 }
 
 -- one entry more
-pub merged_push : (a st new : StoreState) (met level all more : List (ℕ × ℕ)) (p : ℕ × ℕ) → IsMerged a met level st all → Grows a st → IsSet a p.1 → IsAdded st all p.0 p.1 new more → IsMerged a met (level ++ p ∷ []) new more
-merged_push a st new met level all more p m g k d = record {
+pub merged_push : (a st new : StoreState) (visited level all more : List (ℕ × ℕ)) (p : ℕ × ℕ) → IsMerged a visited level st all → Grows a st → IsSet a p.1 → IsAdded st all p.0 p.1 new more → IsMerged a visited (level ++ p ∷ []) new more
+merged_push a st new visited level all more p m g k d = record {
   either = λ i x w u. elim (d.either i x (packet_on a st x g w) u) [
     | inl was ↦ elim (m.either i x w was) [ inl q ↦ inl q | inr q ↦ inr (under_left a level (p ∷ []) i x q) ]
     | inr now ↦ inr (under_right a level (p ∷ []) i x (inl (sym now.0, has_back a st p.1 x g k.id now.1)))
@@ -315,8 +315,8 @@ merged_push a st new met level all more p m g k d = record {
 }
 
 -- merged entries stay so while the store grows
-pub merged_on : (a st new : StoreState) (met level all : List (ℕ × ℕ)) → IsMerged a met level st all → Grows st new → IsMerged a met level new all
-merged_on a st new met level all m g = record {
+pub merged_on : (a st new : StoreState) (visited level all : List (ℕ × ℕ)) → IsMerged a visited level st all → Grows st new → IsMerged a visited level new all
+merged_on a st new visited level all m g = record {
   either = λ i x w u. m.either i x w (under_back st new all i x g m.packets u);
   old = λ i x w u. under_on st new all i x g m.packets (m.old i x w u);
   more = λ i x w u. under_on st new all i x g m.packets (m.more i x w u);

@@ -14,7 +14,7 @@ use Rattle.nk_goal.proofs.Growing.{packets_of, pairs_on, within_on, within_back,
 use Rattle.nk_goal.proofs.Everything.{all_nodes}
 
 -- what holds between two rounds, with the levels up to h
-pub record Going (old : StoreState) (oss : List (List ℕ)) (st : StoreState) (ss : List (List ℕ)) (states : List ℕ) (set start : ℕ) (bad : List ℕ → List ℕ → List Out) (met : List (ℕ × ℕ)) (ls : List (List (ℕ × ℕ))) (h : ℕ) : Type 0 where
+pub record Going (old : StoreState) (oss : List (List ℕ)) (st : StoreState) (ss : List (List ℕ)) (states : List ℕ) (set start : ℕ) (bad : List ℕ → List ℕ → List Out) (visited : List (ℕ × ℕ)) (ls : List (List (ℕ × ℕ))) (h : ℕ) : Type 0 where
   pub grows : Grows old st
   pub sets : SetsGrow oss ss
   pub count : length ls ≡ h + 1
@@ -23,9 +23,9 @@ pub record Going (old : StoreState) (oss : List (List ℕ)) (st : StoreState) (s
   pub pairs : (i : ℕ) → i < h + 1 → ArePairs st ss (length states) (get_or ls i [])
   pub shape : (i : ℕ) → 1 ≤ i → i < h + 1 → IsLaterLevel st (get_or ls i [])
   pub goal : (i : ℕ) (n : Node) → i < h → IsGood old n → InLevel st ss ls i n → IsViolation bad n → ⊥
-  pub met_pairs : ArePairs st ss (length states) met
-  pub met_in : (n : Node) → IsGood old n → Within st ss met n → (j : ℕ) × (j < h + 1) × InLevel st ss ls j n
-  pub in_met : (j : ℕ) (n : Node) → IsGood old n → j < h + 1 → InLevel st ss ls j n → Within st ss met n
+  pub met_pairs : ArePairs st ss (length states) visited
+  pub met_in : (n : Node) → IsGood old n → Within st ss visited n → (j : ℕ) × (j < h + 1) × InLevel st ss ls j n
+  pub in_met : (j : ℕ) (n : Node) → IsGood old n → j < h + 1 → InLevel st ss ls j n → Within st ss visited n
   pub seen : List Node
   pub seen_count : length seen ≡ h
   pub seen_no_dup : NoDup seen
@@ -45,18 +45,18 @@ level_new (k ∷ ks) l zero e = absurd (omega (arith, e))
 level_new (k ∷ ks) l (suc i) e = level_new ks l i (omega (arith, e))
 
 -- a level more never adds more than there are sets at packets
-pub room : (old : StoreState) (oss : List (List ℕ)) (st : StoreState) (ss : List (List ℕ)) (states : List ℕ) (set start : ℕ) (bad : List ℕ → List ℕ → List Out) (met : List (ℕ × ℕ)) (ls : List (List (ℕ × ℕ))) (h : ℕ) → Going old oss st ss states set start bad met ls h → h ≤ length (all_nodes old.maxes (length states))
-room old oss st ss states set start bad met ls h g =
+pub room : (old : StoreState) (oss : List (List ℕ)) (st : StoreState) (ss : List (List ℕ)) (states : List ℕ) (set start : ℕ) (bad : List ℕ → List ℕ → List Out) (visited : List (ℕ × ℕ)) (ls : List (List (ℕ × ℕ))) (h : ℕ) → Going old oss st ss states set start bad visited ls h → h ≤ length (all_nodes old.maxes (length states))
+room old oss st ss states set start bad visited ls h g =
     let l : length g.seen ≤ length (all_nodes old.maxes (length states)) = at_most g.seen (all_nodes old.maxes (length states)) g.seen_no_dup g.seen_all in
     omega (arith, l, g.seen_count)
 
 -- a level over a store that has grown
-pub level_on : (old : StoreState) (oss : List (List ℕ)) (st new : StoreState) (ss nss : List (List ℕ)) (states : List ℕ) (set start : ℕ) (bad : List ℕ → List ℕ → List Out) (met : List (ℕ × ℕ)) (ls : List (List (ℕ × ℕ))) (h i : ℕ) (n : Node) → Going old oss st ss states set start bad met ls h → Grows st new → SetsGrow ss nss → i < h + 1 → InLevel st ss ls i n → InLevel new nss ls i n
-level_on old oss st new ss nss states set start bad met ls h i n go g s l v = within_on st new ss nss (length states) (get_or ls i []) n g s (go.pairs i l) v
+pub level_on : (old : StoreState) (oss : List (List ℕ)) (st new : StoreState) (ss nss : List (List ℕ)) (states : List ℕ) (set start : ℕ) (bad : List ℕ → List ℕ → List Out) (visited : List (ℕ × ℕ)) (ls : List (List (ℕ × ℕ))) (h i : ℕ) (n : Node) → Going old oss st ss states set start bad visited ls h → Grows st new → SetsGrow ss nss → i < h + 1 → InLevel st ss ls i n → InLevel new nss ls i n
+level_on old oss st new ss nss states set start bad visited ls h i n go g s l v = within_on st new ss nss (length states) (get_or ls i []) n g s (go.pairs i l) v
 
 -- a level of the grown store, read in the old one
-pub level_back : (old : StoreState) (oss : List (List ℕ)) (st new : StoreState) (ss nss : List (List ℕ)) (states : List ℕ) (set start : ℕ) (bad : List ℕ → List ℕ → List Out) (met : List (ℕ × ℕ)) (ls : List (List (ℕ × ℕ))) (h i : ℕ) (n : Node) → Going old oss st ss states set start bad met ls h → Grows st new → SetsGrow ss nss → i < h + 1 → InLevel new nss ls i n → InLevel st ss ls i n
-level_back old oss st new ss nss states set start bad met ls h i n go g s l v = within_back st new ss nss (length states) (get_or ls i []) n g s (go.pairs i l) v
+pub level_back : (old : StoreState) (oss : List (List ℕ)) (st new : StoreState) (ss nss : List (List ℕ)) (states : List ℕ) (set start : ℕ) (bad : List ℕ → List ℕ → List Out) (visited : List (ℕ × ℕ)) (ls : List (List (ℕ × ℕ))) (h i : ℕ) (n : Node) → Going old oss st ss states set start bad visited ls h → Grows st new → SetsGrow ss nss → i < h + 1 → InLevel new nss ls i n → InLevel st ss ls i n
+level_back old oss st new ss nss states set start bad visited ls h i n go g s l v = within_back st new ss nss (length states) (get_or ls i []) n g s (go.pairs i l) v
 
 -- levels that have the same nodes are as exact
 pub exact_same : {N : Type 0} (Start : N → Type 0) (Step : N → N → Type 0) (Good : N → Type 0) (Lev New : ℕ → N → Type 0) (k : ℕ) → ((i : ℕ) (n : N) → i < k → New i n → Lev i n) → ((i : ℕ) (n : N) → i < k → Lev i n → New i n) → Exact Start Step Good Lev k → Exact Start Step Good New k
@@ -67,10 +67,10 @@ exact_same Start Step Good Lev New k back on e = record {
 }
 
 -- the round's store grows alone
-pub going_on : (old : StoreState) (oss : List (List ℕ)) (st new : StoreState) (ss nss : List (List ℕ)) (states : List ℕ) (set start : ℕ) (bad : List ℕ → List ℕ → List Out) (met : List (ℕ × ℕ)) (ls : List (List (ℕ × ℕ))) (h : ℕ) → Grows st new → SetsGrow ss nss → Going old oss st ss states set start bad met ls h → Going old oss new nss states set start bad met ls h
-going_on old oss st new ss nss states set start bad met ls h g s go =
-    let on : (i : ℕ) (n : Node) → i < h + 1 → InLevel st ss ls i n → InLevel new nss ls i n = λ i n l v. level_on old oss st new ss nss states set start bad met ls h i n go g s l v in
-    let back : (i : ℕ) (n : Node) → i < h + 1 → InLevel new nss ls i n → InLevel st ss ls i n = λ i n l v. level_back old oss st new ss nss states set start bad met ls h i n go g s l v in
+pub going_on : (old : StoreState) (oss : List (List ℕ)) (st new : StoreState) (ss nss : List (List ℕ)) (states : List ℕ) (set start : ℕ) (bad : List ℕ → List ℕ → List Out) (visited : List (ℕ × ℕ)) (ls : List (List (ℕ × ℕ))) (h : ℕ) → Grows st new → SetsGrow ss nss → Going old oss st ss states set start bad visited ls h → Going old oss new nss states set start bad visited ls h
+going_on old oss st new ss nss states set start bad visited ls h g s go =
+    let on : (i : ℕ) (n : Node) → i < h + 1 → InLevel st ss ls i n → InLevel new nss ls i n = λ i n l v. level_on old oss st new ss nss states set start bad visited ls h i n go g s l v in
+    let back : (i : ℕ) (n : Node) → i < h + 1 → InLevel new nss ls i n → InLevel st ss ls i n = λ i n l v. level_back old oss st new ss nss states set start bad visited ls h i n go g s l v in
     record {
       grows = grows_on old st new go.grows g;
       sets = sets_on oss ss nss go.sets s;
@@ -83,9 +83,9 @@ going_on old oss st new ss nss states set start bad met ls h g s go =
         filled = filled_on st new (get_or ls i []) g (packets_of st ss (length states) (get_or ls i []) (go.pairs i l).each) (go.shape i a l).filled;
       };
       goal = λ i n l p v. go.goal i n l p (back i n (omega (arith, l)) v);
-      met_pairs = pairs_on st new ss nss (length states) met g s go.met_pairs;
-      met_in = λ n p w. let q = go.met_in n p (within_back st new ss nss (length states) met n g s go.met_pairs w) in (q.0, q.1, on q.0 n q.1 q.2);
-      in_met = λ j n p l v. within_on st new ss nss (length states) met n g s go.met_pairs (go.in_met j n p l (back j n l v));
+      met_pairs = pairs_on st new ss nss (length states) visited g s go.met_pairs;
+      met_in = λ n p w. let q = go.met_in n p (within_back st new ss nss (length states) visited n g s go.met_pairs w) in (q.0, q.1, on q.0 n q.1 q.2);
+      in_met = λ j n p l v. within_on st new ss nss (length states) visited n g s go.met_pairs (go.in_met j n p l (back j n l v));
       seen = go.seen;
       seen_count = go.seen_count;
       seen_no_dup = go.seen_no_dup;

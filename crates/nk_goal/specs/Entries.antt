@@ -9,11 +9,11 @@ abbrev pub HaveSets : StoreState → List (ℕ × ℕ) → Type 0
 HaveSets st ps = EachPair (λ p. IsSet st p.1) ps
 
 -- the entries of both, a set once
-pub record IsMerged (st : StoreState) (met level : List (ℕ × ℕ)) (new : StoreState) (all : List (ℕ × ℕ)) : Type 0 where
-  pub either : (i : ℕ) (x : List ℕ) → IsStorePacket st x → Under new all i x → Under st met i x ⊎ Under st level i x
-  pub old : (i : ℕ) (x : List ℕ) → IsStorePacket st x → Under st met i x → Under new all i x
+pub record IsMerged (st : StoreState) (visited level : List (ℕ × ℕ)) (new : StoreState) (all : List (ℕ × ℕ)) : Type 0 where
+  pub either : (i : ℕ) (x : List ℕ) → IsStorePacket st x → Under new all i x → Under st visited i x ⊎ Under st level i x
+  pub old : (i : ℕ) (x : List ℕ) → IsStorePacket st x → Under st visited i x → Under new all i x
   pub more : (i : ℕ) (x : List ℕ) → IsStorePacket st x → Under st level i x → Under new all i x
-  pub named : (i : ℕ) → Named all i → Named met i ⊎ Named level i
+  pub named : (i : ℕ) → Named all i → Named visited i ⊎ Named level i
   pub packets : HaveSets new all
   pub once : Once all
 

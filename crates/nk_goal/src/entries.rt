@@ -15,7 +15,7 @@ use nk_store::{Id, Store};
 use std::alloc::AllocError;
 
 /// The packets under a set, if it has an entry.
-pub fn under(pairs: &IndexMap<SetId, Id>, t: SetId) -> Option<Id>
+pub fn packets_of_set(pairs: &IndexMap<SetId, Id>, t: SetId) -> Option<Id>
     ensures { result ≡ lookup (eqb t) pairs.now.entries }
 {
     pairs.get(&t).copied()
@@ -48,7 +48,7 @@ fn joined(st: &mut Store, pairs: &IndexMap<SetId, Id>, t: SetId, y: Id) -> Resul
     ensures grows { Grows st.old st.new }
     ensures ok { IfOk result (λ r. IsJoined st.old pairs.now.entries t y st.new r) }
 {
-    match under(pairs, t) {
+    match packets_of_set(pairs, t) {
         Some(x) => {
             let all = union(st, x, y)?;
             Ok(all)
@@ -61,33 +61,40 @@ fn joined(st: &mut Store, pairs: &IndexMap<SetId, Id>, t: SetId, y: Id) -> Resul
 /// and the packets of the level's first entries are added, and of the others none.
 pub fn add_level(
     st: &mut Store,
-    met: &mut IndexMap<SetId, Id>,
+    visited: &mut IndexMap<SetId, Id>,
     level: &List<(SetId, Id)>,
 ) -> Result<(), AllocError>
-    requires met { HaveSets st.old met.old.entries }
-    requires once { Once met.old.entries }
+    requires visited { HaveSets st.old visited.old.entries }
+    requires once { Once visited.old.entries }
     requires level { HaveSets st.old level.now }
     ensures grows { Grows st.old st.new }
-    ensures ok { OnOk result (IsMerged st.old met.old.entries level.now st.new met.new.entries) }
+    ensures ok { OnOk result
+        (IsMerged st.old visited.old.entries level.now st.new visited.new.entries) }
     ensures err { OnErr result
-        ((k : ℕ) × IsMerged st.old met.old.entries (take k level.now) st.new met.new.entries) }
+        ((k : ℕ) × IsMerged st.old visited.old.entries
+        (take k level.now) st.new visited.new.entries) }
 {
     for k in 0..level.len() {
         let (t, y) = *level.at(k);
-        add(st, met, t, y)?;
+        add(st, visited, t, y)?;
     }
     Ok(())
 }
 
 /// Those of the packets that don't stand under a set. The only error is that memory ran out.
-pub fn unmet(st: &mut Store, met: &IndexMap<SetId, Id>, t: SetId, y: Id) -> Result<Id, AllocError>
-    requires met { HaveSets st.old met.now.entries }
-    requires once { Once met.now.entries }
+pub fn unvisited(
+    st: &mut Store,
+    visited: &IndexMap<SetId, Id>,
+    t: SetId,
+    y: Id,
+) -> Result<Id, AllocError>
+    requires visited { HaveSets st.old visited.now.entries }
+    requires once { Once visited.now.entries }
     requires packets { IsSet st.old y }
     ensures grows { Grows st.old st.new }
-    ensures ok { IfOk result (λ r. IsRest st.old met.now.entries t y st.new r) }
+    ensures ok { IfOk result (λ r. IsRest st.old visited.now.entries t y st.new r) }
 {
-    match under(met, t) {
+    match packets_of_set(visited, t) {
         Some(x) => {
             let rest = minus(st, y, x)?;
             Ok(rest)

@@ -5,6 +5,6 @@ mod entries;
 mod goal;
 mod standing;
 
-pub use entries::{add, add_level, under, unmet};
+pub use entries::{add, add_level, packets_of_set, unvisited};
 pub use goal::{Goal, any_violation};
 pub use standing::Entries;

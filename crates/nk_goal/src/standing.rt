@@ -6,7 +6,7 @@ ghost use Rattle.nk_sets.specs.PacketSets.{IsSet};
 ghost use Rattle.nk_determ.specs.Pairs.{Once};
 ghost use Rattle.nk_goal.specs.Entries.{HaveSets, IsAdded, IsRest};
 
-use crate::entries::{add, under, unmet};
+use crate::entries::{add, packets_of_set, unvisited};
 use indexmap::IndexMap;
 use nk_determ::SetId;
 use nk_store::{Id, Store};
@@ -41,10 +41,10 @@ impl Entries {
     }
 
     /// The packets under a set.
-    pub fn under(&self, t: SetId) -> Option<Id>
+    pub fn packets_of_set(&self, t: SetId) -> Option<Id>
         ensures { result ≡ lookup (eqb t) self.now }
     {
-        under(&self.pairs, t)
+        packets_of_set(&self.pairs, t)
     }
 
     /// Adds packets under a set. The only error is that memory ran out; then the entries stay as they were.
@@ -60,13 +60,13 @@ impl Entries {
     }
 
     /// Those of the packets that don't stand under a set. The only error is that memory ran out.
-    pub fn unmet(&self, st: &mut Store, t: SetId, y: Id) -> Result<Id, AllocError>
+    pub fn unvisited(&self, st: &mut Store, t: SetId, y: Id) -> Result<Id, AllocError>
         requires pairs { HaveSets st.old self.now }
         requires once { Once self.now }
         requires packets { IsSet st.old y }
         ensures grows { Grows st.old st.new }
         ensures ok { IfOk result (λ r. IsRest st.old self.now t y st.new r) }
     {
-        unmet(st, &self.pairs, t, y)
+        unvisited(st, &self.pairs, t, y)
     }
 }

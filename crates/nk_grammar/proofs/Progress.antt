@@ -24,7 +24,7 @@ use Rattle.nk_grammar.specs.CertificateParser.{certified_phase_of, progress_of, 
 use Rattle.nk_grammar.specs.declared.decl.Completed.{Completed}
 use Rattle.nk_grammar.specs.declared.certificate_parser.Known.{Known}
 use Rattle.nk_grammar.specs.declared.certificate_parser.Known.TheVariants as known
-use Rattle.nk_grammar.specs.CertifiedProgress.{CertifiedProgress, Going, Stopped, bare, with_done, done_declarations, SoFar, so_far, nothing_so_far, so_far_at, so_far_judged, so_far_after, IsRead, certified_so_far, declarations_by, rows_by, IsStopped, ReadsCertifiedAsWhole}
+use Rattle.nk_grammar.specs.CertifiedProgress.{CertifiedProgress, Going, Stopped, bare, with_done, done_declarations, ParsedPrefix, so_far, nothing_so_far, so_far_at, so_far_judged, so_far_after, IsRead, certified_so_far, declarations_by, rows_by, IsStopped, ReadsCertifiedAsWhole}
 use Rattle.nk_grammar.proofs.After.{following, certify_after}
 
 -- what the machine's state says that is put together
@@ -85,7 +85,7 @@ takes_no_memory (known.Stopped e) j t line h = ap (λ x. progress_of x line) h.0
 -- ---- after further declarations and rows
 
 -- what is known, with these declarations and rows before those that are done
-abbrev so_far_following : List Declaration → List Row → SoFar → SoFar
+abbrev so_far_following : List Declaration → List Row → ParsedPrefix → ParsedPrefix
 so_far_following ds rs s = so_far s.progress (ds ++ s.declarations) (rs ++ s.rows)
 
 -- nothing is done but what was before
@@ -239,7 +239,7 @@ tidy (numbers_read line ns) ds rs t =
 tidy (in_row line ns s) ds rs t = row_tidy ds rs ns line (step s t) (policy_ended s) t
 
 -- what is known at the end
-abbrev end_of : SoFar → Result Certified GrammarError
+abbrev end_of : ParsedPrefix → Result Certified GrammarError
 end_of s = certified_so_far s.progress s.declarations s.rows
 
 stays : (ts : List Token) (e : GrammarError) (ds : List Declaration) (rs : List Row)

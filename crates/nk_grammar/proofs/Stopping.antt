@@ -9,7 +9,7 @@ use Rattle.nk_grammar.specs.Answer.{terminals}
 use Rattle.nk_grammar.specs.Certified.{Row, CertifiedGoesOn}
 use Rattle.nk_grammar.specs.CertifiedAnswer.{IsCertifiedShallow}
 use Rattle.nk_grammar.specs.CertifiedMachine.{Certifying, certify_one, certify_all, first_certifying, open_certified, judged_certified}
-use Rattle.nk_grammar.specs.CertifiedProgress.{CertifiedProgress, Going, Stopped, with_done, SoFar, so_far, nothing_so_far, so_far_judged, so_far_after, IsRead, IsStopped, StopsWithCertifiedTexts}
+use Rattle.nk_grammar.specs.CertifiedProgress.{CertifiedProgress, Going, Stopped, with_done, ParsedPrefix, so_far, nothing_so_far, so_far_judged, so_far_after, IsRead, IsStopped, StopsWithCertifiedTexts}
 use Rattle.nk_grammar.proofs.Machines.{terminals_more, all_more, shallow_more, shallow_first, within, beyond}
 use Rattle.nk_grammar.proofs.CertifiedTexts.{certified_machine, certified_goes_on, certified_stops, certify_append}
 use Rattle.nk_grammar.proofs.Progress.{AreTidy, tidy}
@@ -23,7 +23,7 @@ abbrev IsKnownOf : List Terminal → CertifiedProgress → List Declaration → 
 IsKnownOf ts (Going p line) ds rs = (certify_all ts first_certifying ≡ Some (with_done p ds rs)) × IsCertifiedShallow ts
 IsKnownOf ts (Stopped e) ds rs = IsRefused ts
 
-abbrev IsKnownAt : List Terminal → SoFar → Type 0
+abbrev IsKnownAt : List Terminal → ParsedPrefix → Type 0
 IsKnownAt ts s = IsKnownOf ts s.progress s.declarations s.rows
 
 -- fronts of a shallow front are shallow
@@ -54,7 +54,7 @@ one_more ts (Going p line) ds rs t h =
         by_count true f = (e ∙ ap (λ s. Some s) (sym i), shallow_more certified_machine ts (terminal_of t) c h.1 e (within (open_certified c) f))
         by_count false f = inr (λ s. s now [] (sym (append-nil now)) (c, e, beyond (open_certified c) f))
 
-all_known : (us ts : List Token) (s : SoFar) → IsKnownAt (terminals us) s
+all_known : (us ts : List Token) (s : ParsedPrefix) → IsKnownAt (terminals us) s
     → IsKnownAt (terminals (us ++ ts)) (fold so_far_after s ts)
 all_known us [] s h = subst (λ l. IsKnownAt (terminals l) s) (sym (append-nil us)) h
 all_known us (t ∷ ts) s h =

@@ -40,36 +40,36 @@ done_declarations (declaring r) ds = r.declarations
 done_declarations p ds = ds
 
 -- what is known of the tokens so far, and the declarations and rows that are done
-pub record SoFar : Type 0 where
+pub record ParsedPrefix : Type 0 where
   pub progress : CertifiedProgress
   pub declarations : List Declaration
   pub rows : List Row
 
 -- the record by its parts
-abbrev pub so_far : CertifiedProgress → List Declaration → List Row → SoFar
+abbrev pub so_far : CertifiedProgress → List Declaration → List Row → ParsedPrefix
 so_far p ds rs = record { progress = p; declarations = ds; rows = rs }
 
 -- before the first token
-abbrev pub nothing_so_far : SoFar
+abbrev pub nothing_so_far : ParsedPrefix
 nothing_so_far = so_far first_progress [] []
 
 -- what is known after a token on this line, and what is done, by the machine's state after the token
-abbrev pub so_far_at : Certifying → (line : ℕ) → SoFar
+abbrev pub so_far_at : Certifying → (line : ℕ) → ParsedPrefix
 so_far_at c line = so_far (Going (bare c.phase) line) (done_declarations c.phase c.declarations) c.rows
 
 -- a fault comes after what is done
-abbrev pub so_far_judged : Result Certifying GrammarError → SoFar → (line : ℕ) → SoFar
+abbrev pub so_far_judged : Result Certifying GrammarError → ParsedPrefix → (line : ℕ) → ParsedPrefix
 so_far_judged (Ok c) s line = so_far_at c line
 so_far_judged (Err e) s line = so_far (Stopped e) s.declarations s.rows
 
 -- one more token; a fault stays
-abbrev pub so_far_on : CertifiedProgress → SoFar → Token → SoFar
+abbrev pub so_far_on : CertifiedProgress → ParsedPrefix → Token → ParsedPrefix
 so_far_on (Going p line) s t =
     so_far_judged (judged_certified t.line (certify_one (with_done p s.declarations s.rows) (terminal_of t))) s t.line
 so_far_on (Stopped e) s t = s
 
 -- one more token, by what is known of the tokens before it
-abbrev pub so_far_after : SoFar → Token → SoFar
+abbrev pub so_far_after : ParsedPrefix → Token → ParsedPrefix
 so_far_after s t = so_far_on s.progress s t
 
 -- of these tokens this is known, and they completed these declarations and rows

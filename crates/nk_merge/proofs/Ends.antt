@@ -7,7 +7,7 @@ use Rattle.nk_policy.specs.PositionSets.{last_from}
 use Rattle.nk_store.specs.StoreState.{StoreState, IsStorePacket, AreTidy}
 use Rattle.nk_determ.specs.Exact.{Sends}
 use Rattle.nk_determ.specs.Pairs.{Node, AreLabelsBelow, AreStates, IsStep}
-use Rattle.nk_determ.specs.Breaks.{Walks}
+use Rattle.nk_determ.specs.Counterexamples.{Walks}
 use Rattle.nk_reach.specs.Sides.{EndsAt}
 use Rattle.nk_goal.proofs.Growing.{place_of}
 use Rattle.nk_merge.specs.Alike.{SetGives}

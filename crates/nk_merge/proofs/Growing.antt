@@ -6,7 +6,7 @@ use Rattle.nk_store.specs.declared.node.Out.{Out}
 use Rattle.nk_store.specs.StoreState.{StoreState, IsId, IsStorePacket, Grows}
 use Rattle.nk_apply.specs.Unions.{AreIds}
 use Rattle.nk_determ.specs.Pairs.{Node, AreLabelsBelow, AreStates, IsStep}
-use Rattle.nk_determ.specs.Breaks.{Walks}
+use Rattle.nk_determ.specs.Counterexamples.{Walks}
 use Rattle.nk_reach.specs.Sides.{alone, ends_of, ends_same, property_grows, EndsAt, AreOneSided, IsPropertyOfEnds}
 use Rattle.nk_witness.specs.declared.found.Side.{Side}
 use Rattle.nk_witness.specs.declared.found.Side.TheVariants.{Left, Right}

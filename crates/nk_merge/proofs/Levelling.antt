@@ -5,7 +5,7 @@ use Rattle.nk_field.specs.Order.{Found, IsLeast}
 use Rattle.nk_store.specs.StoreState.{StoreState, IsId, IsStorePacket, Grows, AreTidy}
 use Rattle.nk_sets.specs.PacketSets.{is_in}
 use Rattle.nk_determ.specs.Pairs.{AreLabelsBelow, AreStates}
-use Rattle.nk_determ.specs.Breaks.{IsBreak, Breaks}
+use Rattle.nk_determ.specs.Counterexamples.{IsCounterexampleWithTarget, IsCounterexample}
 use Rattle.nk_determ.specs.Levels.{AreLevels}
 use Rattle.nk_reach.specs.Sides.{alone, ends_of, ends_same}
 use Rattle.nk_witness.specs.Finds.{first_set, first_packets, target_of}
@@ -84,13 +84,13 @@ module _ (old new : StoreState) (ss : List (List ℕ)) (states xs ys : List ℕ)
       (alike_on old new states g k.states_are (labels_after xs) (labels_after ys) sp tp alike)
 
   pub least_before : (given : List ℕ) → given ≡ made.rows → (side : Side) (f : Found)
-      → IsBreak new given (slice_index_or ss (first_set ls) []) (first_packets ls) (λ set pk. violations_in new made set pk) (target_of side) f
-      → IsLeast (Breaks new given (slice_index_or ss (first_set ls) []) (first_packets ls) (λ set pk. violations_in new made set pk)) f
+      → IsCounterexampleWithTarget new given (slice_index_or ss (first_set ls) []) (first_packets ls) (λ set pk. violations_in new made set pk) (target_of side) f
+      → IsLeast (IsCounterexample new given (slice_index_or ss (first_set ls) []) (first_packets ls) (λ set pk. violations_in new made set pk)) f
       → IsLeastOfOne old states (labels_after xs) (labels_after ys) side f
   least_before given e side f b least =
       least_back old new states g k.states_are (labels_after xs) (labels_after ys) sp tp side f
       (least_is new ss states (labels_after xs) (labels_after ys) made ls broken l sp tp (following_some xs) (following_some ys) lv side f
-      (subst (λ r. IsBreak new r (both_sets (label_count states) (labels_after xs) (labels_after ys)) (first_packets ls) (λ set pk. violations_in new made set pk) (target_of side) f) e
-      (subst (λ s. IsBreak new given s (first_packets ls) (λ set pk. violations_in new made set pk) (target_of side) f) lv.set_is b))
-      (subst (λ r. IsLeast (Breaks new r (both_sets (label_count states) (labels_after xs) (labels_after ys)) (first_packets ls) (λ set pk. violations_in new made set pk)) f) e
-      (subst (λ s. IsLeast (Breaks new given s (first_packets ls) (λ set pk. violations_in new made set pk)) f) lv.set_is least)))
+      (subst (λ r. IsCounterexampleWithTarget new r (both_sets (label_count states) (labels_after xs) (labels_after ys)) (first_packets ls) (λ set pk. violations_in new made set pk) (target_of side) f) e
+      (subst (λ s. IsCounterexampleWithTarget new given s (first_packets ls) (λ set pk. violations_in new made set pk) (target_of side) f) lv.set_is b))
+      (subst (λ r. IsLeast (IsCounterexample new r (both_sets (label_count states) (labels_after xs) (labels_after ys)) (first_packets ls) (λ set pk. violations_in new made set pk)) f) e
+      (subst (λ s. IsLeast (IsCounterexample new given s (first_packets ls) (λ set pk. violations_in new made set pk)) f) lv.set_is least)))

@@ -7,7 +7,7 @@ use Rattle.nk_store.specs.StoreState.{StoreState, IsStorePacket, AreTidy}
 use Rattle.nk_determ.specs.Exact.{Sends}
 use Rattle.nk_determ.specs.States.{StateLeads}
 use Rattle.nk_determ.specs.Pairs.{Node, AreLabelsBelow, AreStates, IsStep}
-use Rattle.nk_determ.specs.Breaks.{Walks}
+use Rattle.nk_determ.specs.Counterexamples.{Walks}
 use Rattle.nk_determ.proofs.Sending.{sent_in_range}
 use Rattle.nk_goal.proofs.Growing.{place_of, step_places}
 use Rattle.nk_runs.proofs.Listings.{all_listed, both_decided, above_zero}

@@ -7,7 +7,7 @@ use Rattle.nk_field.proofs.Lists.{numbers_decided, stable}
 use Rattle.nk_store.specs.declared.node.Out.{Out}
 use Rattle.nk_store.specs.StoreState.{StoreState, IsStorePacket}
 use Rattle.nk_determ.specs.Pairs.{Node, AreLabelsBelow, IsStart, IsStep}
-use Rattle.nk_determ.specs.Breaks.{Walks, MakesWithTarget, IsBreak, Breaks}
+use Rattle.nk_determ.specs.Counterexamples.{Walks, MakesWithTarget, IsCounterexampleWithTarget, IsCounterexample}
 use Rattle.nk_determ.specs.Levels.{At, InLevel, IsViolation}
 use Rattle.nk_reach.specs.Sides.{alone, alone_sided, ends_of, EndsAt, AreOneSided}
 use Rattle.nk_witness.specs.Finds.{first_packets, target_of}
@@ -153,7 +153,7 @@ module _ (st : StoreState) (ss : List (List ℕ)) (states s t : List ℕ) (disjo
       (alone_sided (ends_of st disjoint.goal.ends n.0 n.1) o.0 o.1)
 
   -- histories that break the goal with target 0 are those of the first set alone
-  left_is : (f : Found) → IsBreak st disjoint.rows both (first_packets ls) (violations_in st disjoint) 0 f ↔ IsOfFirst st states s t f
+  left_is : (f : Found) → IsCounterexampleWithTarget st disjoint.rows both (first_packets ls) (violations_in st disjoint) 0 f ↔ IsOfFirst st states s t f
   left_is f = (
     λ b.
         let r = b.starts.packet in
@@ -170,7 +170,7 @@ module _ (st : StoreState) (ss : List (List ℕ)) (states s t : List ℕ) (disjo
   )
 
   -- and those with target 1 are the second set's
-  right_is : (f : Found) → IsBreak st disjoint.rows both (first_packets ls) (violations_in st disjoint) 1 f ↔ IsOfFirst st states t s f
+  right_is : (f : Found) → IsCounterexampleWithTarget st disjoint.rows both (first_packets ls) (violations_in st disjoint) 1 f ↔ IsOfFirst st states t s f
   right_is f = (
     λ b.
         let r = b.starts.packet in
@@ -187,13 +187,13 @@ module _ (st : StoreState) (ss : List (List ℕ)) (states s t : List ℕ) (disjo
   )
 
   -- by the side
-  break_is : (side : Side) (f : Found) → IsBreak st disjoint.rows both (first_packets ls) (violations_in st disjoint) (target_of side) f ↔ IsOfOne st states s t side f
+  break_is : (side : Side) (f : Found) → IsCounterexampleWithTarget st disjoint.rows both (first_packets ls) (violations_in st disjoint) (target_of side) f ↔ IsOfOne st states s t side f
   break_is Left f = left_is f
   break_is Right f = right_is f
 
   -- so the least one that breaks the goal is the least one of one set alone
-  pub least_is : (side : Side) (f : Found) → IsBreak st disjoint.rows both (first_packets ls) (violations_in st disjoint) (target_of side) f
-      → IsLeast (Breaks st disjoint.rows both (first_packets ls) (violations_in st disjoint)) f → IsLeastOfOne st states s t side f
+  pub least_is : (side : Side) (f : Found) → IsCounterexampleWithTarget st disjoint.rows both (first_packets ls) (violations_in st disjoint) (target_of side) f
+      → IsLeast (IsCounterexample st disjoint.rows both (first_packets ls) (violations_in st disjoint)) f → IsLeastOfOne st states s t side f
   least_is side f b least =
       let one = (break_is side f).0 b in
       (one, ((side, one), λ g h. least.1 g (target_of h.0, (break_is h.0 g).1 h.1)))

@@ -4,7 +4,7 @@ use Rattle.std.specs.Prelude.{ℕ, ◌+◌, ◌↔◌, List, [], map, slice_inde
 use Rattle.nk_store.specs.StoreState.{StoreState, IsStorePacket}
 use Rattle.nk_determ.specs.States.{StateLeads}
 use Rattle.nk_determ.specs.Pairs.{Node, IsStep}
-use Rattle.nk_determ.specs.Breaks.{Walks}
+use Rattle.nk_determ.specs.Counterexamples.{Walks}
 
 -- from the packet x the set gives this history: the records follow the states' set states from the set on, and a member of
 -- the set at which they end has a state that ends at y

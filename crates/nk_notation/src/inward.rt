@@ -10,7 +10,8 @@ use crate::context::TextKind;
 use crate::notation::Notation;
 use nk_number_forms::{
     Atom, Cause, Fault, Stop, WordStop, address_of, atom_of, block_size, colons, dropped, first_of,
-    is_dotted, is_white, last_of, number_within, parted, place_of, place_of_dots, put, put_number,
+    is_dotted, is_white, last_of, number_within, place_of, place_of_dots, put, put_number,
+    split_once,
 };
 use std::alloc::{AllocError, AllocFailed};
 
@@ -330,7 +331,7 @@ fn put_slash(
 ) -> Result<(), WordStop>
     ensures { Puts result (slash_in tables tests lead.now run.now) out.old.items out.new.items }
 {
-    let (front, length) = parted(b'/', run);
+    let (front, length) = split_once(b'/', run);
     if !is_dotted(front) {
         return put_both(out, lead, atom_of(front), front, b"/", Atom::Kept, length);
     }

@@ -3,7 +3,7 @@ use Rattle.std.proofs.Common.{◌==◌, ℕ, true, List, [], ◌∷◌, ◌++◌
 use Rattle.std.proofs.lemmas.List.Elements.{All-nil, All-cons, All-head, All-tail}
 use Rattle.std.specs.Prelude.{All}
 use Rattle.std.specs.List.{flat_map, list_all}
-use Rattle.nk_compact.specs.declared.compact.Apart.{Apart}
+use Rattle.nk_compact.specs.declared.compact.DistinguishingHistory.{DistinguishingHistory}
 use Rattle.nk_compact_command.specs.Compacting.{apart_line, apart_words}
 use Rattle.nk_compact_command.proofs.PlainLines.{IsPlain, history_plain, packet_plain, plain_after, plain_number}
 use Rattle.nk_declare.specs.Kept.{IsWritable}
@@ -37,7 +37,7 @@ before_last P (x ∷ xs) y h =
     let rest = before_last P xs y (All-tail P x (xs ++ y ∷ []) h) in
     (All-cons P x xs (All-head P x (xs ++ y ∷ []) h) rest.0, rest.1)
 
-words_plain : (fields : FieldTable) → IsWritable fields → (a : Apart) → IsApartOver fields a → IsPlain (apart_words fields a)
+words_plain : (fields : FieldTable) → IsWritable fields → (a : DistinguishingHistory) → IsApartOver fields a → IsPlain (apart_words fields a)
 words_plain fields w a h =
     let packets = before_last (IsPacket fields) a.history.records a.history.last h.history in
     let one = codes " apart " ++ decimal a.first in

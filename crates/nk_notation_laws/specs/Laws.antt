@@ -32,7 +32,7 @@ use Rattle.nk_virtual_command.specs.Messages.{unphysical_line}
 use Rattle.nk_verify_commands.specs.Asking.{broken_lines}
 use Rattle.nk_verify_commands.specs.Comparing.{difference_lines}
 use Rattle.nk_change_impact.specs.Impact.{impact_lines}
-use Rattle.nk_compact.specs.declared.compact.Apart.{Apart}
+use Rattle.nk_compact.specs.declared.compact.DistinguishingHistory.{DistinguishingHistory}
 use Rattle.nk_compact.specs.declared.compact.Compact.{Compact}
 use Rattle.nk_compact_command.specs.Compacting.{compact_bytes}
 use Rattle.nk_lex.specs.declared.ident.Ident.{Ident}
@@ -145,7 +145,7 @@ ImpactsAreLeft = (fields : FieldTable) → IsWritable fields → (left right : P
     → IsLeftByIn (impact_lines fields left right)
 
 -- the numbers are counts, and the start packet and the history have values in range
-pub record IsApartOver (fields : FieldTable) (a : Apart) : Type 0 where
+pub record IsApartOver (fields : FieldTable) (a : DistinguishingHistory) : Type 0 where
   pub first : IsCount a.first
   pub second : IsCount a.second
   pub alone : IsCount a.alone

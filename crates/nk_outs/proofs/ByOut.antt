@@ -14,14 +14,14 @@ use Rattle.nk_apply.specs.Predicates.{IsPredicate}
 use Rattle.nk_apply.proofs.Built.{part_old}
 use Rattle.nk_sets.specs.PacketSets.{has_some_out, is_in}
 use Rattle.nk_outs.specs.declared.groups.Stretch.{Stretch}
-use Rattle.nk_outs.specs.declared.outs.Given.{Given}
+use Rattle.nk_outs.specs.declared.outs.OutPackets.{OutPackets}
 use Rattle.nk_outs.specs.Outs.{given, entry, IsGiven, AreLater, IsByOut, AreByOut, stretch, IsUpTo, AreOfDiagram}
 use Rattle.nk_outs.proofs.Kept.{packet_on, packet_back}
 use Rattle.nk_outs.proofs.Givens.{given_on, later_on, gives_on, gives_back}
 use Rattle.nk_outs.proofs.Stretches.{stretches_on, has_at_on, has_at_back, stretches_append, any_left, any_right, any_split, map_stretches, map_gives, gives_map}
 
 -- the entries of a diagram stay so as the store grows
-pub by_out_on : (a b : StoreState) (d : ℕ) (es : List Given) → Grows a b → IsByOut a d es → IsByOut b d es
+pub by_out_on : (a b : StoreState) (d : ℕ) (es : List OutPackets) → Grows a b → IsByOut a d es → IsByOut b d es
 by_out_on a b d es g k = record {
   id = g.ids d k.id;
   given = given_on a b es g k.given;
@@ -31,11 +31,11 @@ by_out_on a b d es g k = record {
 }
 
 -- and so does a table of them
-pub kept_on : (a b : StoreState) (kept : List (ℕ × List Given)) → Grows a b → AreByOut a kept → AreByOut b kept
+pub kept_on : (a b : StoreState) (kept : List (ℕ × List OutPackets)) → Grows a b → AreByOut a kept → AreByOut b kept
 kept_on a b kept g k d es e = by_out_on a b d es g (k d es e)
 
 -- a table with one diagram more
-pub kept_put : (st : StoreState) (d : ℕ) (es : List Given) (old new : List (ℕ × List Given)) → AreByOut st old → IsByOut st d es →
+pub kept_put : (st : StoreState) (d : ℕ) (es : List OutPackets) (old new : List (ℕ × List OutPackets)) → AreByOut st old → IsByOut st d es →
     ((q : ℕ) → lookup (eqb q) new ≡ cond (eqb d q) (Some es) (lookup (eqb q) old)) → AreByOut st new
 kept_put st d es old new are one put q fs e =
     elim (eqb_tells d q) [
@@ -46,7 +46,7 @@ kept_put st d es old new are one put q fs e =
       | inr other ↦ are q fs (sym (put q ∙ ap (λ b. cond b (Some es) (lookup (eqb q) old)) other.0) ∙ e)
     ]
   where
-    value_or : List Given → Option (List Given) → List Given
+    value_or : List OutPackets → Option (List OutPackets) → List OutPackets
     value_or es None = es
     value_or es (Some fs) = fs
 
@@ -62,7 +62,7 @@ count_map packets [] = refl
 count_map packets (o ∷ os) = ap suc (count_map packets os)
 
 -- the outs of a leaf, each for all packets
-pub leaf_by_out : (st : StoreState) (d : ℕ) (outs : List Out) (all : ℕ) (es : List Given) → IsId st d → IsLeaf st d outs → HasLeaves st all (λ pk. no_out ∷ []) → root_field st all ≡ 18 → IsPredicate st all → es ≡ map (given all) outs → IsByOut st d es
+pub leaf_by_out : (st : StoreState) (d : ℕ) (outs : List Out) (all : ℕ) (es : List OutPackets) → IsId st d → IsLeaf st d outs → HasLeaves st all (λ pk. no_out ∷ []) → root_field st all ≡ 18 → IsPredicate st all → es ≡ map (given all) outs → IsByOut st d es
 leaf_by_out st d outs all es id leaf h past p is = subst (IsByOut st d) (sym is) (record {
   id = id;
   given = λ k l.
@@ -73,24 +73,24 @@ leaf_by_out st d outs all es id leaf h past p is = subst (IsByOut st d) (sym is)
       });
   later = λ k l.
       let m : k < length outs = omega (arith, l, count_map all outs) in
-      subst (λ (z : Given). root_field st d ≤ root_field st z.packets) (sym (entry_map all outs k m)) (omega (arith, past, leaf.root_field_is));
+      subst (λ (z : OutPackets). root_field st d ≤ root_field st z.packets) (sym (entry_map all outs k m)) (omega (arith, past, leaf.root_field_is));
   goes = λ x o pk w.
       let m : w.0 < length outs = omega (arith, w.2, count_map all outs) in
       subst (λ (os : List Out). Contains os o) (sym (leaf.leaf x))
-      (w.0, m, get_or_default outs w.0 o no_out m ∙ sym (ap (λ (e : Given). e.out) (entry_map all outs w.0 m)) ∙ w.3);
+      (w.0, m, get_or_default outs w.0 o no_out m ∙ sym (ap (λ (e : OutPackets). e.out) (entry_map all outs w.0 m)) ∙ w.3);
   comes = λ x o pk c.
       let w = subst (λ (os : List Out). Contains os o) (leaf.leaf x) c in
       let at = entry_map all outs w.0 w.1 in (
         w.0,
         omega arith,
         omega (arith, w.1, count_map all outs),
-        ap (λ (e : Given). e.out) at ∙ get_or_default outs w.0 no_out o w.1 ∙ w.2,
-        ap (λ (e : Given). is_in st e.packets x) at ∙ ap has_some_out (h.leaf x pk.0),
+        ap (λ (e : OutPackets). e.out) at ∙ get_or_default outs w.0 no_out o w.1 ∙ w.2,
+        ap (λ (e : OutPackets). is_in st e.packets x) at ∙ ap has_some_out (h.leaf x pk.0),
       );
 })
 
 -- those of one part more
-pub up_to_push : (a st new : StoreState) (d f from : ℕ) (p : ℕ × ℕ) (es : List Given) (all : List Stretch) → IsId a d → IsSplit a f d → Grows a st → IsPart st f d from p → Grows st new →
+pub up_to_push : (a st new : StoreState) (d f from : ℕ) (p : ℕ × ℕ) (es : List OutPackets) (all : List Stretch) → IsId a d → IsSplit a f d → Grows a st → IsPart st f d from p → Grows st new →
     IsByOut new p.1 es → IsUpTo a d f from st all → IsUpTo a d f (p.0 + 1) new (all ++ map (stretch from p.0) es)
 up_to_push a st new d f from p es all id split ga part g by_one m =
     let more : List Stretch = map (stretch from p.0) es in

@@ -7,7 +7,7 @@ use Rattle.nk_store.specs.declared.node.Out.{Out}
 use Rattle.nk_store.specs.Leaves.{Suits}
 use Rattle.nk_store.specs.StoreState.{StoreState, IsStorePacket, root_field, Grows}
 use Rattle.nk_outs.specs.declared.groups.Stretch.{Stretch}
-use Rattle.nk_outs.specs.declared.outs.Given.{Given}
+use Rattle.nk_outs.specs.declared.outs.OutPackets.{OutPackets}
 use Rattle.nk_outs.specs.Outs.{AreLater, IsByOut, piece, AreStretches, AreOfDiagram, AreUnited, IsRunOf, IsNone}
 use Rattle.nk_outs.proofs.Kept.{packet_on, packet_back}
 use Rattle.nk_outs.proofs.Givens.{given_on, later_on, gives_on, gives_back, given_push, later_push, any_old, any_new, any_back}
@@ -18,10 +18,10 @@ pub none_on : (a b : StoreState) (d : ℕ) → Grows a b → IsNone a d → IsNo
 none_on a b d g n = record { leaves = record { id = g.ids d n.leaves.id; leaf = λ pk w. g.leaves d pk n.leaves.id ∙ n.leaves.leaf pk w }; later = g.root_fields d n.leaves.id ∙ n.later }
 
 -- one run more put together
-pub united_push : (a st new : StoreState) (f : ℕ) (ss : List Stretch) (from to : ℕ) (made : List Given) (o : Out) (p : ℕ) → AreStretches a f ss → o ≡ (piece ss from).out → Grows a st → Grows st new →
+pub united_push : (a st new : StoreState) (f : ℕ) (ss : List Stretch) (from to : ℕ) (made : List OutPackets) (o : Out) (p : ℕ) → AreStretches a f ss → o ≡ (piece ss from).out → Grows a st → Grows st new →
     IsRunOf st f ss from to new p → AreUnited a f ss from st made → AreUnited a f ss to new (made ++ record { out = o; packets = p } ∷ [])
 united_push a st new f ss from to made o p k is g h run u =
-    let e : Given = record { out = o; packets = p } in
+    let e : OutPackets = record { out = o; packets = p } in
     let at_st : AreStretches st f ss = stretches_on a st f ss g k in
     let suits : Suits new.maxes o = subst (λ (ms : List ℕ). Suits ms o) (sym h.maxes) (subst (Suits st.maxes) (sym is) (at_st from (omega (arith, run.later, run.within))).suits) in
     record {
@@ -44,7 +44,7 @@ united_push a st new f ss from to made o p k is g h run u =
     }
 
 -- those of a diagram, in another order and put together, are its entries
-pub by_out_united : (a new : StoreState) (f d : ℕ) (ss ts : List Stretch) (made : List Given) → Grows a new → AreOfDiagram a f d ss → IsPermutation ss ts → AreUnited a f ts (length ts) new made → IsByOut new d made
+pub by_out_united : (a new : StoreState) (f d : ℕ) (ss ts : List Stretch) (made : List OutPackets) → Grows a new → AreOfDiagram a f d ss → IsPermutation ss ts → AreUnited a f ts (length ts) new made → IsByOut new d made
 by_out_united a new f d ss ts made g k p u = record {
   id = g.ids d k.id;
   given = u.given;

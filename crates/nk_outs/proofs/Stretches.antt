@@ -11,7 +11,7 @@ use Rattle.nk_apply.specs.Seqs.{no_out}
 use Rattle.nk_apply.proofs.Built.{child_grows}
 use Rattle.nk_sets.proofs.SetLemmas.{predicate_grows}
 use Rattle.nk_outs.specs.declared.groups.Stretch.{Stretch}
-use Rattle.nk_outs.specs.declared.outs.Given.{Given}
+use Rattle.nk_outs.specs.declared.outs.OutPackets.{OutPackets}
 use Rattle.nk_outs.specs.Outs.{given, entry, AreGiven, AreLater, GivesAny, stretch, piece, IsStretch, AreStretches, HasAt, HasAny}
 use Rattle.nk_outs.proofs.Kept.{Has, has_on, has_back}
 
@@ -84,11 +84,11 @@ any_split st f ss ts x o w = elim (leb_tells (length ss) w.0) [
 ]
 
 -- the one of an entry
-piece_map : (from end : ℕ) (es : List Given) (k : ℕ) → k < length es → piece (map (stretch from end) es) k ≡ stretch from end (entry es k)
+piece_map : (from end : ℕ) (es : List OutPackets) (k : ℕ) → k < length es → piece (map (stretch from end) es) k ≡ stretch from end (entry es k)
 piece_map from end es k l = get_or-map (stretch from end) es k (given 0 no_out) (stretch 0 0 (given 0 no_out)) l
 
 -- entries of fields after f for the values of an interval
-pub map_stretches : (st : StoreState) (f t from end : ℕ) (es : List Given) → AreGiven st es → AreLater st t es → f < t → from ≤ end → end ≤ get_or st.maxes f 0 → AreStretches st f (map (stretch from end) es)
+pub map_stretches : (st : StoreState) (f t from end : ℕ) (es : List OutPackets) → AreGiven st es → AreLater st t es → f < t → from ≤ end → end ≤ get_or st.maxes f 0 → AreStretches st f (map (stretch from end) es)
 map_stretches st f t from end es k later l order within i m =
     let j : i < length es = omega (arith, m, length-map es (stretch from end)) in
     subst (IsStretch st f) (sym (piece_map from end es i j)) (record {
@@ -100,7 +100,7 @@ map_stretches st f t from end es k later l order within i m =
     })
 
 -- what entries for the values of an interval have
-pub map_gives : (st : StoreState) (f from end : ℕ) (es : List Given) (x : List ℕ) (o : Out) → HasAny st f (map (stretch from end) es) x o → (from ≤ get_or x f 0) × (get_or x f 0 ≤ end) × GivesAny st es x o
+pub map_gives : (st : StoreState) (f from end : ℕ) (es : List OutPackets) (x : List ℕ) (o : Out) → HasAny st f (map (stretch from end) es) x o → (from ≤ get_or x f 0) × (get_or x f 0 ≤ end) × GivesAny st es x o
 map_gives st f from end es x o w =
     let j : w.0 < length es = omega (arith, w.2, length-map es (stretch from end)) in
     let at = piece_map from end es w.0 j in (
@@ -110,7 +110,7 @@ map_gives st f from end es x o w =
     )
 
 -- what entries give they have for the values of an interval
-pub gives_map : (st : StoreState) (f from end : ℕ) (es : List Given) (x : List ℕ) (o : Out) → from ≤ get_or x f 0 → get_or x f 0 ≤ end → GivesAny st es x o → HasAny st f (map (stretch from end) es) x o
+pub gives_map : (st : StoreState) (f from end : ℕ) (es : List OutPackets) (x : List ℕ) (o : Out) → from ≤ get_or x f 0 → get_or x f 0 ≤ end → GivesAny st es x o → HasAny st f (map (stretch from end) es) x o
 gives_map st f from end es x o a b w =
     let at : stretch from end (entry es w.0) ≡ piece (map (stretch from end) es) w.0 = sym (piece_map from end es w.0 w.2) in (
       w.0,

@@ -9,43 +9,43 @@ use Rattle.nk_apply.specs.Seqs.{no_out}
 use Rattle.nk_apply.specs.Predicates.{IsPredicate}
 use Rattle.nk_sets.specs.PacketSets.{is_in, IsSet}
 use Rattle.nk_outs.specs.declared.groups.Stretch.{Stretch}
-use Rattle.nk_outs.specs.declared.outs.Given.{Given}
+use Rattle.nk_outs.specs.declared.outs.OutPackets.{OutPackets}
 
 -- the out with this act and target
 abbrev pub sent_to : List (ℕ × ℕ) → ℕ → Out
 sent_to g t = record { act = g; target = t }
 
 -- the out for these packets
-abbrev pub given : ℕ → Out → Given
+abbrev pub given : ℕ → Out → OutPackets
 given packets o = record { out = o; packets = packets }
 
 -- what stands at a place, or nothing
-abbrev pub entry : List Given → ℕ → Given
+abbrev pub entry : List OutPackets → ℕ → OutPackets
 entry es k = slice_index_or es k (given 0 no_out)
 
 -- the out suits the store, and the packets are a set
-pub record IsGiven (st : StoreState) (e : Given) : Type 0 where
+pub record IsGiven (st : StoreState) (e : OutPackets) : Type 0 where
   pub suits : Suits st.maxes e.out
   pub packets : IsSet st e.packets
 
 -- each entry is so
-abbrev pub AreGiven : StoreState → List Given → Type 0
+abbrev pub AreGiven : StoreState → List OutPackets → Type 0
 AreGiven st es = (k : ℕ) → k < length es → IsGiven st (entry es k)
 
 -- no entry's set tests a field before f
-abbrev pub AreLater : StoreState → ℕ → List Given → Type 0
+abbrev pub AreLater : StoreState → ℕ → List OutPackets → Type 0
 AreLater st f es = (k : ℕ) → k < length es → f ≤ root_field st (entry es k).packets
 
 -- an entry at one of these places has the out, and its set has the packet
-abbrev pub GivesOut : StoreState → List Given → ℕ → ℕ → List ℕ → Out → Type 0
+abbrev pub GivesOut : StoreState → List OutPackets → ℕ → ℕ → List ℕ → Out → Type 0
 GivesOut st es from to x o = (k : ℕ) × (from ≤ k) × (k < to) × ((entry es k).out ≡ o) × (is_in st (entry es k).packets x ≡ true)
 
 -- an entry at some place has the out, and its set has the packet
-abbrev pub GivesAny : StoreState → List Given → List ℕ → Out → Type 0
+abbrev pub GivesAny : StoreState → List OutPackets → List ℕ → Out → Type 0
 GivesAny st es x o = GivesOut st es 0 (length es) x o
 
 -- the entries have for each out of the diagram exactly the packets with that out
-pub record IsByOut (st : StoreState) (d : ℕ) (es : List Given) : Type 0 where
+pub record IsByOut (st : StoreState) (d : ℕ) (es : List OutPackets) : Type 0 where
   pub id : IsId st d
   pub given : AreGiven st es
   pub later : AreLater st (root_field st d) es
@@ -53,15 +53,15 @@ pub record IsByOut (st : StoreState) (d : ℕ) (es : List Given) : Type 0 where
   pub comes : (x : List ℕ) (o : Out) → IsStorePacket st x → Contains (look st d x) o → GivesAny st es x o
 
 -- each diagram that is kept leads to its entries
-abbrev pub AreByOut : StoreState → List (ℕ × List Given) → Type 0
-AreByOut st kept = (d : ℕ) (es : List Given) → lookup (eqb d) kept ≡ Some es → IsByOut st d es
+abbrev pub AreByOut : StoreState → List (ℕ × List OutPackets) → Type 0
+AreByOut st kept = (d : ℕ) (es : List OutPackets) → lookup (eqb d) kept ≡ Some es → IsByOut st d es
 
 -- the entry for the values of an interval
-abbrev pub stretch : ℕ → ℕ → Given → Stretch
+abbrev pub stretch : ℕ → ℕ → OutPackets → Stretch
 stretch from end e = record { out = e.out; from = from; end = end; packets = e.packets }
 
 -- the entries for the values of an interval, where there are entries
-abbrev pub stretches : ℕ → ℕ → Option (List Given) → List Stretch
+abbrev pub stretches : ℕ → ℕ → Option (List OutPackets) → List Stretch
 stretches from end None = []
 stretches from end (Some es) = map (stretch from end) es
 
@@ -104,7 +104,7 @@ pub record AreOfDiagram (st : StoreState) (f d : ℕ) (ss : List Stretch) : Type
   pub comes : (x : List ℕ) (o : Out) → IsStorePacket st x → Contains (look st d x) o → HasAny st f ss x o
 
 -- the first n of them and the entries made of them have the same packets for each out
-pub record AreUnited (old : StoreState) (f : ℕ) (ss : List Stretch) (n : ℕ) (new : StoreState) (made : List Given) : Type 0 where
+pub record AreUnited (old : StoreState) (f : ℕ) (ss : List Stretch) (n : ℕ) (new : StoreState) (made : List OutPackets) : Type 0 where
   pub given : AreGiven new made
   pub later : AreLater new f made
   pub from : (x : List ℕ) (o : Out) → IsStorePacket old x → GivesAny new made x o → HasAt old ss 0 n (slice_index x f) x o

@@ -3,7 +3,7 @@ ghost use Rattle.std.specs.Prelude.{◌≡◌, ◌<◌, ◌≤◌, IfOk, OnOk, t
 ghost use Rattle.nk_store.specs.StoreState.{Grows};
 ghost use Rattle.nk_outs.specs.Outs.{IsByOut, AreStretches, AreOfDiagram, AreUnited, IsRunOf, HaveRun, IsNone, piece, with_stretch};
 
-use crate::outs::Given;
+use crate::outs::OutPackets;
 use nk_apply::empty;
 use nk_field::{Fid, List};
 use nk_store::{Id, Out, Store};
@@ -35,7 +35,7 @@ pub(crate) fn grouped(
     f: Fid,
     d: Id,
     ss: List<Stretch>,
-) -> Result<List<Given>, AllocError>
+) -> Result<List<OutPackets>, AllocError>
     requires field { f < 18 }
     requires stretches { AreOfDiagram st.old f d ss }
     ensures grows { Grows st.old st.new }
@@ -55,7 +55,7 @@ fn in_order(ss: List<Stretch>) -> List<Stretch>
 }
 
 /// Those of one out that stand next to each other, and rise, put together.
-fn united(st: &mut Store, f: Fid, ss: &[Stretch]) -> Result<List<Given>, AllocError>
+fn united(st: &mut Store, f: Fid, ss: &[Stretch]) -> Result<List<OutPackets>, AllocError>
     requires field { f < 18 }
     requires stretches { AreStretches st.old f ss.now }
     ensures grows { Grows st.old st.new }
@@ -67,7 +67,7 @@ fn united(st: &mut Store, f: Fid, ss: &[Stretch]) -> Result<List<Given>, AllocEr
     while from < ss.len() {
         let out = out_at(ss, from)?;
         let (to, packets) = run_packets(st, f, none, ss, from)?;
-        made.push(Given { out, packets })?;
+        made.push(OutPackets { out, packets })?;
         from = to;
     }
     Ok(made)

@@ -4,4 +4,4 @@
 mod groups;
 mod outs;
 
-pub use outs::{Given, by_out};
+pub use outs::{OutPackets, packets_by_out};

@@ -13,14 +13,14 @@ use std::alloc::{AllocError, Global};
 use std::collections::HashMap;
 
 /// An out with packets that have it.
-pub struct Given {
+pub struct OutPackets {
     /// The out.
     pub out: Out,
     /// The packets.
     pub packets: Id,
 }
 
-impl Drop for Given {
+impl Drop for OutPackets {
     fn drop(self) {
         let Self { out: _, packets: _ } = self;
     }
@@ -28,7 +28,7 @@ impl Drop for Given {
 
 /// Which packets of a diagram have which out. Each node is visited once, its children before it. The only error is that
 /// memory ran out.
-pub fn by_out(st: &mut Store, d: Id) -> Result<List<Given>, AllocError>
+pub fn packets_by_out(st: &mut Store, d: Id) -> Result<List<OutPackets>, AllocError>
     requires { IsId st.old d }
     ensures grows { Grows st.old st.new }
     ensures ok { IfOk result (λ es. IsByOut st.new d es) }
@@ -39,7 +39,7 @@ pub fn by_out(st: &mut Store, d: Id) -> Result<List<Given>, AllocError>
 
 /// Puts which packets have which out into the table, where that isn't known yet.
 #[cycle(outs)]
-fn visit(st: &mut Store, seen: &mut HashMap<Id, List<Given>>, d: Id) -> Result<(), AllocError>
+fn visit(st: &mut Store, seen: &mut HashMap<Id, List<OutPackets>>, d: Id) -> Result<(), AllocError>
     requires id { IsId st.old d }
     requires seen { AreByOut st.old seen.old.entries }
     ensures grows { Grows st.old st.new }
@@ -55,7 +55,7 @@ fn visit(st: &mut Store, seen: &mut HashMap<Id, List<Given>>, d: Id) -> Result<(
 }
 
 /// Whether the table has a diagram.
-fn is_known(seen: &HashMap<Id, List<Given>>, d: Id) -> bool
+fn is_known(seen: &HashMap<Id, List<OutPackets>>, d: Id) -> bool
     ensures { result ≡ true → IsSome (lookup (eqb d) seen.now.entries) }
 {
     seen.get(&d).is_some()
@@ -65,9 +65,9 @@ fn is_known(seen: &HashMap<Id, List<Given>>, d: Id) -> bool
 #[cycle(outs)]
 fn outs_new(
     st: &mut Store,
-    seen: &mut HashMap<Id, List<Given>>,
+    seen: &mut HashMap<Id, List<OutPackets>>,
     d: Id,
-) -> Result<List<Given>, AllocError>
+) -> Result<List<OutPackets>, AllocError>
     requires id { IsId st.old d }
     requires seen { AreByOut st.old seen.old.entries }
     ensures grows { Grows st.old st.new }
@@ -81,7 +81,7 @@ fn outs_new(
 }
 
 /// The outs of a leaf, each for all packets.
-fn outs_of_leaf(st: &mut Store, d: Id) -> Result<List<Given>, AllocError>
+fn outs_of_leaf(st: &mut Store, d: Id) -> Result<List<OutPackets>, AllocError>
     requires id { IsId st.old d }
     requires leaf { root_field st.old d ≡ 18 }
     ensures grows { Grows st.old st.new }
@@ -96,12 +96,12 @@ fn outs_of_leaf(st: &mut Store, d: Id) -> Result<List<Given>, AllocError>
 }
 
 /// Each of the outs for the same packets.
-fn each_for(alloc: Global, outs: &[Out], packets: Id) -> Result<List<Given>, AllocError>
+fn each_for(alloc: Global, outs: &[Out], packets: Id) -> Result<List<OutPackets>, AllocError>
     ensures { IfOk result (λ es. es ≡ map (given packets) outs.now) }
 {
     let mut all = List::with_capacity(alloc, outs.len())?;
     for o in outs {
-        all.push(Given {
+        all.push(OutPackets {
             out: o.copy()?,
             packets,
         })?;
@@ -113,10 +113,10 @@ fn each_for(alloc: Global, outs: &[Out], packets: Id) -> Result<List<Given>, All
 #[cycle(outs)]
 fn outs_of_case(
     st: &mut Store,
-    seen: &mut HashMap<Id, List<Given>>,
+    seen: &mut HashMap<Id, List<OutPackets>>,
     f: Fid,
     d: Id,
-) -> Result<List<Given>, AllocError>
+) -> Result<List<OutPackets>, AllocError>
     requires id { IsId st.old d }
     requires field { f < 18 }
     requires first { root_field st.old d ≡ f }
@@ -134,7 +134,7 @@ fn outs_of_case(
 #[cycle(outs)]
 fn outs_of_parts(
     st: &mut Store,
-    seen: &mut HashMap<Id, List<Given>>,
+    seen: &mut HashMap<Id, List<OutPackets>>,
     f: Fid,
     d: Id,
 ) -> Result<List<Stretch>, AllocError>
@@ -166,7 +166,7 @@ fn outs_of_parts(
 #[cycle(outs)]
 fn put_outs(
     st: &mut Store,
-    seen: &mut HashMap<Id, List<Given>>,
+    seen: &mut HashMap<Id, List<OutPackets>>,
     d: Id,
     from: u64,
     end: u64,
@@ -176,7 +176,7 @@ fn put_outs(
     requires seen { AreByOut st.old seen.old.entries }
     ensures grows { Grows st.old st.new }
     ensures ok { OnOk result
-        ((es : Items Given) × IsByOut st.new d es
+        ((es : Items OutPackets) × IsByOut st.new d es
         × (all.new ≡ all.old ++ map (stretch from end) es)) }
     ensures seen { OnOk result (AreByOut st.new seen.new.entries) }
 {
@@ -201,7 +201,7 @@ fn put_leaf(
     requires leaf { root_field st.old d ≡ 18 }
     ensures grows { Grows st.old st.new }
     ensures ok { OnOk result
-        ((es : Items Given) × IsByOut st.new d es
+        ((es : Items OutPackets) × IsByOut st.new d es
         × (all.new ≡ all.old ++ map (stretch from end) es)) }
 {
     let packets = identity(st)?;
@@ -235,7 +235,7 @@ fn put_each(
 
 /// Puts what the table has for a diagram after others, for the values of an interval.
 fn put_known(
-    seen: &HashMap<Id, List<Given>>,
+    seen: &HashMap<Id, List<OutPackets>>,
     d: Id,
     from: u64,
     end: u64,
@@ -251,7 +251,12 @@ fn put_known(
 }
 
 /// Puts entries after others, for the values of an interval.
-fn put_all(es: &[Given], from: u64, end: u64, all: &mut List<Stretch>) -> Result<(), AllocError>
+fn put_all(
+    es: &[OutPackets],
+    from: u64,
+    end: u64,
+    all: &mut List<Stretch>,
+) -> Result<(), AllocError>
     ensures { OnOk result (all.new ≡ all.old ++ map (stretch from end) es.now) }
 {
     for e in es {

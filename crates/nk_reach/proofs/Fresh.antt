@@ -12,8 +12,8 @@ use Rattle.nk_goal.proofs.Growing.{under_on, under_back, each_weaker, filled_on}
 use Rattle.nk_goal.proofs.Adding.{under_append, under_left, under_right, named_append, named_left, named_right, each_append, once_push}
 
 -- an entry with packets left
-pub fresh_push : (a st new : StoreState) (met done level : List (ℕ × ℕ)) (p : ℕ × ℕ) (r : ℕ) → HaveSets a met → IsFresh a met done st level → Grows a st → IsSet a p.1 → Grows st new → IsRest st met p.0 p.1 new r → IsFilled new r → (Named done p.0 → ⊥) → IsFresh a met (done ++ p ∷ []) new (level ++ (p.0, r) ∷ [])
-fresh_push a st new met done level p r e m g k h rest fill apart = record {
+pub fresh_push : (a st new : StoreState) (visited done level : List (ℕ × ℕ)) (p : ℕ × ℕ) (r : ℕ) → HaveSets a visited → IsFresh a visited done st level → Grows a st → IsSet a p.1 → Grows st new → IsRest st visited p.0 p.1 new r → IsFilled new r → (Named done p.0 → ⊥) → IsFresh a visited (done ++ p ∷ []) new (level ++ (p.0, r) ∷ [])
+fresh_push a st new visited done level p r e m g k h rest fill apart = record {
   from = λ i x w u. elim (under_append new level ((p.0, r) ∷ []) i x u) [
     | inl was ↦ under_left a done (p ∷ []) i x (m.from i x w (under_back st new level i x h m.packets was))
     | inr now ↦ elim now [
@@ -21,10 +21,10 @@ fresh_push a st new met done level p r e m g k h rest fill apart = record {
       | inr z ↦ absurd z
     ]
   ];
-  unmet = λ i x w u v. elim (under_append new level ((p.0, r) ∷ []) i x u) [
-    | inl was ↦ m.unmet i x w (under_back st new level i x h m.packets was) v
+  unvisited = λ i x w u v. elim (under_append new level ((p.0, r) ∷ []) i x u) [
+    | inl was ↦ m.unvisited i x w (under_back st new level i x h m.packets was) v
     | inr now ↦ elim now [
-      | inl here ↦ rest.second x (packet_on a st x g w) here.1 (under_on a st met p.0 x g e (subst (λ j. Under a met j x) (sym here.0) v))
+      | inl here ↦ rest.second x (packet_on a st x g w) here.1 (under_on a st visited p.0 x g e (subst (λ j. Under a visited j x) (sym here.0) v))
       | inr z ↦ absurd z
     ]
   ];
@@ -34,7 +34,7 @@ fresh_push a st new met done level p r e m g k h rest fill apart = record {
       | inl here ↦ under_right new level ((p.0, r) ∷ []) i x (inl (
         here.0,
         rest.both x (packet_on a st x g w) (has_on a st p.1 x g k.id here.1)
-            (λ v. n (subst (λ j. Under a met j x) here.0 (under_back a st met p.0 x g e v))),
+            (λ v. n (subst (λ j. Under a visited j x) here.0 (under_back a st visited p.0 x g e v))),
       ))
       | inr z ↦ absurd z
     ]
@@ -49,15 +49,15 @@ fresh_push a st new met done level p r e m g k h rest fill apart = record {
 }
 
 -- an entry with no packets left
-pub fresh_skip : (a st new : StoreState) (met done level : List (ℕ × ℕ)) (p : ℕ × ℕ) (r : ℕ) → HaveSets a met → IsFresh a met done st level → Grows a st → IsSet a p.1 → Grows st new → IsRest st met p.0 p.1 new r → ((pk : List ℕ) → IsWhole pk → is_in new r pk ≡ false) → IsFresh a met (done ++ p ∷ []) new level
-fresh_skip a st new met done level p r e m g k h rest none = record {
+pub fresh_skip : (a st new : StoreState) (visited done level : List (ℕ × ℕ)) (p : ℕ × ℕ) (r : ℕ) → HaveSets a visited → IsFresh a visited done st level → Grows a st → IsSet a p.1 → Grows st new → IsRest st visited p.0 p.1 new r → ((pk : List ℕ) → IsWhole pk → is_in new r pk ≡ false) → IsFresh a visited (done ++ p ∷ []) new level
+fresh_skip a st new visited done level p r e m g k h rest none = record {
   from = λ i x w u. under_left a done (p ∷ []) i x (m.from i x w (under_back st new level i x h m.packets u));
-  unmet = λ i x w u. m.unmet i x w (under_back st new level i x h m.packets u);
+  unvisited = λ i x w u. m.unvisited i x w (under_back st new level i x h m.packets u);
   every = λ i x w u n. elim (under_append a done (p ∷ []) i x u) [
     | inl was ↦ under_on st new level i x h m.packets (m.every i x w was n)
     | inr now ↦ elim now [
       | inl here ↦
-          let left : Has new r x = rest.both x (packet_on a st x g w) (has_on a st p.1 x g k.id here.1) (λ v. n (subst (λ j. Under a met j x) here.0 (under_back a st met p.0 x g e v))) in
+          let left : Has new r x = rest.both x (packet_on a st x g w) (has_on a st p.1 x g k.id here.1) (λ v. n (subst (λ j. Under a visited j x) here.0 (under_back a st visited p.0 x g e v))) in
           let both : false ≡ true = sym (none x w.0) ∙ left in absurd cc
       | inr z ↦ absurd z
     ]

@@ -23,8 +23,8 @@ first_node st ss [] l e f = absurd (omega (arith, l))
 first_node st ss (p ∷ ps) l e f = ((get_or ss p.0 [], f.0.0), f.0.1, (p.0, refl, inl (refl, f.0.2)))
 
 -- the new level follows from the ones before
-pub round_next : (old : StoreState) (oss : List (List ℕ)) (st mid new : StoreState) (ss nss : List (List ℕ)) (states : List ℕ) (set start : ℕ) (bad : List ℕ → List ℕ → List Out) (met : List (ℕ × ℕ)) (ls : List (List (ℕ × ℕ))) (level : List (ℕ × ℕ)) (h : ℕ) → AreStates old states → Going old oss st ss states set start bad met ls h → IsNextLevel st ss states met (get_or ls h []) mid nss level → Grows st mid → SetsGrow ss nss → Grows mid new → IsNext (IsStep old states) (IsGood old) (InLevel new nss ls) h (Within new nss level)
-round_next old oss st mid new ss nss states set start bad met ls level h states_ok go next g1 s1 g2 =
+pub round_next : (old : StoreState) (oss : List (List ℕ)) (st mid new : StoreState) (ss nss : List (List ℕ)) (states : List ℕ) (set start : ℕ) (bad : List ℕ → List ℕ → List Out) (visited : List (ℕ × ℕ)) (ls : List (List (ℕ × ℕ))) (level : List (ℕ × ℕ)) (h : ℕ) → AreStates old states → Going old oss st ss states set start bad visited ls h → IsNextLevel st ss states visited (get_or ls h []) mid nss level → Grows st mid → SetsGrow ss nss → Grows mid new → IsNext (IsStep old states) (IsGood old) (InLevel new nss ls) h (Within new nss level)
+round_next old oss st mid new ss nss states set start bad visited ls level h states_ok go next g1 s1 g2 =
     let r = length states in
     let last = get_or ls h [] in
     let g : Grows st new = grows_on st mid new g1 g2 in
@@ -35,26 +35,26 @@ round_next old oss st mid new ss nss states set start bad met ls level h states_
           let w = next.from n (packet_on old st n.1 go.grows p) (to_mid n v) in
           let m : Node = w.0 in
           let places : AreLabelsBelow r m.0 = within_places st ss r last m (go.pairs h h_in) w.2 in
-          (m, packet_back old st m.1 go.grows w.1, level_on old oss st new ss nss states set start bad met ls h h m go g s1 h_in w.2, step_back old st states m n go.grows states_ok places w.3);
+          (m, packet_back old st m.1 go.grows w.1, level_on old oss st new ss nss states set start bad visited ls h h m go g s1 h_in w.2, step_back old st states m n go.grows states_ok places w.3);
       fresh = λ n p v j l lev.
-          next.fresh n (packet_on old st n.1 go.grows p) (to_mid n v) (go.in_met j n p l (level_back old oss st new ss nss states set start bad met ls h j n go g s1 l lev));
+          next.fresh n (packet_on old st n.1 go.grows p) (to_mid n v) (go.in_met j n p l (level_back old oss st new ss nss states set start bad visited ls h j n go g s1 l lev));
       every = λ m n p lev step none.
-          let was : Within st ss last m = level_back old oss st new ss nss states set start bad met ls h h m go g s1 h_in lev in
+          let was : Within st ss last m = level_back old oss st new ss nss states set start bad visited ls h h m go g s1 h_in lev in
           let places : AreLabelsBelow r m.0 = within_places st ss r last m (go.pairs h h_in) was in
           let made = next.every m n (packet_on old st m.1 go.grows p) was (step_on old st states m n go.grows states_ok places step)
-          (λ w. let q = go.met_in n step.packet w in none q.0 q.1 (level_on old oss st new ss nss states set start bad met ls h q.0 n go g s1 q.1 q.2)) in
+          (λ w. let q = go.met_in n step.packet w in none q.0 q.1 (level_on old oss st new ss nss states set start bad visited ls h q.0 n go g s1 q.1 q.2)) in
           within_on mid new nss nss r level n g2 (sets_refl nss) next.pairs made;
     }
 
 -- a round keeps what holds between rounds
-pub going_next : (old : StoreState) (oss : List (List ℕ)) (st mid new : StoreState) (ss nss : List (List ℕ)) (states : List ℕ) (set start : ℕ) (bad : List ℕ → List ℕ → List Out) (met all : List (ℕ × ℕ)) (ls : List (List (ℕ × ℕ))) (level : List (ℕ × ℕ)) (h : ℕ) → AreStates old states → Going old oss st ss states set start bad met ls h → ((n : Node) → IsGood old n → InLevel st ss ls h n → IsViolation bad n → ⊥) → IsNextLevel st ss states met (get_or ls h []) mid nss level → Grows st mid → SetsGrow ss nss → IsMerged mid met level new all → Grows mid new → 0 < length level → Going old oss new nss states set start bad all (ls ++ level ∷ []) (h + 1)
-going_next old oss st mid new ss nss states set start bad met all ls level h states_ok go none next g1 s1 merged g2 some =
+pub going_next : (old : StoreState) (oss : List (List ℕ)) (st mid new : StoreState) (ss nss : List (List ℕ)) (states : List ℕ) (set start : ℕ) (bad : List ℕ → List ℕ → List Out) (visited all : List (ℕ × ℕ)) (ls : List (List (ℕ × ℕ))) (level : List (ℕ × ℕ)) (h : ℕ) → AreStates old states → Going old oss st ss states set start bad visited ls h → ((n : Node) → IsGood old n → InLevel st ss ls h n → IsViolation bad n → ⊥) → IsNextLevel st ss states visited (get_or ls h []) mid nss level → Grows st mid → SetsGrow ss nss → IsMerged mid visited level new all → Grows mid new → 0 < length level → Going old oss new nss states set start bad all (ls ++ level ∷ []) (h + 1)
+going_next old oss st mid new ss nss states set start bad visited all ls level h states_ok go none next g1 s1 merged g2 some =
     let r = length states in
     let g : Grows st new = grows_on st mid new g1 g2 in
     let s2 : SetsGrow nss nss = sets_refl nss in
-    let gm : Going old oss mid nss states set start bad met ls h = going_on old oss st mid ss nss states set start bad met ls h g1 s1 go in
-    let gn : Going old oss new nss states set start bad met ls h = going_on old oss mid new nss nss states set start bad met ls h g2 s2 gm in
-    let is_next = round_next old oss st mid new ss nss states set start bad met ls level h states_ok go next g1 s1 g2 in
+    let gm : Going old oss mid nss states set start bad visited ls h = going_on old oss st mid ss nss states set start bad visited ls h g1 s1 go in
+    let gn : Going old oss new nss states set start bad visited ls h = going_on old oss mid new nss nss states set start bad visited ls h g2 s2 gm in
+    let is_next = round_next old oss st mid new ss nss states set start bad visited ls level h states_ok go next g1 s1 g2 in
     let nls = ls ++ level ∷ [] in
     let is_old : (i : ℕ) → i < h + 1 → get_or nls i [] ≡ get_or ls i [] = λ i l. level_old ls level i (omega (arith, l, go.count)) in
     let is_new : (i : ℕ) → i ≡ h + 1 → get_or nls i [] ≡ level = λ i e. level_new ls level i (omega (arith, e, go.count)) in
@@ -87,12 +87,12 @@ going_next old oss st mid new ss nss states set start bad met all ls level h sta
         | inr other ↦ subst (λ (q : List (ℕ × ℕ)). IsLaterLevel new q) (sym (is_old i (omega (arith, l, other.1)))) (gn.shape i a (omega (arith, l, other.1)))
       ];
       goal = λ i n l p v b. elim (eqb_tells i h) [
-        | inl same ↦ none n p (level_back old oss st new ss nss states set start bad met ls h h n go g s1 (omega arith) (subst (λ j. InLevel new nss ls j n) same.1 (back i n l v))) b
+        | inl same ↦ none n p (level_back old oss st new ss nss states set start bad visited ls h h n go g s1 (omega arith) (subst (λ j. InLevel new nss ls j n) same.1 (back i n l v))) b
         | inr other ↦ gn.goal i n (omega (arith, l, other.1)) p (back i n l v) b
       ];
       met_pairs = record {
         each = pairs_of new nss r all (λ i q. elim (merged.named i q) [
-          | inl was ↦ named_known new nss r met i gn.met_pairs.each was
+          | inl was ↦ named_known new nss r visited i gn.met_pairs.each was
           | inr now ↦ named_known mid nss r level i next.pairs.each now
         ]) merged.packets;
         once = merged.once;
@@ -100,7 +100,7 @@ going_next old oss st mid new ss nss states set start bad met all ls level h sta
       met_in = λ n p w. elim (merged.either w.0 n.1 (packet_on old mid n.1 gm.grows p) w.2) [
         | inl was ↦
             let q = gm.met_in n p (w.0, w.1, was) in
-            (q.0, omega (arith, q.1), on q.0 n q.1 (level_on old oss mid new nss nss states set start bad met ls h q.0 n gm g2 s2 q.1 q.2))
+            (q.0, omega (arith, q.1), on q.0 n q.1 (level_on old oss mid new nss nss states set start bad visited ls h q.0 n gm g2 s2 q.1 q.2))
         | inr now ↦ (h + 1, omega arith, last_on (h + 1) n refl (within_on mid new nss nss r level n g2 s2 next.pairs (w.0, w.1, now)))
       ];
       in_met = λ j n p l v. elim (eqb_tells j (h + 1)) [
@@ -109,7 +109,7 @@ going_next old oss st mid new ss nss states set start bad met all ls level h sta
             (w.0, w.1, merged.more w.0 n.1 (packet_on old mid n.1 gm.grows p) w.2)
         | inr other ↦
             let b : j < h + 1 = omega (arith, l, other.1) in
-            let w : Within mid nss met n = gm.in_met j n p b (level_back old oss mid new nss nss states set start bad met ls h j n gm g2 s2 b (back j n b v)) in
+            let w : Within mid nss visited n = gm.in_met j n p b (level_back old oss mid new nss nss states set start bad visited ls h j n gm g2 s2 b (back j n b v)) in
             (w.0, w.1, merged.old w.0 n.1 (packet_on old mid n.1 gm.grows p) w.2)
       ];
       seen = n0 ∷ gn.seen;

@@ -6,7 +6,7 @@ use Rattle.nk_store.specs.StoreState.{StoreState, IsWhole, IsStorePacket, look, 
 use Rattle.nk_store.proofs.Stores.{grows_on}
 use Rattle.nk_sets.specs.PacketSets.{is_in, IsSet, IsImage}
 use Rattle.nk_sets.proofs.SetLemmas.{set_grows}
-use Rattle.nk_outs.specs.declared.outs.Given.{Given}
+use Rattle.nk_outs.specs.declared.outs.OutPackets.{OutPackets}
 use Rattle.nk_determ.specs.Pairs.{Node, Under, Once, Within, AreStates, AreLabelsBelow, IsStep}
 use Rattle.nk_outs.specs.Outs.{AreGiven, GivesAny, IsByOut, sent_to}
 use Rattle.nk_steps.specs.Local.{IsStateAt}
@@ -50,7 +50,7 @@ sent_add st mid new o p r t ps qs e g im fill is a = record {
 }
 
 -- one out more
-pub all_sent_push : (a st new : StoreState) (es : List Given) (n : ℕ) (q : Given) (ps qs rs : List (ℕ × ℕ)) → AreGiven a es → n < length es → q ≡ get_or es n q → IsAllSent a es n ps st qs → Grows a st → IsSent st q.out q.packets qs new rs → IsAllSent a es (n + 1) ps new rs
+pub all_sent_push : (a st new : StoreState) (es : List OutPackets) (n : ℕ) (q : OutPackets) (ps qs rs : List (ℕ × ℕ)) → AreGiven a es → n < length es → q ≡ get_or es n q → IsAllSent a es n ps st qs → Grows a st → IsSent st q.out q.packets qs new rs → IsAllSent a es (n + 1) ps new rs
 all_sent_push a st new es n q ps qs rs ok l is m g s =
     let k : IsSet a q.packets = given_at a es n q ok l is in
     let same : (i : ℕ) → i + 1 ≡ q.out.target → q.out ≡ sent_to q.out.act (i + 1) = λ i e. ap (λ t. sent_to q.out.act t) (sym e) in
@@ -86,7 +86,7 @@ all_sent_push a st new es n q ps qs rs ok l is m g s =
     }
 
 -- the outs of a set state at some packets, all of them sent, are what the set records next
-pub followed_of : (st mid s3 new : StoreState) (nss : List (List ℕ)) (states set : List ℕ) (x d : ℕ) (es : List Given) (ps qs : List (ℕ × ℕ)) → AreStates st states → AreLabelsBelow (length states) set → HaveSets st ps →
+pub followed_of : (st mid s3 new : StoreState) (nss : List (List ℕ)) (states set : List ℕ) (x d : ℕ) (es : List OutPackets) (ps qs : List (ℕ × ℕ)) → AreStates st states → AreLabelsBelow (length states) set → HaveSets st ps →
     Grows st mid → Grows mid s3 → IsStateAt st states set x mid nss d → IsByOut s3 d es → IsAllSent s3 es (length es) ps new qs → IsFollowed st states set x ps new nss qs
 followed_of st mid s3 new nss states set x d es ps qs states_ok places pp g1 g2 state by sent =
     record {

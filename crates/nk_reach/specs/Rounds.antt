@@ -9,13 +9,13 @@ use Rattle.nk_determ.specs.Pairs.{Node, Under, Named, Once, EachPair, Within, Ar
 use Rattle.nk_determ.specs.Levels.{IsFilled}
 use Rattle.nk_goal.specs.Entries.{HaveSets}
 use Rattle.nk_outs.specs.Outs.{GivesOut, sent_to}
-use Rattle.nk_outs.specs.declared.outs.Given.{Given}
+use Rattle.nk_outs.specs.declared.outs.OutPackets.{OutPackets}
 
 -- the level has exactly what the last level leads to and was not met
-pub record IsNextLevel (st : StoreState) (ss : List (List ℕ)) (states : List ℕ) (met last : List (ℕ × ℕ)) (new : StoreState) (nss : List (List ℕ)) (level : List (ℕ × ℕ)) : Type 0 where
+pub record IsNextLevel (st : StoreState) (ss : List (List ℕ)) (states : List ℕ) (visited last : List (ℕ × ℕ)) (new : StoreState) (nss : List (List ℕ)) (level : List (ℕ × ℕ)) : Type 0 where
   pub from : (n : Node) → IsStorePacket st n.1 → Within new nss level n → (m : Node) × IsStorePacket st m.1 × Within st ss last m × IsStep st states m n
-  pub fresh : (n : Node) → IsStorePacket st n.1 → Within new nss level n → Within st ss met n → ⊥
-  pub every : (m n : Node) → IsStorePacket st m.1 → Within st ss last m → IsStep st states m n → (Within st ss met n → ⊥) → Within new nss level n
+  pub fresh : (n : Node) → IsStorePacket st n.1 → Within new nss level n → Within st ss visited n → ⊥
+  pub every : (m n : Node) → IsStorePacket st m.1 → Within st ss last m → IsStep st states m n → (Within st ss visited n → ⊥) → Within new nss level n
   pub pairs : ArePairs new nss (length states) level
   pub filled : EachPair (λ p. IsFilled new p.1) level
 
@@ -27,10 +27,10 @@ pub record IsRaw (st : StoreState) (ss : List (List ℕ)) (states : List ℕ) (l
   pub differ : HasEachSetOnce nss
 
 -- the level has the entries of raw without what was met, where there are any
-pub record IsFresh (st : StoreState) (met raw : List (ℕ × ℕ)) (new : StoreState) (level : List (ℕ × ℕ)) : Type 0 where
+pub record IsFresh (st : StoreState) (visited raw : List (ℕ × ℕ)) (new : StoreState) (level : List (ℕ × ℕ)) : Type 0 where
   pub from : (i : ℕ) (x : List ℕ) → IsStorePacket st x → Under new level i x → Under st raw i x
-  pub unmet : (i : ℕ) (x : List ℕ) → IsStorePacket st x → Under new level i x → Under st met i x → ⊥
-  pub every : (i : ℕ) (x : List ℕ) → IsStorePacket st x → Under st raw i x → (Under st met i x → ⊥) → Under new level i x
+  pub unvisited : (i : ℕ) (x : List ℕ) → IsStorePacket st x → Under new level i x → Under st visited i x → ⊥
+  pub every : (i : ℕ) (x : List ℕ) → IsStorePacket st x → Under st raw i x → (Under st visited i x → ⊥) → Under new level i x
   pub named : (i : ℕ) → Named level i → Named raw i
   pub packets : HaveSets new level
   pub filled : EachPair (λ p. IsFilled new p.1) level
@@ -63,7 +63,7 @@ pub record IsSent (st : StoreState) (o : Out) (p : ℕ) (ps : List (ℕ × ℕ))
   pub once : Once qs
 
 -- beside what was there stands what the first n of these entries make
-pub record IsAllSent (st : StoreState) (es : List Given) (n : ℕ) (ps : List (ℕ × ℕ)) (new : StoreState) (qs : List (ℕ × ℕ)) : Type 0 where
+pub record IsAllSent (st : StoreState) (es : List OutPackets) (n : ℕ) (ps : List (ℕ × ℕ)) (new : StoreState) (qs : List (ℕ × ℕ)) : Type 0 where
   pub from : (i : ℕ) (y : List ℕ) → IsStorePacket st y → Under new qs i y → Under st ps i y ⊎ ((z : List ℕ) × (g : List (ℕ × ℕ)) × IsStorePacket st z × GivesOut st es 0 n z (sent_to g (i + 1)) × (applied g z ≡ y))
   pub old : (i : ℕ) (y : List ℕ) → IsStorePacket st y → Under st ps i y → Under new qs i y
   pub every : (i : ℕ) (z y : List ℕ) (g : List (ℕ × ℕ)) → IsStorePacket st z → IsStorePacket st y → GivesOut st es 0 n z (sent_to g (i + 1)) → applied g z ≡ y → Under new qs i y

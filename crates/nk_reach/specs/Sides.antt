@@ -1,7 +1,7 @@
 -- What one of two sides alone ends at. Each label has a diagram of marked ends: an out has target 1 where the left side
 -- ends and 2 where the right side does, and its act assigns exactly the fields that it changes, so that equal packets come
 -- of equal acts.
-pub use Rattle.nk_determ.specs.Breaks.{MakesWithTarget}
+pub use Rattle.nk_determ.specs.Counterexamples.{MakesWithTarget}
 use Rattle.std.specs.Prelude.{◌≡◌, ℕ, ◌<◌, ◌⊎◌, ◌↔◌, Bool, true, false, nat_lt, eqb, cond, List, [], ◌∷◌, Some, length, slice_index, Contains}
 use Rattle.std.specs.List.{list_any}
 use Rattle.std.specs.Map.{lookup}

@@ -10,7 +10,7 @@ use crate::follow::follow_level;
 use indexmap::IndexMap;
 use nk_determ::{SetId, Sets};
 use nk_field::List;
-use nk_goal::unmet;
+use nk_goal::unvisited;
 use nk_sets::is_empty;
 use nk_store::{Id, Store};
 use std::alloc::{AllocError, Global};
@@ -21,41 +21,41 @@ pub fn next_level(
     st: &mut Store,
     ss: &mut Sets,
     states: &[Id],
-    met: &IndexMap<SetId, Id>,
+    visited: &IndexMap<SetId, Id>,
     last: &List<(SetId, Id)>,
 ) -> Result<List<(SetId, Id)>, AllocError>
     requires states { AreStates st.old states.now }
-    requires met { ArePairs st.old ss.old (length states.now) met.now.entries }
+    requires visited { ArePairs st.old ss.old (length states.now) visited.now.entries }
     requires last { ArePairs st.old ss.old (length states.now) last.now }
     ensures grows { Grows st.old st.new }
     ensures sets { SetsGrow ss.old ss.new }
     ensures ok { IfOk result
-        (λ level. IsNextLevel st.old ss.old states.now met.now.entries last.now st.new ss.new
+        (λ level. IsNextLevel st.old ss.old states.now visited.now.entries last.now st.new ss.new
         level) }
 {
     let found = follow_level(st, ss, states, last)?;
     let raw = listed(st.alloc(), found)?;
-    let level = fresh(st, met, &raw)?;
+    let level = fresh(st, visited, &raw)?;
     Ok(level)
 }
 
 /// The packets of a level that were not met, where there are any.
 fn fresh(
     st: &mut Store,
-    met: &IndexMap<SetId, Id>,
+    visited: &IndexMap<SetId, Id>,
     raw: &List<(SetId, Id)>,
 ) -> Result<List<(SetId, Id)>, AllocError>
-    requires met { HaveSets st.old met.now.entries }
-    requires once { Once met.now.entries }
+    requires visited { HaveSets st.old visited.now.entries }
+    requires once { Once visited.now.entries }
     requires raw { HaveSets st.old raw.now }
     requires apart { Once raw.now }
     ensures grows { Grows st.old st.new }
-    ensures ok { IfOk result (λ level. IsFresh st.old met.now.entries raw.now st.new level) }
+    ensures ok { IfOk result (λ level. IsFresh st.old visited.now.entries raw.now st.new level) }
 {
     let mut level = List::new(st.alloc());
     for k in 0..raw.len() {
         let (t, y) = *raw.at(k);
-        let rest = unmet(st, met, t, y)?;
+        let rest = unvisited(st, visited, t, y)?;
         if !is_empty(st, rest) {
             level.push((t, rest))?;
         }

@@ -42,13 +42,13 @@ pub fn levels<G: Goal>(
         ((st : StoreState) (set pk : Items ℕ)
         → G.violations_of g.new st set pk ≡ G.violations_of g.old st set pk) }
 {
-    let mut met = IndexMap::new(st.alloc());
+    let mut visited = IndexMap::new(st.alloc());
     let mut all = List::new(st.alloc());
-    let broken = put_levels(st, ss, states, s, start, &mut met, &mut all, g)?;
+    let broken = put_levels(st, ss, states, s, start, &mut visited, &mut all, g)?;
     Ok(Levels::new(all, broken))
 }
 
-/// Puts the levels into `all`, and what they meet into `met`, both without an entry before. Whether the last level has a
+/// Puts the levels into `all`, and what they meet into `visited`, both without an entry before. Whether the last level has a
 /// violation.
 fn put_levels<G: Goal>(
     st: &mut Store,
@@ -56,7 +56,7 @@ fn put_levels<G: Goal>(
     states: &[Id],
     s: SetId,
     start: Id,
-    met: &mut IndexMap<SetId, Id>,
+    visited: &mut IndexMap<SetId, Id>,
     all: &mut List<List<(SetId, Id)>>,
     g: &mut G,
 ) -> Result<bool, AllocError>
@@ -66,7 +66,7 @@ fn put_levels<G: Goal>(
     requires set { s < length ss.old }
     requires places { AreLabelsBelow (length states.now) (slice_index_or ss.old s []) }
     requires packets { IsSet st.old start }
-    requires none_met { met.old.entries ≡ [] }
+    requires none_met { visited.old.entries ≡ [] }
     requires no_level { all.old ≡ [] }
     ensures grows { Grows st.old st.new }
     ensures sets { SetsGrow ss.old ss.new }
@@ -79,18 +79,18 @@ fn put_levels<G: Goal>(
         ((st : StoreState) (set pk : Items ℕ)
         → G.violations_of g.new st set pk ≡ G.violations_of g.old st set pk) }
 {
-    met.insert(s, start)?;
+    visited.insert(s, start)?;
     all.push(first_level(st.alloc(), s, start)?)?;
     loop {
         let last = all.len() - 1;
         if any_violation(st, ss, all.at(last), g)? {
             return Ok(true);
         }
-        let level = next_level(st, ss, states, met, all.at(last))?;
+        let level = next_level(st, ss, states, visited, all.at(last))?;
         if level.len() == 0 {
             return Ok(false);
         }
-        add_level(st, met, &level)?;
+        add_level(st, visited, &level)?;
         all.push(level)?;
     }
 }

@@ -13,8 +13,8 @@ use Rattle.nk_store.specs.StoreState.{StoreState, IsStorePacket, AreTidy}
 use Rattle.nk_determ.specs.States.{StateLeads}
 use Rattle.nk_determ.specs.Automaton.{IsAutomaton}
 use Rattle.nk_determ.specs.Pairs.{AreLabelsBelow}
-use Rattle.nk_determ.specs.Breaks.{MakesWithTarget}
-use Rattle.nk_determ.specs.Breaks.{Breaks}
+use Rattle.nk_determ.specs.Counterexamples.{MakesWithTarget}
+use Rattle.nk_determ.specs.Counterexamples.{IsCounterexample}
 use Rattle.nk_runs.specs.Labels.{IsAmong}
 use Rattle.nk_runs.proofs.Ends.{EndsAt}
 use Rattle.nk_runs.proofs.Walking.{walk_in_range, walks_met, walk_places, ends_given, given_walked}
@@ -50,7 +50,7 @@ module _ (st : StoreState) (states : List ℕ) (Wrong : Packet → Type 0) (bad 
 
   module _ (start : ℕ) (p : Policy) (a : IsAutomaton st states 1 p) (d : HasDistinct p) (tidy : AreTidy st) where
     -- what breaks the goal ends wrongly, and the other way round
-    pub breaks_given : (f : Found) → Breaks st states (0 ∷ []) start bad f
+    pub breaks_given : (f : Found) → IsCounterexample st states (0 ∷ []) start bad f
         ↔ (IsAmong st start f.start × Gives p f.start f.records f.last × Wrong f.last)
     breaks_given f = (
       λ b.

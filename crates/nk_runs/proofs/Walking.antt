@@ -17,7 +17,7 @@ use Rattle.nk_store.specs.StoreState.{StoreState, IsStorePacket, AreTidy}
 use Rattle.nk_determ.specs.States.{StateLeads}
 use Rattle.nk_determ.specs.Automaton.{IsState, IsAutomaton}
 use Rattle.nk_determ.specs.Pairs.{Node, AreLabelsBelow, IsStep}
-use Rattle.nk_determ.specs.Breaks.{Walks}
+use Rattle.nk_determ.specs.Counterexamples.{Walks}
 use Rattle.nk_runs.specs.Walked.{IsMetAfter}
 use Rattle.nk_runs.proofs.Numbers.{dup_within, at_dup}
 use Rattle.nk_runs.proofs.Steps.{Known, some_member, no_member, begins, follows, known, state_of_dup}

@@ -7,7 +7,7 @@ use Rattle.nk_store.specs.declared.node.Out.{Out}
 use Rattle.nk_store.specs.StoreState.{StoreState, IsStorePacket}
 use Rattle.nk_determ.specs.States.{StateLeads}
 use Rattle.nk_determ.specs.Pairs.{AreLabelsBelow}
-use Rattle.nk_determ.specs.Breaks.{MakesWithTarget}
+use Rattle.nk_determ.specs.Counterexamples.{MakesWithTarget}
 
 -- of sets of places among the states: the violations make, with target 0, exactly the packets at which members' states end and
 -- that the test finds wrong

@@ -21,7 +21,7 @@ ghost use Rattle.nk_determ.specs.Pairs.{Node, AreStates, AreLabelsBelow, IsStep}
 ghost use Rattle.nk_determ.specs.Levels.{At, AreLevels};
 ghost use Rattle.nk_determ.specs.InOrder.{IsAtOdd, AreNumbers};
 ghost use Rattle.nk_runs.specs.Labels.{IsAmong, IsLabelled, members};
-ghost use Rattle.nk_determ.specs.Breaks.{Walks, Breaks};
+ghost use Rattle.nk_determ.specs.Counterexamples.{Walks, IsCounterexample};
 ghost use Rattle.nk_runs.specs.Walked.{IsMetAfter};
 ghost use Rattle.nk_runs.specs.Wrong.{AreWrongEnds, HasWrongEnd};
 
@@ -124,6 +124,6 @@ pub fn wrong_ends_break()
     ensures { (st : StoreState) (states : List ℕ) (start : ℕ) (bad : List ℕ → List ℕ → List Out)
         (p : Policy) (wrong : Packet → Bool)
         → IsAutomaton st states 1 p → HasDistinct p → AreTidy st → AreWrongEnds st states wrong bad
-        → (f : Found) → Breaks st states (0 ∷ []) start bad f
+        → (f : Found) → IsCounterexample st states (0 ∷ []) start bad f
         ↔ (IsAmong st start f.start × Gives p f.start f.records f.last × (wrong f.last ≡ true)) }
 {}

@@ -13,16 +13,16 @@ use Rattle.nk_table.specs.declared.Table.{Table}
 use Rattle.nk_extract.specs.Buckets.{AreBuckets}
 use Rattle.nk_extract.specs.RowsOf.{IsPrintable}
 use Rattle.nk_group.specs.Groups.{groups_of, rows_after}
-use Rattle.nk_switches.specs.declared.stop.ActingTag.{ActingTag}
-use Rattle.nk_switches.specs.declared.stop.ClassHere.{ClassHere}
-use Rattle.nk_switches.specs.declared.stop.ClassStop.{ClassStop}
-use Rattle.nk_switches.specs.declared.stop.TagState.{TagState}
-use Rattle.nk_switches.specs.declared.stop.SwitchStates.{SwitchStates}
+use Rattle.nk_switches.specs.declared.switch_tags.ActingTag.{ActingTag}
+use Rattle.nk_switches.specs.declared.switch_tags.ClassHere.{ClassHere}
+use Rattle.nk_switches.specs.declared.switch_tags.SwitchClasses.{SwitchClasses}
+use Rattle.nk_switches.specs.declared.switch_tags.TagState.{TagState}
+use Rattle.nk_switches.specs.declared.switch_tags.SwitchStates.{SwitchStates}
 use Rattle.nk_switches.specs.Matched.{Matched}
 use Rattle.nk_switches.specs.States.{IsStateAtSwitch}
 use Rattle.nk_switches.specs.Tagged.{members_of, LeadsWith, SendsBy, IsTagTable}
 use Rattle.nk_switches.specs.Made.{TagTree, rows_of_trees, IsTagAt, HasLabelsBelow, IsPrintableState, ArePrintableStates, IsTreeBy, IsTableBy}
-use Rattle.nk_switches.specs.Classed.{class_of, acting_tag, LeadsTo, numbered_target, IsTagWithin, IsActingAt, IsClassAt, IsClassStop, IsClassTreeAt, IsClassTableAt, HaveActing, HaveClasses, IsActingState, IsClassState, AreClassStates}
+use Rattle.nk_switches.specs.Classed.{class_of, acting_tag, LeadsTo, numbered_target, IsTagWithin, IsActingAt, IsClassAt, AreSwitchClasses, IsClassTreeAt, IsClassTableAt, HaveActing, HaveClasses, IsActingState, IsClassState, AreClassStates}
 use Rattle.nk_switches.proofs.Fronting.{acting_id}
 use Rattle.nk_switches.proofs.Growing.{declared_same, leads_grown, stay_grown, members_kept, sets_longer}
 use Rattle.nk_switches.proofs.Matching.{of_second, matched_with, matched_through}
@@ -51,8 +51,8 @@ class_places st ss states tags tag sw h k = record {
 }
 
 -- so have a switch's
-pub stop_classes : (st : StoreState) (ss : List (List ℕ)) (states tags : List ℕ) (tag : ℕ) (s : ClassStop) → IsClassStop st ss states tags tag s → HaveClasses st ss (length states) tags s
-stop_classes st ss states tags tag s k i d lt = class_places st ss states tags tag s.switch (get_or s.classes i d) (k i d lt)
+pub switch_classes : (st : StoreState) (ss : List (List ℕ)) (states tags : List ℕ) (tag : ℕ) (s : SwitchClasses) → AreSwitchClasses st ss states tags tag s → HaveClasses st ss (length states) tags s
+switch_classes st ss states tags tag s k i d lt = class_places st ss states tags tag s.switch (get_or s.classes i d) (k i d lt)
 
 -- the number of a target by its tag
 index_numbered : (classes : List ℕ) (table : List (Option ℕ)) (u : ℕ) → get_or (map (numbered_target classes) table) u None ≡ numbered_target classes (get_or table u None)
@@ -120,24 +120,24 @@ module _ (first st : StoreState) (old ss : List (List ℕ)) (states tags classes
       whole : (pk : List ℕ) (n : ℕ) → IsStorePacket st pk → length (slice_set pk tag n) ≡ 18
       whole pk n p = length-set pk tag n ∙ p.0
 
-  -- a stop's diagrams can be printed
-  pub class_stop_printable : 2 ≤ tag → AreTidy st → (s : ClassStop) (all : SwitchStates) → IsClassStop first old states tags tag s → AreClassStates st ss states tags tag s all → ArePrintableStates st tag all
-  class_stop_printable past tidy s all stop k =
+  -- a switch's diagrams can be printed
+  pub class_switch_printable : 2 ≤ tag → AreTidy st → (s : SwitchClasses) (all : SwitchStates) → AreSwitchClasses first old states tags tag s → AreClassStates st ss states tags tag s all → ArePrintableStates st tag all
+  class_switch_printable past tidy s all switch_entry k =
       all_from_members (IsPrintableState st tag all.switch) all.tag_states (λ e i.
       let h = of_second (IsClassState st ss states tags tag s.switch) s.classes all.tag_states e k.each i in
-      let at = members_from_all (IsClassAt first old states tags tag s.switch) s.classes stop h.0 h.1 in
+      let at = members_from_all (IsClassAt first old states tags tag s.switch) s.classes switch_entry h.0 h.1 in
       subst (λ n. IsPrintableState st tag n e) (sym k.switch) (record {
         id = acting_id st ss states tags tag s.switch h.0.acting h.0.other e.diagram h.2.state;
         printable = acting_printable past tidy s.switch h.0.acting h.0.other e.diagram at.acting at.other h.2.state;
       }))
 
   -- all diagrams can be printed
-  pub all_class_printable : 2 ≤ tag → AreTidy st → (stops : List ClassStop) (all : List SwitchStates) → All (IsClassStop first old states tags tag) stops →
-      Matched (AreClassStates st ss states tags tag) stops all → All (ArePrintableStates st tag) all
-  all_class_printable past tidy stops all each m =
+  pub all_class_printable : 2 ≤ tag → AreTidy st → (by_switch : List SwitchClasses) (all : List SwitchStates) → All (AreSwitchClasses first old states tags tag) by_switch →
+      Matched (AreClassStates st ss states tags tag) by_switch all → All (ArePrintableStates st tag) all
+  all_class_printable past tidy by_switch all each m =
       all_from_members (ArePrintableStates st tag) all (λ x i.
-      let s = of_second (AreClassStates st ss states tags tag) stops all x m i in
-      class_stop_printable past tidy s.0 x (members_from_all (IsClassStop first old states tags tag) stops each s.0 s.1) s.2)
+      let s = of_second (AreClassStates st ss states tags tag) by_switch all x m i in
+      class_switch_printable past tidy s.0 x (members_from_all (AreSwitchClasses first old states tags tag) by_switch each s.0 s.1) s.2)
 
   -- where states lead with a tag in the later store
   leads_back : (members : List ℕ) → All (λ l. l < length states) members → (pk y : List ℕ) (t : ℕ) → LeadsWith st old states tags members pk y t ↔ LeadsWith first old states tags members pk y t
@@ -214,16 +214,16 @@ module _ (first st : StoreState) (old ss : List (List ℕ)) (states tags classes
     }
 
     -- the table of a switch
-    class_table : (s : ClassStop) (all : SwitchStates) (t : Table) → IsClassStop first old states tags tag s → AreClassStates st ss states tags tag s all → IsTableBy st table tag all t →
+    class_table : (s : SwitchClasses) (all : SwitchStates) (t : Table) → AreSwitchClasses first old states tags tag s → AreClassStates st ss states tags tag s all → IsTableBy st table tag all t →
         IsClassTableAt first old states tags classes tag s t
-    class_table s all t stop k by = record {
+    class_table s all t switch_entry k by = record {
       switch = by.switch ∙ k.switch;
       trees = by.trees;
       each =
           matched_through Both (IsTreeBy st table tag all.switch) (IsClassTreeAt first old states tags classes tag s.switch)
           (λ h x e b m. class_tree s.switch h x e b.0 b.1 (subst (λ n. IsTreeBy st table tag n x e) k.switch m)) s.classes all.tag_states by.trees
           (matched_with (IsClassAt first old states tags tag s.switch) (IsClassState st ss states tags tag s.switch) Both (λ h x a c. (a, c)) s.classes all.tag_states
-          (λ h i. members_from_all (IsClassAt first old states tags tag s.switch) s.classes stop h i) k.each)
+          (λ h i. members_from_all (IsClassAt first old states tags tag s.switch) s.classes switch_entry h i) k.each)
           by.each;
       groups = by.groups ∙ ap (λ m. groups_of (rows_of_trees m tag by.trees)) (declared_same first st g);
       rows = by.rows ∙ ap (λ m. rows_after [] (rows_of_trees m tag by.trees)) (declared_same first st g);
@@ -233,14 +233,14 @@ module _ (first st : StoreState) (old ss : List (List ℕ)) (states tags classes
         Both : ClassHere → TagState → Type 0
         Both h x = IsClassAt first old states tags tag s.switch h × IsClassState st ss states tags tag s.switch h x
 
-    -- a stop with its diagrams
-    abbrev Of : ClassStop → SwitchStates → Type 0
-    Of s x = IsClassStop first old states tags tag s × AreClassStates st ss states tags tag s x
+    -- a switch with its diagrams
+    abbrev Of : SwitchClasses → SwitchStates → Type 0
+    Of s x = AreSwitchClasses first old states tags tag s × AreClassStates st ss states tags tag s x
 
     -- the tables of all switches
-    pub class_tables_are : (stops : List ClassStop) (all : List SwitchStates) (ts : List Table) → All (IsClassStop first old states tags tag) stops →
-        Matched (AreClassStates st ss states tags tag) stops all → Matched (IsTableBy st table tag) all ts → Matched (IsClassTableAt first old states tags classes tag) stops ts
-    class_tables_are stops all ts each m n =
-        matched_through Of (IsTableBy st table tag) (IsClassTableAt first old states tags classes tag) (λ s x t k b. class_table s x t k.0 k.1 b) stops all ts
-        (matched_with (IsClassStop first old states tags tag) (AreClassStates st ss states tags tag) Of (λ s x a k. (a, k)) stops all
-        (λ s i. members_from_all (IsClassStop first old states tags tag) stops each s i) m) n
+    pub class_tables_are : (by_switch : List SwitchClasses) (all : List SwitchStates) (ts : List Table) → All (AreSwitchClasses first old states tags tag) by_switch →
+        Matched (AreClassStates st ss states tags tag) by_switch all → Matched (IsTableBy st table tag) all ts → Matched (IsClassTableAt first old states tags classes tag) by_switch ts
+    class_tables_are by_switch all ts each m n =
+        matched_through Of (IsTableBy st table tag) (IsClassTableAt first old states tags classes tag) (λ s x t k b. class_table s x t k.0 k.1 b) by_switch all ts
+        (matched_with (AreSwitchClasses first old states tags tag) (AreClassStates st ss states tags tag) Of (λ s x a k. (a, k)) by_switch all
+        (λ s i. members_from_all (AreSwitchClasses first old states tags tag) by_switch each s i) m) n

@@ -11,41 +11,41 @@ use Rattle.nk_determ.specs.Sets.{SetsGrow, HasEachSetOnce, HasAscendingSets}
 use Rattle.nk_table.specs.declared.Table.{Table}
 use Rattle.nk_extract.specs.Buckets.{AreBuckets}
 use Rattle.nk_group.specs.Groups.{groups_of, rows_after}
-use Rattle.nk_switches.specs.declared.stop.Stop.{Stop}
-use Rattle.nk_switches.specs.declared.stop.TagState.{TagState}
-use Rattle.nk_switches.specs.declared.stop.SwitchStates.{SwitchStates}
+use Rattle.nk_switches.specs.declared.switch_tags.SwitchTags.{SwitchTags}
+use Rattle.nk_switches.specs.declared.switch_tags.TagState.{TagState}
+use Rattle.nk_switches.specs.declared.switch_tags.SwitchStates.{SwitchStates}
 use Rattle.nk_switches.specs.Matched.{Matched}
 use Rattle.nk_switches.specs.States.{IsStateAtSwitch}
 use Rattle.nk_switches.specs.Tagged.{members_of, LeadsWith, SendsBy, IsTagTable}
-use Rattle.nk_switches.specs.Made.{TagTree, rows_of_trees, IsTagAt, IsStop, IsTagTree, IsTableAt, IsTagState, AreStatesAt, IsPrintableState, ArePrintableStates, IsTreeBy, IsTableBy, TagsHaveLabelsBelow}
+use Rattle.nk_switches.specs.Made.{TagTree, rows_of_trees, IsTagAt, AreSwitchTags, IsTagTree, IsTableAt, IsTagState, AreStatesAt, IsPrintableState, ArePrintableStates, IsTreeBy, IsTableBy, TagsHaveLabelsBelow}
 use Rattle.nk_switches.proofs.Growing.{declared_same, leads_grown, stay_grown, members_kept, sets_longer}
 use Rattle.nk_switches.proofs.Matching.{of_second, matched_maps, matched_with, matched_through}
 use Rattle.nk_switches.proofs.Printing.{state_printable}
 use Rattle.nk_switches.proofs.Tagging.{sends_leads, leads_sends}
 use Rattle.nk_switches.proofs.Trees.{buckets_same}
 
--- the places of a stop's states
-pub stop_places : (st : StoreState) (ss : List (List ℕ)) (states tags : List ℕ) (tag : ℕ) (s : Stop) → IsStop st ss states tags tag s → TagsHaveLabelsBelow ss (length states) tags s
-stop_places st ss states tags tag s h k d lt = let a = h k d lt in record { within = a.within; places = a.places }
+-- the places of a switch's states
+pub switch_places : (st : StoreState) (ss : List (List ℕ)) (states tags : List ℕ) (tag : ℕ) (s : SwitchTags) → AreSwitchTags st ss states tags tag s → TagsHaveLabelsBelow ss (length states) tags s
+switch_places st ss states tags tag s h k d lt = let a = h k d lt in record { within = a.within; places = a.places }
 
 module _ (first st : StoreState) (old ss : List (List ℕ)) (states tags : List ℕ) (tag : ℕ) (g : Grows first st) (grew : SetsGrow old ss) (ids : AreIds first states)
     (known : All (λ s. s < length old) tags) (differ : HasEachSetOnce ss) (ascend : HasAscendingSets ss) where
-  -- what is known of a tag of a stop
-  of_tag : (s : Stop) (tag_states : SwitchStates) → IsStop first old states tags tag s → AreStatesAt st ss states tags s tag_states → (e : TagState) → In tag_states.tag_states e →
+  -- what is known of a tag of a switch
+  of_tag : (s : SwitchTags) (tag_states : SwitchStates) → AreSwitchTags first old states tags tag s → AreStatesAt st ss states tags s tag_states → (e : TagState) → In tag_states.tag_states e →
       IsTagAt first old states tags tag s.switch e.tag
-  of_tag s tag_states stop k e i =
-      members_from_all (IsTagAt first old states tags tag s.switch) s.tags stop e.tag
+  of_tag s tag_states switch_entry k e i =
+      members_from_all (IsTagAt first old states tags tag s.switch) s.tags switch_entry e.tag
       (subst (λ l. In l e.tag) k.tags_are (in_mapped (λ (x : TagState). x.tag) tag_states.tag_states e i))
 
   -- the set state of its states, by the sets of the beginning
   of_state : (sw : ℕ) (e : TagState) → IsTagState st ss states tags sw e → IsStateAtSwitch st ss states (members_of old tags e.tag) sw e.diagram
   of_state sw e k = subst (λ m. IsStateAtSwitch st ss states m sw e.diagram) (members_kept old ss tags e.tag grew known k.within) k.state
 
-  -- a stop's diagrams can be printed
-  pub stop_printable : 2 ≤ tag → AreTidy st → (s : Stop) (tag_states : SwitchStates) → IsStop first old states tags tag s → AreStatesAt st ss states tags s tag_states → ArePrintableStates st tag tag_states
-  stop_printable past tidy s tag_states stop k =
+  -- a switch's diagrams can be printed
+  pub switch_printable : 2 ≤ tag → AreTidy st → (s : SwitchTags) (tag_states : SwitchStates) → AreSwitchTags first old states tags tag s → AreStatesAt st ss states tags s tag_states → ArePrintableStates st tag tag_states
+  switch_printable past tidy s tag_states switch_entry k =
       all_from_members (IsPrintableState st tag tag_states.switch) tag_states.tag_states (λ e i.
-      let t = of_tag s tag_states stop k e i in
+      let t = of_tag s tag_states switch_entry k e i in
       let state = of_state s.switch e (members_from_all (IsTagState st ss states tags s.switch) tag_states.tag_states k.each e i) in
       subst (λ n. IsPrintableState st tag n e) (sym k.switch) (record {
         id = state.id;
@@ -84,36 +84,36 @@ module _ (first st : StoreState) (old ss : List (List ℕ)) (states tags : List 
     }
 
     -- the table of a switch
-    table_is : (s : Stop) (tag_states : SwitchStates) (t : Table) → IsStop first old states tags tag s → AreStatesAt st ss states tags s tag_states → IsTableBy st table tag tag_states t →
+    table_is : (s : SwitchTags) (tag_states : SwitchStates) (t : Table) → AreSwitchTags first old states tags tag s → AreStatesAt st ss states tags s tag_states → IsTableBy st table tag tag_states t →
         IsTableAt first old states tags tag s t
-    table_is s tag_states t stop k by = record {
+    table_is s tag_states t switch_entry k by = record {
       switch = by.switch ∙ k.switch;
       trees = by.trees;
       tags_are = matched_maps (IsTreeBy st table tag tag_states.switch) (λ (x : TagState). x.tag) (λ (e : TagTree). e.tag) (λ x e m. m.tag_is) tag_states.tag_states by.trees by.each ∙ k.tags_are;
       each = all_from_members (IsTagTree first old states tags tag s.switch) by.trees (λ e i.
           let x = of_second (IsTreeBy st table tag tag_states.switch) tag_states.tag_states by.trees e by.each i in
-          tree_is s.switch x.0 e (of_tag s tag_states stop k x.0 x.1) (members_from_all (IsTagState st ss states tags s.switch) tag_states.tag_states k.each x.0 x.1)
+          tree_is s.switch x.0 e (of_tag s tag_states switch_entry k x.0 x.1) (members_from_all (IsTagState st ss states tags s.switch) tag_states.tag_states k.each x.0 x.1)
           (subst (λ n. IsTreeBy st table tag n x.0 e) k.switch x.2));
       groups = by.groups ∙ ap (λ m. groups_of (rows_of_trees m tag by.trees)) (declared_same first st g);
       rows = by.rows ∙ ap (λ m. rows_after [] (rows_of_trees m tag by.trees)) (declared_same first st g);
     }
 
-    -- a stop with its diagrams
-    abbrev Both : Stop → SwitchStates → Type 0
-    Both s x = IsStop first old states tags tag s × AreStatesAt st ss states tags s x
+    -- a switch with its diagrams
+    abbrev Both : SwitchTags → SwitchStates → Type 0
+    Both s x = AreSwitchTags first old states tags tag s × AreStatesAt st ss states tags s x
 
     -- the tables of all switches
-    pub tables_are : (stops : List Stop) (all : List SwitchStates) (ts : List Table) → All (IsStop first old states tags tag) stops →
-        Matched (AreStatesAt st ss states tags) stops all → Matched (IsTableBy st table tag) all ts → Matched (IsTableAt first old states tags tag) stops ts
-    tables_are stops all ts each m n =
-        matched_through Both (IsTableBy st table tag) (IsTableAt first old states tags tag) (λ s x t k b. table_is s x t k.0 k.1 b) stops all ts
-        (matched_with (IsStop first old states tags tag) (AreStatesAt st ss states tags) Both (λ s x a k. (a, k)) stops all
-        (λ s i. members_from_all (IsStop first old states tags tag) stops each s i) m) n
+    pub tables_are : (by_switch : List SwitchTags) (all : List SwitchStates) (ts : List Table) → All (AreSwitchTags first old states tags tag) by_switch →
+        Matched (AreStatesAt st ss states tags) by_switch all → Matched (IsTableBy st table tag) all ts → Matched (IsTableAt first old states tags tag) by_switch ts
+    tables_are by_switch all ts each m n =
+        matched_through Both (IsTableBy st table tag) (IsTableAt first old states tags tag) (λ s x t k b. table_is s x t k.0 k.1 b) by_switch all ts
+        (matched_with (AreSwitchTags first old states tags tag) (AreStatesAt st ss states tags) Both (λ s x a k. (a, k)) by_switch all
+        (λ s i. members_from_all (AreSwitchTags first old states tags tag) by_switch each s i) m) n
 
   -- all diagrams can be printed
-  pub all_printable : 2 ≤ tag → AreTidy st → (stops : List Stop) (all : List SwitchStates) → All (IsStop first old states tags tag) stops →
-      Matched (AreStatesAt st ss states tags) stops all → All (ArePrintableStates st tag) all
-  all_printable past tidy stops all each m =
+  pub all_printable : 2 ≤ tag → AreTidy st → (by_switch : List SwitchTags) (all : List SwitchStates) → All (AreSwitchTags first old states tags tag) by_switch →
+      Matched (AreStatesAt st ss states tags) by_switch all → All (ArePrintableStates st tag) all
+  all_printable past tidy by_switch all each m =
       all_from_members (ArePrintableStates st tag) all (λ x i.
-      let s = of_second (AreStatesAt st ss states tags) stops all x m i in
-      stop_printable past tidy s.0 x (members_from_all (IsStop first old states tags tag) stops each s.0 s.1) s.2)
+      let s = of_second (AreStatesAt st ss states tags) by_switch all x m i in
+      switch_printable past tidy s.0 x (members_from_all (AreSwitchTags first old states tags tag) by_switch each s.0 s.1) s.2)

@@ -11,11 +11,11 @@ use Rattle.nk_apply.specs.PacketSets.{has_some_out, is_in}
 use Rattle.nk_apply.specs.Unions.{AreIds}
 use Rattle.nk_apply.proofs.Weaves.{merged-nil}
 use Rattle.nk_determ.specs.Sets.{SetsGrow}
-use Rattle.nk_switches.specs.declared.stop.ActingTag.{ActingTag}
-use Rattle.nk_switches.specs.declared.stop.ClassHere.{ClassHere}
-use Rattle.nk_switches.specs.declared.stop.ClassStop.{ClassStop}
-use Rattle.nk_switches.specs.declared.stop.SwitchStates.{SwitchStates}
-use Rattle.nk_switches.specs.declared.stop.TagState.{TagState}
+use Rattle.nk_switches.specs.declared.switch_tags.ActingTag.{ActingTag}
+use Rattle.nk_switches.specs.declared.switch_tags.ClassHere.{ClassHere}
+use Rattle.nk_switches.specs.declared.switch_tags.SwitchClasses.{SwitchClasses}
+use Rattle.nk_switches.specs.declared.switch_tags.SwitchStates.{SwitchStates}
+use Rattle.nk_switches.specs.declared.switch_tags.TagState.{TagState}
 use Rattle.nk_switches.specs.Matched.{Matched}
 use Rattle.nk_switches.specs.States.{IsStateAtSwitch}
 use Rattle.nk_switches.specs.Tagged.{members_of}
@@ -57,7 +57,7 @@ have_acting st new ss more tags count h g s known k = record {
 }
 
 -- of a switch
-pub have_classes : (st new : StoreState) (ss more : List (List ℕ)) (tags : List ℕ) (count : ℕ) (s : ClassStop) → Grows st new → SetsGrow ss more → All (λ s. s < length ss) tags →
+pub have_classes : (st new : StoreState) (ss more : List (List ℕ)) (tags : List ℕ) (count : ℕ) (s : SwitchClasses) → Grows st new → SetsGrow ss more → All (λ s. s < length ss) tags →
     HaveClasses st ss count tags s → HaveClasses new more count tags s
 have_classes st new ss more tags count s g grew known k i d lt = have_acting st new ss more tags count (get_or s.classes i d) g grew known (k i d lt)
 
@@ -130,18 +130,18 @@ classes_more st new ss more states tags tag sw classes i h d all longer g s ids 
     (record { number_is = refl; state = one })))
 
 -- one more switch
-pub class_stops_more : (st new : StoreState) (ss more : List (List ℕ)) (states tags : List ℕ) (tag : ℕ) (stops : List ClassStop) (i : ℕ) (s : ClassStop) (one : SwitchStates) (all longer : List SwitchStates) →
-    Grows st new → SetsGrow ss more → AreIds st states → All (λ n. n < length ss) tags → i < length stops → s ≡ get_or stops i s → longer ≡ all ++ one ∷ [] →
-    AreClassStates new more states tags tag s one → Matched (AreClassStates st ss states tags tag) (take i stops) all →
-    Matched (AreClassStates new more states tags tag) (take (i + 1) stops) longer
-class_stops_more st new ss more states tags tag stops i s one all longer g grew ids known lt at is k m =
-    subst (λ l. Matched (AreClassStates new more states tags tag) l longer) (ap (λ x. take i stops ++ x ∷ []) at ∙ sym (take_more stops i s lt))
-    (subst (Matched (AreClassStates new more states tags tag) (take i stops ++ s ∷ [])) (sym is)
-    (matched_push (AreClassStates new more states tags tag) (take i stops) all s one
-    (matched_weaker (AreClassStates st ss states tags tag) (AreClassStates new more states tags tag) later (take i stops) all m)
+pub class_switches_more : (st new : StoreState) (ss more : List (List ℕ)) (states tags : List ℕ) (tag : ℕ) (by_switch : List SwitchClasses) (i : ℕ) (s : SwitchClasses) (one : SwitchStates) (all longer : List SwitchStates) →
+    Grows st new → SetsGrow ss more → AreIds st states → All (λ n. n < length ss) tags → i < length by_switch → s ≡ get_or by_switch i s → longer ≡ all ++ one ∷ [] →
+    AreClassStates new more states tags tag s one → Matched (AreClassStates st ss states tags tag) (take i by_switch) all →
+    Matched (AreClassStates new more states tags tag) (take (i + 1) by_switch) longer
+class_switches_more st new ss more states tags tag by_switch i s one all longer g grew ids known lt at is k m =
+    subst (λ l. Matched (AreClassStates new more states tags tag) l longer) (ap (λ x. take i by_switch ++ x ∷ []) at ∙ sym (take_more by_switch i s lt))
+    (subst (Matched (AreClassStates new more states tags tag) (take i by_switch ++ s ∷ [])) (sym is)
+    (matched_push (AreClassStates new more states tags tag) (take i by_switch) all s one
+    (matched_weaker (AreClassStates st ss states tags tag) (AreClassStates new more states tags tag) later (take i by_switch) all m)
     k))
   where
-    later : (x : ClassStop) (y : SwitchStates) → AreClassStates st ss states tags tag x y → AreClassStates new more states tags tag x y
+    later : (x : SwitchClasses) (y : SwitchStates) → AreClassStates st ss states tags tag x y → AreClassStates new more states tags tag x y
     later x y q = record {
       switch = q.switch;
       each = matched_weaker (IsClassState st ss states tags tag x.switch) (IsClassState new more states tags tag x.switch) (λ h e c. class_grown st new ss more states tags tag x.switch g grew ids known h e c) x.classes y.tag_states q.each;

@@ -10,7 +10,7 @@ use Rattle.nk_apply.specs.Unions.{AreIds}
 use Rattle.nk_determ.specs.Exact.{IsExact, Sends}
 use Rattle.nk_determ.specs.Sets.{SetsGrow}
 use Rattle.nk_determ.specs.States.{StateLeads}
-use Rattle.nk_switches.specs.declared.stop.TagState.{TagState}
+use Rattle.nk_switches.specs.declared.switch_tags.TagState.{TagState}
 use Rattle.nk_switches.specs.States.{IsStateAtSwitch, StayAt}
 use Rattle.nk_switches.specs.Tagged.{set_of_tag, members_of}
 use Rattle.nk_switches.specs.Made.{IsPrintableState}

@@ -6,9 +6,9 @@ use Rattle.std.proofs.lemmas.List.Elements.{All-push}
 use Rattle.nk_store.specs.StoreState.{StoreState, Grows}
 use Rattle.nk_apply.specs.Unions.{AreIds}
 use Rattle.nk_determ.specs.Sets.{SetsGrow}
-use Rattle.nk_switches.specs.declared.stop.Stop.{Stop}
-use Rattle.nk_switches.specs.declared.stop.TagState.{TagState}
-use Rattle.nk_switches.specs.declared.stop.SwitchStates.{SwitchStates}
+use Rattle.nk_switches.specs.declared.switch_tags.SwitchTags.{SwitchTags}
+use Rattle.nk_switches.specs.declared.switch_tags.TagState.{TagState}
+use Rattle.nk_switches.specs.declared.switch_tags.SwitchStates.{SwitchStates}
 use Rattle.nk_switches.specs.Matched.{Matched}
 use Rattle.nk_switches.specs.States.{IsStateAtSwitch}
 use Rattle.nk_switches.specs.Tagged.{members_of}
@@ -25,7 +25,7 @@ pub has_places : (ss more : List (List ℕ)) (tags : List ℕ) (count t : ℕ) �
 has_places ss more tags count t g known h = record { within = h.within; places = places_kept ss more tags count t g known h.within h.places }
 
 -- of each switch
-pub have_places : (ss more : List (List ℕ)) (tags : List ℕ) (count : ℕ) (s : Stop) → SetsGrow ss more → All (λ s. s < length ss) tags → TagsHaveLabelsBelow ss count tags s → TagsHaveLabelsBelow more count tags s
+pub have_places : (ss more : List (List ℕ)) (tags : List ℕ) (count : ℕ) (s : SwitchTags) → SetsGrow ss more → All (λ s. s < length ss) tags → TagsHaveLabelsBelow ss count tags s → TagsHaveLabelsBelow more count tags s
 have_places ss more tags count s g known h k d lt = has_places ss more tags count (get_or s.tags k d) g known (h k d lt)
 
 -- a tag's diagram is one in a later store
@@ -68,7 +68,7 @@ states_more st new ss more states tags sw ts i t d tag_states longer g s ids kno
 }
 
 -- the diagrams of a switch in a later store
-pub states_grown : (st new : StoreState) (ss more : List (List ℕ)) (states tags : List ℕ) (s : Stop) (tag_states : SwitchStates) → Grows st new → SetsGrow ss more → AreIds st states →
+pub states_grown : (st new : StoreState) (ss more : List (List ℕ)) (states tags : List ℕ) (s : SwitchTags) (tag_states : SwitchStates) → Grows st new → SetsGrow ss more → AreIds st states →
     All (λ s. s < length ss) tags → AreStatesAt st ss states tags s tag_states → AreStatesAt new more states tags s tag_states
 states_grown st new ss more states tags s tag_states g grew ids known k = record {
   switch = k.switch;
@@ -77,12 +77,12 @@ states_grown st new ss more states tags s tag_states g grew ids known k = record
 }
 
 -- one more switch
-pub all_more : (st new : StoreState) (ss more : List (List ℕ)) (states tags : List ℕ) (stops : List Stop) (i : ℕ) (s : Stop) (tag_states : SwitchStates) (all longer : List SwitchStates) →
-    Grows st new → SetsGrow ss more → AreIds st states → All (λ s. s < length ss) tags → i < length stops → s ≡ get_or stops i s → longer ≡ all ++ tag_states ∷ [] →
-    AreStatesAt new more states tags s tag_states → Matched (AreStatesAt st ss states tags) (take i stops) all → Matched (AreStatesAt new more states tags) (take (i + 1) stops) longer
-all_more st new ss more states tags stops i s tag_states all longer g grew ids known lt at is one m =
-    subst (λ l. Matched (AreStatesAt new more states tags) l longer) (ap (λ x. take i stops ++ x ∷ []) at ∙ sym (take_more stops i s lt))
-    (subst (Matched (AreStatesAt new more states tags) (take i stops ++ s ∷ [])) (sym is)
-    (matched_push (AreStatesAt new more states tags) (take i stops) all s tag_states
-    (matched_weaker (AreStatesAt st ss states tags) (AreStatesAt new more states tags) (λ x y k. states_grown st new ss more states tags x y g grew ids known k) (take i stops) all m)
+pub all_more : (st new : StoreState) (ss more : List (List ℕ)) (states tags : List ℕ) (by_switch : List SwitchTags) (i : ℕ) (s : SwitchTags) (tag_states : SwitchStates) (all longer : List SwitchStates) →
+    Grows st new → SetsGrow ss more → AreIds st states → All (λ s. s < length ss) tags → i < length by_switch → s ≡ get_or by_switch i s → longer ≡ all ++ tag_states ∷ [] →
+    AreStatesAt new more states tags s tag_states → Matched (AreStatesAt st ss states tags) (take i by_switch) all → Matched (AreStatesAt new more states tags) (take (i + 1) by_switch) longer
+all_more st new ss more states tags by_switch i s tag_states all longer g grew ids known lt at is one m =
+    subst (λ l. Matched (AreStatesAt new more states tags) l longer) (ap (λ x. take i by_switch ++ x ∷ []) at ∙ sym (take_more by_switch i s lt))
+    (subst (Matched (AreStatesAt new more states tags) (take i by_switch ++ s ∷ [])) (sym is)
+    (matched_push (AreStatesAt new more states tags) (take i by_switch) all s tag_states
+    (matched_weaker (AreStatesAt st ss states tags) (AreStatesAt new more states tags) (λ x y k. states_grown st new ss more states tags x y g grew ids known k) (take i by_switch) all m)
     one))

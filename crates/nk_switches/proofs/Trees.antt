@@ -18,8 +18,8 @@ use Rattle.nk_extract.specs.Buckets.{AreBuckets}
 use Rattle.nk_extract.specs.RowsOf.{IsPrintable, AreRowsOf, IsFrame}
 use Rattle.nk_extract.specs.RuleTree.{rows_for}
 use Rattle.nk_group.specs.Groups.{groups_of, rows_after}
-use Rattle.nk_switches.specs.declared.stop.TagState.{TagState}
-use Rattle.nk_switches.specs.declared.stop.SwitchStates.{SwitchStates}
+use Rattle.nk_switches.specs.declared.switch_tags.TagState.{TagState}
+use Rattle.nk_switches.specs.declared.switch_tags.SwitchStates.{SwitchStates}
 use Rattle.nk_switches.specs.Matched.{Matched}
 use Rattle.nk_switches.specs.Tagged.{SendsBy}
 use Rattle.nk_switches.specs.Made.{TagTree, rows_of_trees, IsPrintableState, ArePrintableStates, IsTreeBy, AreRowsBy, IsTableBy}

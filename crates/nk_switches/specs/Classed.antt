@@ -7,11 +7,11 @@ use Rattle.nk_apply.specs.PacketSets.{is_in}
 use Rattle.nk_table.specs.declared.Table.{Table}
 use Rattle.nk_extract.specs.Buckets.{AreBuckets}
 use Rattle.nk_group.specs.Groups.{groups_of, rows_after}
-use Rattle.nk_switches.specs.declared.stop.ActingTag.{ActingTag}
-use Rattle.nk_switches.specs.declared.stop.ClassHere.{ClassHere}
-use Rattle.nk_switches.specs.declared.stop.ClassStop.{ClassStop}
-use Rattle.nk_switches.specs.declared.stop.SwitchStates.{SwitchStates}
-use Rattle.nk_switches.specs.declared.stop.TagState.{TagState}
+use Rattle.nk_switches.specs.declared.switch_tags.ActingTag.{ActingTag}
+use Rattle.nk_switches.specs.declared.switch_tags.ClassHere.{ClassHere}
+use Rattle.nk_switches.specs.declared.switch_tags.SwitchClasses.{SwitchClasses}
+use Rattle.nk_switches.specs.declared.switch_tags.SwitchStates.{SwitchStates}
+use Rattle.nk_switches.specs.declared.switch_tags.TagState.{TagState}
 use Rattle.nk_switches.specs.Matched.{Matched}
 use Rattle.nk_switches.specs.States.{IsStateAtSwitch}
 use Rattle.nk_switches.specs.Tagged.{members_of, LeadsWith}
@@ -52,8 +52,8 @@ pub record IsClassAt (st : StoreState) (ss : List (List ℕ)) (states tags : Lis
   pub other : IsTagAt st ss states tags tag sw h.other
 
 -- and with each class of the switch
-abbrev pub IsClassStop : StoreState → List (List ℕ) → List ℕ → List ℕ → ℕ → ClassStop → Type 0
-IsClassStop st ss states tags tag s = All (IsClassAt st ss states tags tag s.switch) s.classes
+abbrev pub AreSwitchClasses : StoreState → List (List ℕ) → List ℕ → List ℕ → ℕ → SwitchClasses → Type 0
+AreSwitchClasses st ss states tags tag s = All (IsClassAt st ss states tags tag s.switch) s.classes
 
 -- the reduced tree of the bucket lists of where the states of the tag that acts for a class lead, at the packets of a switch
 pub record IsClassTreeAt (st : StoreState) (ss : List (List ℕ)) (states tags classes : List ℕ) (tag sw : ℕ) (h : ClassHere) (e : TagTree) : Type 0 where
@@ -64,7 +64,7 @@ pub record IsClassTreeAt (st : StoreState) (ss : List (List ℕ)) (states tags c
       AreBuckets st.width tag (λ y c. LeadsTo st ss states tags classes (members_of ss tags (acting_tag st tag h.acting h.other pk)) pk y c) pk (leaf_at e.tree [] pk)
 
 -- the table of a switch: the rows of its classes' trees in turn, and the groups of these rows
-pub record IsClassTableAt (st : StoreState) (ss : List (List ℕ)) (states tags classes : List ℕ) (tag : ℕ) (s : ClassStop) (table : Table) : Type 0 where
+pub record IsClassTableAt (st : StoreState) (ss : List (List ℕ)) (states tags classes : List ℕ) (tag : ℕ) (s : SwitchClasses) (table : Table) : Type 0 where
   pub switch : table.switch ≡ s.switch
   pub trees : List TagTree
   pub each : Matched (IsClassTreeAt st ss states tags classes tag s.switch) s.classes trees
@@ -84,7 +84,7 @@ pub record HaveActing (st : StoreState) (ss : List (List ℕ)) (count : ℕ) (ta
   pub other : HasLabelsBelow ss count tags h.other
 
 -- and with each class of a switch
-abbrev pub HaveClasses : StoreState → List (List ℕ) → ℕ → List ℕ → ClassStop → Type 0
+abbrev pub HaveClasses : StoreState → List (List ℕ) → ℕ → List ℕ → SwitchClasses → Type 0
 HaveClasses st ss count tags s = All (HaveActing st ss count tags) s.classes
 
 -- the diagram d does what e does at the tag's packets, and elsewhere what the rest does
@@ -109,6 +109,6 @@ pub record IsClassState (st : StoreState) (ss : List (List ℕ)) (states tags : 
   pub state : IsActingState st ss states tags tag sw h.acting h.other e.diagram
 
 -- and with those of a switch's classes
-pub record AreClassStates (st : StoreState) (ss : List (List ℕ)) (states tags : List ℕ) (tag : ℕ) (s : ClassStop) (all : SwitchStates) : Type 0 where
+pub record AreClassStates (st : StoreState) (ss : List (List ℕ)) (states tags : List ℕ) (tag : ℕ) (s : SwitchClasses) (all : SwitchStates) : Type 0 where
   pub switch : all.switch ≡ s.switch
   pub each : Matched (IsClassState st ss states tags tag s.switch) s.classes all.tag_states

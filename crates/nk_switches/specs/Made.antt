@@ -10,9 +10,9 @@ use Rattle.nk_extract.specs.Buckets.{AreBuckets}
 use Rattle.nk_extract.specs.RowsOf.{IsPrintable}
 use Rattle.nk_extract.specs.RuleTree.{rows_for}
 use Rattle.nk_group.specs.Groups.{groups_of, rows_after}
-use Rattle.nk_switches.specs.declared.stop.Stop.{Stop}
-use Rattle.nk_switches.specs.declared.stop.TagState.{TagState}
-use Rattle.nk_switches.specs.declared.stop.SwitchStates.{SwitchStates}
+use Rattle.nk_switches.specs.declared.switch_tags.SwitchTags.{SwitchTags}
+use Rattle.nk_switches.specs.declared.switch_tags.TagState.{TagState}
+use Rattle.nk_switches.specs.declared.switch_tags.SwitchStates.{SwitchStates}
 use Rattle.nk_switches.specs.Matched.{Matched}
 use Rattle.nk_switches.specs.States.{IsStateAtSwitch, StayAt}
 use Rattle.nk_switches.specs.Tagged.{members_of, LeadsWith, SendsBy}
@@ -33,8 +33,8 @@ pub record IsTagAt (st : StoreState) (ss : List (List ℕ)) (states tags : List 
   pub stay : StayAt st tag sw states (members_of ss tags t)
 
 -- so it is with each tag of the switch
-abbrev pub IsStop : StoreState → List (List ℕ) → List ℕ → List ℕ → ℕ → Stop → Type 0
-IsStop st ss states tags tag s = All (IsTagAt st ss states tags tag s.switch) s.tags
+abbrev pub AreSwitchTags : StoreState → List (List ℕ) → List ℕ → List ℕ → ℕ → SwitchTags → Type 0
+AreSwitchTags st ss states tags tag s = All (IsTagAt st ss states tags tag s.switch) s.tags
 
 -- the places of a tag's states are places among so many states
 pub record HasLabelsBelow (ss : List (List ℕ)) (count : ℕ) (tags : List ℕ) (t : ℕ) : Type 0 where
@@ -42,7 +42,7 @@ pub record HasLabelsBelow (ss : List (List ℕ)) (count : ℕ) (tags : List ℕ)
   pub places : All (λ l. l < count) (members_of ss tags t)
 
 -- so are those of a switch's tags
-abbrev pub TagsHaveLabelsBelow : List (List ℕ) → ℕ → List ℕ → Stop → Type 0
+abbrev pub TagsHaveLabelsBelow : List (List ℕ) → ℕ → List ℕ → SwitchTags → Type 0
 TagsHaveLabelsBelow ss count tags s = All (HasLabelsBelow ss count tags) s.tags
 
 -- the reduced tree of the bucket lists of where a tag's states lead at the packets of a switch
@@ -53,7 +53,7 @@ pub record IsTagTree (st : StoreState) (ss : List (List ℕ)) (states tags : Lis
       AreBuckets st.width tag (λ y t. LeadsWith st ss states tags (members_of ss tags e.tag) pk y t) pk (leaf_at e.tree [] pk)
 
 -- the table of a switch: the rows of its tags' trees in turn, and the groups of these rows
-pub record IsTableAt (st : StoreState) (ss : List (List ℕ)) (diagrams tags : List ℕ) (tag : ℕ) (s : Stop) (table : Table) : Type 0 where
+pub record IsTableAt (st : StoreState) (ss : List (List ℕ)) (diagrams tags : List ℕ) (tag : ℕ) (s : SwitchTags) (table : Table) : Type 0 where
   pub switch : table.switch ≡ s.switch
   pub trees : List TagTree
   pub tags_are : map (λ e. e.tag) trees ≡ s.tags
@@ -68,7 +68,7 @@ pub record IsTagState (st : StoreState) (ss : List (List ℕ)) (states tags : Li
   pub state : IsStateAtSwitch st ss states (members_of ss tags e.tag) sw e.diagram
 
 -- the diagrams of a switch's tags
-pub record AreStatesAt (st : StoreState) (ss : List (List ℕ)) (states tags : List ℕ) (s : Stop) (tag_states : SwitchStates) : Type 0 where
+pub record AreStatesAt (st : StoreState) (ss : List (List ℕ)) (states tags : List ℕ) (s : SwitchTags) (tag_states : SwitchStates) : Type 0 where
   pub switch : tag_states.switch ≡ s.switch
   pub tags_are : map (λ (e : TagState). e.tag) tag_states.tag_states ≡ s.tags
   pub each : All (IsTagState st ss states tags s.switch) tag_states.tag_states

@@ -9,7 +9,7 @@ ghost use Rattle.nk_switches.specs.States.{IsStateAtSwitch};
 ghost use Rattle.nk_switches.specs.Tagged.{members_of};
 ghost use Rattle.nk_switches.specs.Classed.{HaveActing, HaveClasses, IsActingTag, IsInFront, IsActingState, AreClassStates};
 
-use crate::stop::{ActingTag, ClassHere, ClassStop, SwitchStates, TagState};
+use crate::switch_tags::{ActingTag, ClassHere, SwitchClasses, SwitchStates, TagState};
 use crate::tag_states::tag_state;
 use nk_apply::{both, negate, restrict, union};
 use nk_determ::{SetId, Sets};
@@ -96,27 +96,27 @@ fn class_states(
     states: &[Id],
     tags: &[SetId],
     tag: Fid,
-    stop: &ClassStop,
+    switch_entry: &SwitchClasses,
 ) -> Result<SwitchStates, AllocError>
     requires states { AreIds st.old states.now }
     requires known { All (λ s. s < length ss.old) tags.now }
-    requires acting { HaveClasses st.old ss.old (length states.now) tags.now stop.now }
+    requires acting { HaveClasses st.old ss.old (length states.now) tags.now switch_entry.now }
     requires field { tag < 18 }
     ensures grows { Grows st.old st.new }
     ensures sets { SetsGrow ss.old ss.new }
     ensures tag_states { IfOk result
-        (AreClassStates st.new ss.new states.now tags.now tag stop.now) }
+        (AreClassStates st.new ss.new states.now tags.now tag switch_entry.now) }
 {
     let mut tag_states = List::new(st.alloc());
-    for h in stop.classes.as_slice() {
-        let diagram = acting_state(st, ss, states, tags, tag, stop.switch, h)?;
+    for h in switch_entry.classes.as_slice() {
+        let diagram = acting_state(st, ss, states, tags, tag, switch_entry.switch, h)?;
         tag_states.push(TagState {
             tag: h.class,
             diagram,
         })?;
     }
     Ok(SwitchStates {
-        switch: stop.switch,
+        switch: switch_entry.switch,
         tag_states,
     })
 }
@@ -128,20 +128,20 @@ pub fn all_class_states(
     states: &[Id],
     tags: &[SetId],
     tag: Fid,
-    stops: &[ClassStop],
+    by_switch: &[SwitchClasses],
 ) -> Result<List<SwitchStates>, AllocError>
     requires states { AreIds st.old states.now }
     requires known { All (λ s. s < length ss.old) tags.now }
-    requires acting { All (HaveClasses st.old ss.old (length states.now) tags.now) stops.now }
+    requires acting { All (HaveClasses st.old ss.old (length states.now) tags.now) by_switch.now }
     requires field { tag < 18 }
     ensures grows { Grows st.old st.new }
     ensures sets { SetsGrow ss.old ss.new }
     ensures tag_states { IfOk result
-        (Matched (AreClassStates st.new ss.new states.now tags.now tag) stops.now) }
+        (Matched (AreClassStates st.new ss.new states.now tags.now tag) by_switch.now) }
 {
     let mut all = List::new(st.alloc());
-    for stop in stops {
-        let tag_states = class_states(st, ss, states, tags, tag, stop)?;
+    for switch_entry in by_switch {
+        let tag_states = class_states(st, ss, states, tags, tag, switch_entry)?;
         all.push(tag_states)?;
     }
     Ok(all)

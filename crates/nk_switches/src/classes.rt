@@ -4,12 +4,12 @@ ghost use Rattle.nk_apply.specs.Unions.{AreIds};
 ghost use Rattle.nk_extract.specs.RowsOf.{IsFrame};
 ghost use Rattle.nk_switches.specs.Matched.{Matched};
 ghost use Rattle.nk_switches.specs.Tagged.{AreOnce};
-ghost use Rattle.nk_switches.specs.Classed.{IsClassStop, IsClassTableAt};
+ghost use Rattle.nk_switches.specs.Classed.{AreSwitchClasses, IsClassTableAt};
 
 use crate::acting::all_class_states;
 use crate::members::tag_table;
 use crate::sink::TableList;
-use crate::stop::ClassStop;
+use crate::switch_tags::SwitchClasses;
 use crate::tables::all_tables;
 use crate::targets::class_targets;
 use nk_determ::{SetId, Sets};
@@ -31,20 +31,21 @@ pub fn class_tables(
     states: &[Id],
     tags: &[SetId],
     classes: &[u64],
-    stops: &[ClassStop],
+    by_switch: &[SwitchClasses],
 ) -> Result<List<Table>, AllocError>
     requires frame { (tag : ℕ) × (st.old.tag ≡ Some tag) × IsFrame st.old st.old.width tag }
     requires states { AreIds st.old states.now }
     requires known { All (λ s. s < length ss.old) tags.now }
     requires once { AreOnce ss.old tags.now }
     requires classes { length classes.now ≡ length tags.now }
-    requires stops { (tag : ℕ) → st.old.tag ≡ Some tag
-        → All (IsClassStop st.old ss.old states.now tags.now tag) stops.now }
+    requires by_switch { (tag : ℕ) → st.old.tag ≡ Some tag
+        → All (AreSwitchClasses st.old ss.old states.now tags.now tag) by_switch.now }
     ensures { IfOk result (λ ts. (tag : ℕ) → st.old.tag ≡ Some tag →
-        Matched (IsClassTableAt st.old ss.old states.now tags.now classes.now tag) stops.now ts) }
+        Matched (IsClassTableAt st.old ss.old states.now tags.now classes.now tag) by_switch.now
+        ts) }
 {
     let Some(tag) = st.tag() else { unreachable!() };
-    let class_states = all_class_states(st, ss, states, tags, tag, stops)?;
+    let class_states = all_class_states(st, ss, states, tags, tag, by_switch)?;
     let by_tag = tag_table(st.alloc(), ss, tags)?;
     let table = class_targets(st.alloc(), by_tag.as_slice(), classes)?;
     ss.differ();

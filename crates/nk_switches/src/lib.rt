@@ -6,7 +6,7 @@ mod at_switch;
 mod classes;
 mod members;
 mod sink;
-mod stop;
+mod switch_tags;
 mod switches;
 mod tables;
 mod tag_states;
@@ -14,5 +14,5 @@ mod targets;
 
 pub use classes::class_tables;
 pub use sink::{TableList, TableSink};
-pub use stop::{ActingTag, ClassHere, ClassStop, Stop};
+pub use switch_tags::{ActingTag, ClassHere, SwitchClasses, SwitchTags};
 pub use switches::switch_tables;

@@ -4,12 +4,12 @@ ghost use Rattle.nk_table.specs.declared.Table.{Table};
 ghost use Rattle.nk_apply.specs.Unions.{AreIds};
 ghost use Rattle.nk_extract.specs.RowsOf.{IsFrame};
 ghost use Rattle.nk_switches.specs.Matched.{Matched};
-ghost use Rattle.nk_switches.specs.Made.{IsStop, IsTableAt};
+ghost use Rattle.nk_switches.specs.Made.{AreSwitchTags, IsTableAt};
 ghost use Rattle.nk_switches.specs.Tagged.{AreOnce};
 
 use crate::members::tag_table;
 use crate::sink::TableSink;
-use crate::stop::Stop;
+use crate::switch_tags::SwitchTags;
 use crate::tables::all_tables;
 use crate::tag_states::all_states;
 use nk_determ::{SetId, Sets};
@@ -28,20 +28,20 @@ pub fn switch_tables<S: TableSink>(
     ss: &mut Sets,
     states: &[Id],
     tags: &[SetId],
-    stops: &[Stop],
+    by_switch: &[SwitchTags],
     sink: &mut S,
 ) -> Result<(), AllocError>
     requires frame { (tag : ℕ) × (st.old.tag ≡ Some tag) × IsFrame st.old st.old.width tag }
     requires states { AreIds st.old states.now }
     requires known { All (λ s. s < length ss.old) tags.now }
     requires once { AreOnce ss.old tags.now }
-    requires stops { (tag : ℕ) → st.old.tag ≡ Some tag
-        → All (IsStop st.old ss.old states.now tags.now tag) stops.now }
+    requires by_switch { (tag : ℕ) → st.old.tag ≡ Some tag
+        → All (AreSwitchTags st.old ss.old states.now tags.now tag) by_switch.now }
     ensures { OnOk result ((ts : Items Table) × S.takes sink.old ts sink.new
         × ((tag : ℕ) → st.old.tag ≡ Some tag
-        → Matched (IsTableAt st.old ss.old states.now tags.now tag) stops.now ts)) }
+        → Matched (IsTableAt st.old ss.old states.now tags.now tag) by_switch.now ts)) }
 {
-    let tag_states = all_states(st, ss, states, tags, stops)?;
+    let tag_states = all_states(st, ss, states, tags, by_switch)?;
     let table = tag_table(st.alloc(), ss, tags)?;
     ss.differ();
     st.laws();

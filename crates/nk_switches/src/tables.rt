@@ -9,7 +9,7 @@ ghost use Rattle.nk_switches.specs.Matched.{Matched};
 ghost use Rattle.nk_switches.specs.Made.{TagTree, IsPrintableState, ArePrintableStates, IsTreeBy, AreRowsBy, IsTableBy};
 
 use crate::sink::TableSink;
-use crate::stop::{SwitchStates, TagState};
+use crate::switch_tags::{SwitchStates, TagState};
 use nk_determ::retarget;
 use nk_extract::{RowSink, rows_to};
 use nk_store::Store;

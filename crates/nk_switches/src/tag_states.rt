@@ -10,7 +10,7 @@ ghost use Rattle.nk_switches.specs.Made.{AreStatesAt, TagsHaveLabelsBelow};
 
 use crate::at_switch::switch_state;
 use crate::members::members;
-use crate::stop::{Stop, SwitchStates, TagState};
+use crate::switch_tags::{SwitchStates, SwitchTags, TagState};
 use nk_determ::{SetId, Sets};
 use nk_field::List;
 use nk_store::{Id, Store};
@@ -45,22 +45,23 @@ fn switch_states(
     ss: &mut Sets,
     states: &[Id],
     tags: &[SetId],
-    stop: &Stop,
+    switch_entry: &SwitchTags,
 ) -> Result<SwitchStates, AllocError>
     requires states { AreIds st.old states.now }
     requires known { All (λ s. s < length ss.old) tags.now }
-    requires places { TagsHaveLabelsBelow ss.old (length states.now) tags.now stop.now }
+    requires places { TagsHaveLabelsBelow ss.old (length states.now) tags.now switch_entry.now }
     ensures grows { Grows st.old st.new }
     ensures sets { SetsGrow ss.old ss.new }
-    ensures tag_states { IfOk result (AreStatesAt st.new ss.new states.now tags.now stop.now) }
+    ensures tag_states { IfOk result
+        (AreStatesAt st.new ss.new states.now tags.now switch_entry.now) }
 {
     let mut tag_states = List::new(st.alloc());
-    for tag in stop.tags.as_slice() {
-        let diagram = tag_state(st, ss, states, tags, stop.switch, *tag)?;
+    for tag in switch_entry.tags.as_slice() {
+        let diagram = tag_state(st, ss, states, tags, switch_entry.switch, *tag)?;
         tag_states.push(TagState { tag: *tag, diagram })?;
     }
     Ok(SwitchStates {
-        switch: stop.switch,
+        switch: switch_entry.switch,
         tag_states,
     })
 }
@@ -71,19 +72,19 @@ pub fn all_states(
     ss: &mut Sets,
     states: &[Id],
     tags: &[SetId],
-    stops: &[Stop],
+    by_switch: &[SwitchTags],
 ) -> Result<List<SwitchStates>, AllocError>
     requires states { AreIds st.old states.now }
     requires known { All (λ s. s < length ss.old) tags.now }
-    requires places { All (TagsHaveLabelsBelow ss.old (length states.now) tags.now) stops.now }
+    requires places { All (TagsHaveLabelsBelow ss.old (length states.now) tags.now) by_switch.now }
     ensures grows { Grows st.old st.new }
     ensures sets { SetsGrow ss.old ss.new }
     ensures tag_states { IfOk result
-        (Matched (AreStatesAt st.new ss.new states.now tags.now) stops.now) }
+        (Matched (AreStatesAt st.new ss.new states.now tags.now) by_switch.now) }
 {
     let mut all = List::new(st.alloc());
-    for stop in stops {
-        let tag_states = switch_states(st, ss, states, tags, stop)?;
+    for switch_entry in by_switch {
+        let tag_states = switch_states(st, ss, states, tags, switch_entry)?;
         all.push(tag_states)?;
     }
     Ok(all)

@@ -34,8 +34,8 @@ use Rattle.nk_tabgrammar.specs.declared.states.Tells.TheVariants as tells
 use Rattle.nk_tabgrammar.specs.States.{MaybeStep, after_token, after_in, bucket_state, in_bucket, or_else, state_of_stage}
 use Rattle.nk_tabtext.specs.Values.{bucket_with, line_above, row_with}
 use Rattle.nk_tabtext.specs.Progress.{group_bucket_told, row_bucket_told, out_back_told, FillingValue, PartialValue, KnownValue, number_of_token, word_of_token}
-use Rattle.nk_tabtext.proofs.Sofar.{then_same, unless_assoc}
-use Rattle.nk_tabtext.proofs.Stages.{Sofar, so_far, with_sets, rowed_so, filled_so, assigned_so, named_so, left_so, is_assigned, word_fault, row_more_bucket, first_bucket_more, bucket_more, pair_more}
+use Rattle.nk_tabtext.proofs.Prefixes.{then_same, unless_assoc}
+use Rattle.nk_tabtext.proofs.Stages.{TablesSoFar, so_far, with_sets, rowed_so, filled_so, assigned_so, named_so, left_so, is_assigned, word_fault, row_more_bucket, first_bucket_more, bucket_more, pair_more}
 use Rattle.nk_tabtext.proofs.Fitting.{Fits, IsField, Owns, Rows, gives_filling, gives_on, gives_still}
 use Rattle.nk_tabtext.proofs.Going.{Both, Follows, both_through, by_token, none_through}
 use Rattle.nk_tabtext.proofs.TableSteps.{checked_ok, opens_still, owns_sets, owns_still, rows_same}
@@ -63,7 +63,7 @@ is_after (owner.Row q ms) at l = refl
 abbrev at_part : Owner → BucketState × Tells → State × Tells
 at_part o p = (in_bucket o p.0, p.1)
 
-owns_said : (x : WrittenTables) (c : WrittenTable) (o : Owner) (ss : List (ℕ × ℕ)) (v : Sofar) (p : PartialValue) → Owns x c o ss v p → p.declaring.said ≡ v.said
+owns_said : (x : WrittenTables) (c : WrittenTable) (o : Owner) (ss : List (ℕ × ℕ)) (v : TablesSoFar) (p : PartialValue) → Owns x c o ss v p → p.declaring.said ≡ v.said
 owns_said x c (owner.First n) ss v p h = h.0.said
 owns_said x c (owner.Next g) ss v p h = h.0.said
 owns_said x c (owner.Row q ms) ss v p h = h.0.said

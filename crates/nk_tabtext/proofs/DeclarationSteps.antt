@@ -37,8 +37,8 @@ use Rattle.nk_tabgrammar.specs.States.{MaybeStep, after_token, state_of_stage}
 use Rattle.nk_declare.specs.Declarations.{number_fault, port_fault}
 use Rattle.nk_tabtext.specs.Values.{read_of, version_fault}
 use Rattle.nk_tabtext.specs.Progress.{DeclaringValue, PartialValue, KnownValue, declares_of, finished, first_partial, known_after, known_of, number_of_token, switch_ends_told, unless_declared, with_declaring, word_of_token}
-use Rattle.nk_tabtext.proofs.Sofar.{then_assoc, then_same}
-use Rattle.nk_tabtext.proofs.Stages.{Sofar, so_far, declared_so, tabled_so, declaration_more, no_table_more}
+use Rattle.nk_tabtext.proofs.Prefixes.{then_assoc, then_same}
+use Rattle.nk_tabtext.proofs.Stages.{TablesSoFar, so_far, declared_so, tabled_so, declaration_more, no_table_more}
 use Rattle.nk_tabtext.proofs.Fitting.{Closes, Declares, Fits, Gives, Linked, Parts, Ported, Real, gives_declaring, gives_more, gives_on, gives_still, gives_unless, gives_with, ports_so, switch_so}
 use Rattle.nk_tabtext.proofs.Going.{Both, Follows, both_if, both_last, both_through, by_token, none_if}
 
@@ -110,7 +110,7 @@ gives_said x p r r' e real version none parts =
     on (Err (refused.Fault k line)) h = refl
 
 -- what is declared stays, whatever is told of the next one
-same_declares : (x : WrittenTables) (v : Sofar) (p : PartialValue) (e : DeclaringValue) → Declares x v p → e.said ≡ p.declaring.said → Declares x v (record p { declaring = e })
+same_declares : (x : WrittenTables) (v : TablesSoFar) (p : PartialValue) (e : DeclaringValue) → Declares x v p → e.said ≡ p.declaring.said → Declares x v (record p { declaring = e })
 same_declares x v p e d said = record {
   version = d.version;
   said = said ∙ d.said;
@@ -258,7 +258,7 @@ ports_more before (p ∷ ps) q =
     ∙ first_assoc (port_fault before p) (ports_fault (before ++ p.value ∷ []) ps) (port_fault ((before ++ p.value ∷ []) ++ values_of ps) q)
     ∙ ap (λ l. first_of (first_of (port_fault before p) (ports_fault (before ++ p.value ∷ []) ps)) (port_fault l q)) (append_assoc before (p.value ∷ []) (values_of ps))
 
-unless_first : (a b : MaybeFault) (v : Sofar) → unless_declared (first_of a b) v ≡ and_then (unless_declared a v) (λ u. unless_declared b u)
+unless_first : (a b : MaybeFault) (v : TablesSoFar) → unless_declared (first_of a b) v ≡ and_then (unless_declared a v) (λ u. unless_declared b u)
 unless_first None b v = refl
 unless_first (Some e) b v = refl
 
@@ -275,7 +275,7 @@ more_port x n ps q =
     ∙ sym (then_assoc (declared_so x) (λ v. unless_declared (switch_fault v.said.topo n ps) v) (λ v. unless_declared (port_fault (values_of ps) q) v))
 
 -- what is known of one more port
-port_gives : (x : WrittenTables) (n : Number) (ps : List ℕ) (v : Sofar) (p : PartialValue) (t : Token) → Ported x n ps v p
+port_gives : (x : WrittenTables) (n : Number) (ps : List ℕ) (v : TablesSoFar) (p : PartialValue) (t : Token) → Ported x n ps v p
     → Gives (unless_declared (port_fault ps (number_of_token t)) v) (Ported x n (ps ++ t.value ∷ []))
     (known_of (with_declaring p (unless_declared (port_fault p.declaring.ports (number_of_token t)) (record p.declaring { ports = p.declaring.ports ++ t.value ∷ [] }))))
 port_gives x n ps v p t d =
@@ -334,12 +334,12 @@ switch_more x n q qs =
     ∙ then_same (declared_so x) _ _ (λ v. on v (switch_fault v.said.topo n (q ∷ qs)))
     ∙ sym (then_assoc (declared_so x) (λ v. unless_declared (switch_fault v.said.topo n (q ∷ qs)) v) (λ v. Ok (so_far (with_ports v.said n (values_of (q ∷ qs))) [] [] [] [] [])))
   where
-    on : (v : Sofar) (o : MaybeFault) → and_then (read_of (unless o (with_ports v.said n (values_of (q ∷ qs))))) (λ s. Ok (so_far s [] [] [] [] []))
+    on : (v : TablesSoFar) (o : MaybeFault) → and_then (read_of (unless o (with_ports v.said n (values_of (q ∷ qs))))) (λ s. Ok (so_far s [] [] [] [] []))
         ≡ and_then (unless_declared o v) (λ u. Ok (so_far (with_ports u.said n (values_of (q ∷ qs))) [] [] [] [] []))
     on v None = refl
     on v (Some e) = refl
 
-pub switch_ends : (x : WrittenTables) (n q : Number) (qs : List Number) (v : Sofar) (p : PartialValue) → Ported x n (values_of (q ∷ qs)) v p
+pub switch_ends : (x : WrittenTables) (n q : Number) (qs : List Number) (v : TablesSoFar) (p : PartialValue) → Ported x n (values_of (q ∷ qs)) v p
     → Declares (with_declaration x (declared.Switch n q qs)) (so_far (with_ports v.said n (values_of (q ∷ qs))) [] [] [] [] []) (record p { declaring = switch_ends_told p.declaring })
 switch_ends x n q qs v p d = record {
   version = d.0.version;
@@ -362,7 +362,7 @@ step_port x c n q qs k t h =
 
 -- ---- links
 
-abbrev Links : WrittenTables → Quad → Sofar → PartialValue → Type 0
+abbrev Links : WrittenTables → Quad → TablesSoFar → PartialValue → Type 0
 Links x q v p = Declares x v p × Linked q p.declaring
 
 -- a link goes on without a number

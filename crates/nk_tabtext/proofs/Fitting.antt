@@ -35,7 +35,7 @@ use Rattle.nk_tabgrammar.specs.declared.states.Tells.TheVariants as tells
 use Rattle.nk_declare.specs.Declarations.{number_fault}
 use Rattle.nk_tabtext.specs.Values.{FaultLine, checked, unless_at}
 use Rattle.nk_tabtext.specs.Progress.{DeclaringValue, FillingValue, PartialValue, KnownValue, Sound, Faulty, finished, first_partial, known_after, known_of, told, unless_declared, with_declaring, with_filling, with_filled}
-use Rattle.nk_tabtext.proofs.Stages.{Sofar, Value, declared_so, tabled_so, grouped_so, rowed_so, numbered_so, filled_so, matched_so, assigned_so, named_so, left_so, called_so, tested_so}
+use Rattle.nk_tabtext.proofs.Stages.{TablesSoFar, Value, declared_so, tabled_so, grouped_so, rowed_so, numbered_so, filled_so, matched_so, assigned_so, named_so, left_so, called_so, tested_so}
 
 -- ---- what is known, by what is said
 
@@ -130,14 +130,14 @@ pub record Parts (p : PartialValue) (bs : List Bucket) (ms : List (ℕ × ℕ ×
   pub sets : p.filling.sets ≡ ss
 
 -- no table is read
-pub record Closes (x : WrittenTables) (ts : List (ℕ × Table)) (v : Sofar) (p : PartialValue) : Type 0 where
+pub record Closes (x : WrittenTables) (ts : List (ℕ × Table)) (v : TablesSoFar) (p : PartialValue) : Type 0 where
   pub version : p.version ≡ x.version.value
   pub said : p.declaring.said ≡ v.said
   pub tables : finished p.tables p.filling ≡ ts
   pub parts : Parts p [] [] []
 
 -- a table is read
-pub record Opens (x : WrittenTables) (c : WrittenTable) (rs : List Row) (v : Sofar) (p : PartialValue) : Type 0 where
+pub record Opens (x : WrittenTables) (c : WrittenTable) (rs : List Row) (v : TablesSoFar) (p : PartialValue) : Type 0 where
   pub version : p.version ≡ x.version.value
   pub said : p.declaring.said ≡ v.said
   pub tables : p.tables ≡ v.tables
@@ -145,11 +145,11 @@ pub record Opens (x : WrittenTables) (c : WrittenTable) (rs : List Row) (v : Sof
   pub groups : p.filling.groups ≡ v.groups
   pub rows : p.filling.rows ≡ rs
 
-abbrev pub Declares : WrittenTables → Sofar → PartialValue → Type 0
+abbrev pub Declares : WrittenTables → TablesSoFar → PartialValue → Type 0
 Declares x v p = Closes x [] v p
 
 -- a switch that is declared
-abbrev pub Ported : WrittenTables → Number → List ℕ → Sofar → PartialValue → Type 0
+abbrev pub Ported : WrittenTables → Number → List ℕ → TablesSoFar → PartialValue → Type 0
 Ported x n ps v p =
     Declares x v p × (p.declaring.switch ≡ n.value) × (p.declaring.ports ≡ ps) × (is_switch v.said.topo n.value ≡ false)
 
@@ -164,19 +164,19 @@ Linked (quad.ToSwitch a m b) d = (d.from_switch ≡ a) × (d.from_port ≡ m) ×
 Linked (quad.ToColon a m b) d = (d.from_switch ≡ a) × (d.from_port ≡ m) × (d.to_switch ≡ b)
 
 -- groups are read
-abbrev pub Groups : WrittenTables → WrittenTable → Sofar → PartialValue → Type 0
+abbrev pub Groups : WrittenTables → WrittenTable → TablesSoFar → PartialValue → Type 0
 Groups x c v p = Opens x c [] v p × Parts p [] [] []
 
 -- rows are read
-abbrev pub Rows : WrittenTables → WrittenTable → Sofar → PartialValue → Type 0
+abbrev pub Rows : WrittenTables → WrittenTable → TablesSoFar → PartialValue → Type 0
 Rows x c v p = Opens x c v.rows v p × Parts p [] [] []
 
 -- matches are read
-abbrev pub Matches : WrittenTables → WrittenTable → Number → Sofar → PartialValue → Type 0
+abbrev pub Matches : WrittenTables → WrittenTable → Number → TablesSoFar → PartialValue → Type 0
 Matches x c q v p = Opens x c v.rows v p × Parts p [] v.matches [] × (p.filling.priority ≡ q.value)
 
 -- a bucket is read
-abbrev pub Owns : WrittenTables → WrittenTable → Owner → List (ℕ × ℕ) → Sofar → PartialValue → Type 0
+abbrev pub Owns : WrittenTables → WrittenTable → Owner → List (ℕ × ℕ) → TablesSoFar → PartialValue → Type 0
 Owns x c (owner.First n) ss v p = Opens x c [] v p × Parts p [] [] ss × (p.filling.number ≡ n.value)
 Owns x c (owner.Next g) ss v p = Opens x c [] v p × Parts p v.buckets [] ss × (p.filling.number ≡ g.number.value)
 Owns x c (owner.Row q ms) ss v p = Opens x c v.rows v p × Parts p [] v.matches ss × (p.filling.priority ≡ q.value)
@@ -188,7 +188,7 @@ NoRows (owner.Next g) c = c.rows ≡ []
 NoRows (owner.Row q ms) c = Unit {0}
 
 -- the field is told
-abbrev pub IsField : Ident → Sofar → PartialValue → Type 0
+abbrev pub IsField : Ident → TablesSoFar → PartialValue → Type 0
 IsField w v p = (p.filling.field ≡ place_of_field v.said.fields w) × (p.filling.max ≡ most_in v.said.fields w)
 
 abbrev pub ports_so : WrittenTables → Number → List Number → Value
@@ -219,7 +219,7 @@ FitsBucket o (place.Assigned ps w) x c k = Gives (named_so x c o ps w) (λ v p. 
 FitsBucket o (place.Out ps) x c k = Gives (assigned_so x c o ps) (λ v p. Owns x c o v.sets v p) k
 FitsBucket o (place.Left ps e) x c k = Gives (left_so x c o ps e) (λ v p. Owns x c o v.sets v p × (p.filling.exit ≡ v.out)) k
 
-abbrev pub Tested : WrittenTables → WrittenTable → Number → Ident → Number → Sofar → PartialValue → Type 0
+abbrev pub Tested : WrittenTables → WrittenTable → Number → Ident → Number → TablesSoFar → PartialValue → Type 0
 Tested x c q w n v p = Matches x c q v p × IsField w v p × (p.filling.value ≡ n)
 
 abbrev pub FitsRow : InRow → WrittenTables → WrittenTable → KnownValue → Type 0

@@ -34,10 +34,10 @@ use Rattle.nk_tabgrammar.specs.declared.stage.Owner.TheVariants as owner
 use Rattle.nk_tabgrammar.specs.Machine.{with_declaration, with_table, with_group, with_table_row, with_table_match, row_written}
 use Rattle.nk_tabtext.specs.Values.{FaultLine, bucket_with, checked, digits_in, group_fault, group_of, group_read, groups_read, has_key, length_fault, line_above, line_if, matches_read, ones_fault, pairs_read, plain_declaration, placed_match, read_of, row_with, rows_read, said_after, table_fault, table_with, tables_read, version_fault, way_read}
 use Rattle.nk_tabtext.specs.Progress.{match_set}
-use Rattle.nk_tabtext.proofs.Sofar.{then_assoc, checked_assoc, checked_first, unless_assoc, said_more, pairs_more, matches_more, buckets_more, groups_more, rows_more, tables_more}
+use Rattle.nk_tabtext.proofs.Prefixes.{then_assoc, checked_assoc, checked_first, unless_assoc, said_more, pairs_more, matches_more, buckets_more, groups_more, rows_more, tables_more}
 
 -- what is said so far: of the text, of the table that is read, and of the group or row that is
-pub record Sofar : Type 0 where
+pub record TablesSoFar : Type 0 where
   pub said : DeclaredValue
   pub tables : List (ℕ × Table)
   pub groups : List (ℕ × Group)
@@ -48,10 +48,10 @@ pub record Sofar : Type 0 where
   pub out : Exit
 
 abbrev pub Value : Type 0
-Value = Result Sofar ReadError
+Value = Result TablesSoFar ReadError
 
 -- it by its parts
-abbrev pub so_far : DeclaredValue → List (ℕ × Table) → List (ℕ × Group) → List Row → List Bucket → List (ℕ × ℕ × ℕ) → Sofar
+abbrev pub so_far : DeclaredValue → List (ℕ × Table) → List (ℕ × Group) → List Row → List Bucket → List (ℕ × ℕ × ℕ) → TablesSoFar
 so_far s ts gs rs bs ms = record { said = s; tables = ts; groups = gs; rows = rs; buckets = bs; matches = ms; sets = []; out = exit.Back }
 
 -- declarations
@@ -94,7 +94,7 @@ owned_so x c (owner.Next g) = filled_so x c g
 owned_so x c (owner.Row p ms) = matched_so x c p ms
 
 -- with assignments
-abbrev pub with_sets : Sofar → List (ℕ × ℕ) → Exit → Sofar
+abbrev pub with_sets : TablesSoFar → List (ℕ × ℕ) → Exit → TablesSoFar
 with_sets v ss e = record v { sets = ss; out = e }
 
 -- and a bucket's assignments
@@ -125,7 +125,7 @@ abbrev pub called_so : WrittenTables → WrittenTable → Number → List Writte
 called_so x c p ms w = and_then (matched_so x c p ms) (λ v. checked (word_fault v.said.fields 1 (is_matched v.matches) w) (Ok v))
 
 -- with matches
-abbrev pub with_matches : Sofar → List (ℕ × ℕ × ℕ) → Sofar
+abbrev pub with_matches : TablesSoFar → List (ℕ × ℕ × ℕ) → TablesSoFar
 with_matches v ms = so_far v.said v.tables v.groups v.rows [] ms
 
 -- the value of a match, which is exact unless a length follows

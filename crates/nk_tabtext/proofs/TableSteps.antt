@@ -35,12 +35,12 @@ use Rattle.nk_tabgrammar.specs.States as states
 use Rattle.nk_tabgrammar.specs.States.{after_token}
 use Rattle.nk_tabtext.specs.Values.{FaultLine, checked, group_fault, group_of, table_fault, table_with}
 use Rattle.nk_tabtext.specs.Progress.{FillingValue, PartialValue, KnownValue, finished, finished_at, group_ends_told, known_after, number_of_token}
-use Rattle.nk_tabtext.proofs.Stages.{Sofar, so_far, with_sets, tabled_so, grouped_so, rowed_so, numbered_so, filled_so, owned_so, assigned_so, table_more, no_row_more, group_more}
+use Rattle.nk_tabtext.proofs.Stages.{TablesSoFar, so_far, with_sets, tabled_so, grouped_so, rowed_so, numbered_so, filled_so, owned_so, assigned_so, table_more, no_row_more, group_more}
 use Rattle.nk_tabtext.proofs.Fitting.{Closes, Fits, Gives, Groups, Opens, Owns, Rows, gives_filling, gives_more, gives_on, gives_still, gives_table}
 use Rattle.nk_tabtext.proofs.Going.{Both, Follows, both_if, both_last, by_token, none_if}
 
 -- what is said, unless a rule is broken
-abbrev pub checked_ok : FaultLine → Sofar → Result Sofar ReadError
+abbrev pub checked_ok : FaultLine → TablesSoFar → Result TablesSoFar ReadError
 checked_ok o v = checked o (Ok v)
 
 -- a group by its parts
@@ -52,7 +52,7 @@ abbrev row_by : ℕ → List (ℕ × ℕ × ℕ) → Target → Row
 row_by n ms a = record { priority = n; matches = ms; target = a }
 
 -- a table stays open, whatever is told of its group or row
-pub opens_still : (x : WrittenTables) (c d : WrittenTable) (rs qs : List Row) (v w : Sofar) (p : PartialValue) (f : FillingValue) → Opens x c rs v p
+pub opens_still : (x : WrittenTables) (c d : WrittenTable) (rs qs : List Row) (v w : TablesSoFar) (p : PartialValue) (f : FillingValue) → Opens x c rs v p
     → d.switch.value ≡ c.switch.value → w.said ≡ v.said → w.tables ≡ v.tables → f.switch ≡ p.filling.switch → f.groups ≡ w.groups → f.rows ≡ qs
     → Opens x d qs w (record p { filling = f })
 opens_still x c d rs qs v w p f h at said tables switch groups rows = record {
@@ -71,7 +71,7 @@ rows_same rs n ms a f b r p m e =
     ap (λ l. l ++ row_by f.priority f.matches b ∷ []) r ∙ ap (λ k. rs ++ row_by k f.matches b ∷ []) p ∙ ap (λ l. rs ++ row_by n l b ∷ []) m ∙ ap (λ y. rs ++ row_by n ms y ∷ []) e
 
 -- the table is whole
-closes_tables : (x : WrittenTables) (c : WrittenTable) (v : Sofar) (p : PartialValue) → Opens x c v.rows v p
+closes_tables : (x : WrittenTables) (c : WrittenTable) (v : TablesSoFar) (p : PartialValue) → Opens x c v.rows v p
     → finished p.tables p.filling ≡ insert_entry nat_cmp v.tables c.switch.value (table_with c.switch v.groups v.rows)
 closes_tables x c v p d =
     ap (λ o. finished_at o p.tables p.filling) d.switch
@@ -177,7 +177,7 @@ pub record Rest (f g : FillingValue) : Type 0 where
   pub priority : f.priority ≡ g.priority
   pub matches : f.matches ≡ g.matches
 
-pub owns_still : (x : WrittenTables) (c : WrittenTable) (o : Owner) (ss ts : List (ℕ × ℕ)) (e : Exit) (v : Sofar) (p : PartialValue) (f : FillingValue) → Owns x c o ss v p
+pub owns_still : (x : WrittenTables) (c : WrittenTable) (o : Owner) (ss ts : List (ℕ × ℕ)) (e : Exit) (v : TablesSoFar) (p : PartialValue) (f : FillingValue) → Owns x c o ss v p
     → Rest f p.filling → f.sets ≡ ts → Owns x c o ts (with_sets v ts e) (record p { filling = f })
 owns_still x c (owner.Row q ms) ss ts e v p f h r s = (
   opens_still x c c v.rows v.rows v (with_sets v ts e) p f h.0 refl refl refl r.switch (r.groups ∙ h.0.groups) (r.rows ∙ h.0.rows),
@@ -190,7 +190,7 @@ owns_still x c o ss ts e v p f h r s = (
   r.number ∙ h.2,
 )
 
-pub owns_sets : (x : WrittenTables) (c : WrittenTable) (o : Owner) (ss : List (ℕ × ℕ)) (v : Sofar) (p : PartialValue) → Owns x c o ss v p → p.filling.sets ≡ ss
+pub owns_sets : (x : WrittenTables) (c : WrittenTable) (o : Owner) (ss : List (ℕ × ℕ)) (v : TablesSoFar) (p : PartialValue) → Owns x c o ss v p → p.filling.sets ≡ ss
 owns_sets x c (owner.First n) ss v p h = h.1.sets
 owns_sets x c (owner.Next g) ss v p h = h.1.sets
 owns_sets x c (owner.Row q ms) ss v p h = h.1.sets
@@ -211,7 +211,7 @@ step_first_bucket x c n k t h =
     (refl, (h.0, bucket_opens x c (owner.First n) k t h.1)))
 
 -- the group is whole
-pub group_closes : (x : WrittenTables) (c : WrittenTable) (g : WrittenGroup) (v : Sofar) (p : PartialValue) → Owns x c (owner.Next g) [] v p
+pub group_closes : (x : WrittenTables) (c : WrittenTable) (g : WrittenGroup) (v : TablesSoFar) (p : PartialValue) → Owns x c (owner.Next g) [] v p
     → Groups x (with_group c g) (so_far v.said v.tables (insert_entry nat_cmp v.groups g.number.value (group_of g.number v.buckets)) [] [] []) (record p { filling = group_ends_told p.filling })
 group_closes x c g v p d = (
   opens_still x c (with_group c g) [] [] v (so_far v.said v.tables (insert_entry nat_cmp v.groups g.number.value (group_of g.number v.buckets)) [] [] []) p (group_ends_told p.filling) d.0

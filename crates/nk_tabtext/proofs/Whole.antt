@@ -25,8 +25,8 @@ use Rattle.nk_tabgrammar.specs.declared.states.Tells.TheVariants as tells
 use Rattle.nk_tabgrammar.specs.States.{MaybeStep, after_token, bucket_state, in_bucket, state_of_stage}
 use Rattle.nk_tabtext.specs.Values.{group_of, line_if, unless_at}
 use Rattle.nk_tabtext.specs.Progress.{PartialValue, KnownValue, finished, known_after}
-use Rattle.nk_tabtext.proofs.Sofar.{then_assoc}
-use Rattle.nk_tabtext.proofs.Stages.{Sofar, so_far, tabled_so, grouped_so, filled_so, group_more}
+use Rattle.nk_tabtext.proofs.Prefixes.{then_assoc}
+use Rattle.nk_tabtext.proofs.Stages.{TablesSoFar, so_far, tabled_so, grouped_so, filled_so, group_more}
 use Rattle.nk_tabtext.proofs.Fitting.{Closes, Fits, Gives, Groups, Owns, gives_more}
 use Rattle.nk_tabtext.proofs.Going.{Both, Follows}
 use Rattle.std.specs.Prelude.{is_none}
@@ -43,7 +43,7 @@ use Rattle.nk_tabgrammar.specs.Machine.{Reading, first_table_reading, table_judg
 use Rattle.nk_tabgrammar.specs.States.{at_end}
 use Rattle.nk_tabtext.specs.Values.{tables_from, whole}
 use Rattle.nk_tabtext.specs.Progress.{Progress, ReadsAsWhole, Sound, Faulty, Stopped, read_at_end, end_told, first_table_progress, progress_after, progress_on, step_on, tables_of_progress}
-use Rattle.nk_tabtext.proofs.Sofar.{checked_assoc}
+use Rattle.nk_tabtext.proofs.Prefixes.{checked_assoc}
 use Rattle.nk_tabtext.proofs.Stages.{declared_so, no_table_more}
 use Rattle.nk_tabtext.proofs.Fitting.{Declares, Ported, ports_so}
 use Rattle.nk_tabtext.proofs.DeclarationSteps.{step_start, step_version, step_between, step_field, step_named, step_tag, step_switch, step_numbered, step_first_port, step_next_port, step_port, step_link, switch_ends, switch_more, with_ports}
@@ -129,7 +129,7 @@ to_end (Err (error.TableFault l)) R tl (Faulty m) h = h
 to_end r R tl k h = absurd h
 
 -- the tables of what is said
-abbrev tables_so : ℕ → Sofar → Result Tables ReadError
+abbrev tables_so : ℕ → TablesSoFar → Result Tables ReadError
 tables_so line v = unless_at (line_if (is_none v.said.fields.tag) line) (whole v.said v.tables)
 
 from_so : (line : ℕ) (y : WrittenTables) → tables_from line y ≡ and_then (tabled_so y) (tables_so line)
@@ -138,7 +138,7 @@ from_so line y = simp (then_assoc, checked_assoc)
 closes_end : (y : WrittenTables) (tl : Tells) (k : KnownValue) (line : ℕ) → Gives (tabled_so y) (λ v p. Closes y v.tables v p) (known_end tl k) → read_at_end k (Some tl) line ≡ tables_from line y
 closes_end y tl k line h = on (tabled_so y) k h ∙ sym (from_so line y)
   where
-    on : (r : Result Sofar ReadError) (l : KnownValue) → Gives r (λ v p. Closes y v.tables v p) (known_end tl l) → read_at_end l (Some tl) line ≡ and_then r (tables_so line)
+    on : (r : Result TablesSoFar ReadError) (l : KnownValue) → Gives r (λ v p. Closes y v.tables v p) (known_end tl l) → read_at_end l (Some tl) line ≡ and_then r (tables_so line)
     on (Ok v) (Sound p) g =
         ap (λ (s : DeclaredValue). unless_at (line_if (is_none s.fields.tag) line) (whole s (finished (end_told tl p).tables (end_told tl p).filling))) g.said
         ∙ ap (λ ts. unless_at (line_if (is_none v.said.fields.tag) line) (whole v.said ts)) g.tables

@@ -25,7 +25,7 @@ use Rattle.nk_compile.specs.WholeTable.{TagTree, rows_of_trees}
 use Rattle.nk_compile.proofs.OneTagList.{three, one_tag_list}
 use Rattle.nk_compile.proofs.Orders.{one_least, same_sorted}
 use Rattle.nk_compile.proofs.ReasonByName.{alike}
-use Rattle.nk_compact.specs.declared.compact.Apart.{Apart}
+use Rattle.nk_compact.specs.declared.compact.DistinguishingHistory.{DistinguishingHistory}
 use Rattle.nk_compact.specs.declared.compact.Compact.{Compact}
 use Rattle.nk_compact.specs.Compacted.{IsOfFirstSetAlone, IsLeastAlone, IsFirstSet, IsApartIn, classes_apart, AreAparts, IsCompactOf, IsCompacted}
 use Rattle.nk_compact.specs.MergedTable.{GivesAfter, IsOfClass, IsMetMember, IsFirstPlace, IsActingMember, ActsFor, IsClassTree, HasClassRowsAt, IsClassTable, IsMergedTable}
@@ -154,7 +154,7 @@ module _ (fields : FieldTable) (p : Policy) where
     one_first_set : (c : ℕ) (s t : List ℕ) → IsFirstSet tags classes c s → IsFirstSet tags classes c t → s ≡ t
     one_first_set c s t h k = set_is s t (sym h.2 ∙ ap (λ i. slice_get tags i) (one_first (IsOfClass classes c) h.0 k.0 h.1 k.1) ∙ k.2)
 
-    one_apart : (a b : Apart) → IsApartIn fields p tags classes a → IsApartIn fields p tags classes b → a.first ≡ b.first → a.second ≡ b.second → a ≡ b
+    one_apart : (a b : DistinguishingHistory) → IsApartIn fields p tags classes a → IsApartIn fields p tags classes b → a.first ≡ b.first → a.second ≡ b.second → a ≡ b
     one_apart a b h k e f =
         let s = one_first_set b.first h.s k.s (subst (λ c. IsFirstSet tags classes c h.s) e h.of_first) k.of_first in
         let t = one_first_set b.second h.t k.t (subst (λ c. IsFirstSet tags classes c h.t) f h.of_second) k.of_second in
@@ -169,17 +169,17 @@ module _ (fields : FieldTable) (p : Policy) where
         let start = ap (λ (z : Found). z.start) one.1 in
         λ n. record { first = e n; second = f n; alone = one.0 n; start = start n; history = record { records = records n; last = last n } }
 
-    abbrev IsBefore : Apart → Apart → Type 0
+    abbrev IsBefore : DistinguishingHistory → DistinguishingHistory → Type 0
     IsBefore a b = (a.first < b.first) ⊎ ((a.first ≡ b.first) × (a.second < b.second))
 
-    before_once : (a b : Apart) → IsBefore a b → IsBefore b a → ⊥
+    before_once : (a b : DistinguishingHistory) → IsBefore a b → IsBefore b a → ⊥
     before_once a b (inl lt) (inl less) = omega (arith, lt, less)
     before_once a b (inl lt) (inr k) = omega (arith, lt, k.0)
     before_once a b (inr h) (inl less) = omega (arith, less, h.0)
     before_once a b (inr h) (inr k) = omega (arith, h.1, k.1)
 
     -- what tells two classes apart in one list does in the other
-    there : (xs ys : List Apart) → AreAparts fields p tags classes xs → AreAparts fields p tags classes ys → (a : Apart) → In xs a → In ys a
+    there : (xs ys : List DistinguishingHistory) → AreAparts fields p tags classes xs → AreAparts fields p tags classes ys → (a : DistinguishingHistory) → In xs a → In ys a
     there xs ys h k a i =
         let here = contains_from_in (map classes_apart xs) (classes_apart a) (in_mapped classes_apart xs a i) in
         let b = from_mapped classes_apart ys (classes_apart a) (in_from_contains (map classes_apart ys) (classes_apart a) ((k.exactly a.first a.second).1 ((h.exactly a.first a.second).0 here))) in
@@ -189,7 +189,7 @@ module _ (fields : FieldTable) (p : Policy) where
         (ap (λ (q : ℕ × ℕ). q.0) b.2) (ap (λ (q : ℕ × ℕ). q.1) b.2) in
         subst (In ys) (sym same) b.1
 
-    one_aparts : (xs ys : List Apart) → AreAparts fields p tags classes xs → AreAparts fields p tags classes ys → xs ≡ ys
+    one_aparts : (xs ys : List DistinguishingHistory) → AreAparts fields p tags classes xs → AreAparts fields p tags classes ys → xs ≡ ys
     one_aparts xs ys h k = same_sorted IsBefore before_once xs ys h.in_order k.in_order (there xs ys h k) (there ys xs k h)
 
 -- ---- both

@@ -8,9 +8,9 @@ use Rattle.nk_store.specs.StoreState.{StoreState}
 use Rattle.nk_apply.specs.Seqs.{no_out}
 use Rattle.nk_determ.specs.Pairs.{Node, IsStep}
 use Rattle.nk_determ.specs.Levels.{IsViolation, AreLevels}
-use Rattle.nk_determ.specs.Breaks.{MakesWithTarget}
+use Rattle.nk_determ.specs.Counterexamples.{MakesWithTarget}
 use Rattle.nk_witness.specs.declared.choice.Choice.{Choice}
-use Rattle.nk_witness.specs.Histories.{IsBreak, Breaks, PrecedesOrEquals, IsGreedy}
+use Rattle.nk_witness.specs.Histories.{IsCounterexampleWithTarget, IsCounterexample, PrecedesOrEquals, IsGreedy}
 use Rattle.nk_witness.specs.Backs.{IsBack}
 use Rattle.nk_witness.specs.Choices.{IsAny, IsChoiceUpTo, IsBest}
 use Rattle.nk_witness.specs.Finds.{target_of, IsForward}
@@ -55,7 +55,7 @@ greedy_of old st ss states start bad h back set first records s x outs b one f i
 
 -- by levels it is the least
 pub least_of : (old : StoreState) (oss : List (List ℕ)) (states : List ℕ) (set start : ℕ) (bad : List ℕ → List ℕ → List Out) (ls : List (List (ℕ × ℕ))) (broken : Bool) (h : ℕ) (f : Found) (n : Node) (target : ℕ) → AreLevels old old oss states set start bad ls broken → length ls ≡ h + 1 →
-    IsGreedy old states (get_or oss set []) start bad h f n target → IsLeast (Breaks old states (get_or oss set []) start bad) f
+    IsGreedy old states (get_or oss set []) start bad h f n target → IsLeast (IsCounterexample old states (get_or oss set []) start bad) f
 least_of old oss states set start bad ls broken h f n target k count g =
     greedy_least old states (get_or oss set []) start bad h f n target g (λ j q b l r. not_early old old oss states set start bad ls broken h j q k count b l r)
 
@@ -67,7 +67,7 @@ all_precede_not (x ∷ xs) (inr p) = all_precede_not xs p.1
 
 -- where a violation with target 0 makes the same last packet, the one that is chosen has target 0
 pub left_first : (old : StoreState) (states set : List ℕ) (start : ℕ) (bad : List ℕ → List ℕ → List Out) (h : ℕ) (f : Found) (n : Node) (target : ℕ) (outs : List Out) (b : Choice) → IsGreedy old states set start bad h f n target → outs ≡ bad n.0 n.1 → IsBest IsAny n.1 outs (length outs) b → f.last ≡ b.packet →
-    IsBreak old states set start bad 0 f → b.target ≡ 0
+    IsCounterexampleWithTarget old states set start bad 0 f → b.target ≡ 0
 left_first old states set start bad h f n target outs b g is best last w =
     elim (least_is_least (IsStep old states) (IsViolation bad) (step_one old states) h (set, f.start) n w.end f.records f.records g.walk w.walk g.count g.count (makes_violation bad w.end f.last 0 w.makes)) [
       | inl both ↦ at (subst (λ (os : List Out). MakesWithTarget os n.1 f.last 0) (sym is) (subst (λ (q : Node). MakesWithTarget (bad q.0 q.1) q.1 f.last 0) (sym both.1) w.makes))

@@ -16,7 +16,7 @@ use Rattle.nk_witness.specs.declared.found.Side.TheVariants.{Left, Right}
 use Rattle.nk_witness.specs.Backs.{IsBack, AreBacks}
 use Rattle.nk_witness.specs.Choices.{IsAny, IsBest}
 use Rattle.nk_witness.specs.Finds.{target_of, IsNextLeast, IsForward}
-use Rattle.nk_witness.specs.Histories.{IsBreak, Breaks, IsGreedy}
+use Rattle.nk_witness.specs.Histories.{IsCounterexampleWithTarget, IsCounterexample, IsGreedy}
 use Rattle.nk_witness.proofs.Backing.{back_at, level_at}
 use Rattle.nk_witness.proofs.Advancing.{IsFirst, start_some, first_of, forward_start, ahead_of, forward_step}
 use Rattle.nk_witness.proofs.Finding.{end_violation, greedy_of, least_of, left_first, best_sided, target_told}
@@ -159,15 +159,15 @@ module _ {old st : StoreState} {oss ss : List (List ℕ)} {states : List ℕ} {s
     greedy : IsGreedy old states (get_or oss set []) start bad (length ls - 1) walked (get_or ss s [], x) b.target
     greedy = greedy_of old st ss states start bad (length ls - 1) (get_or made 0 []) (get_or oss set []) first records s x has b one fe same best
 
-    pub end_breaks : {side : Side} → (b.target ≡ 0 → side ≡ Left) → (b.target ≡ 1 → side ≡ Right) → (best.out.target ≡ 0) ⊎ (best.out.target ≡ 1) → IsBreak old states (get_or oss set []) start bad (target_of side) walked
+    pub end_breaks : {side : Side} → (b.target ≡ 0 → side ≡ Left) → (b.target ≡ 1 → side ≡ Right) → (best.out.target ≡ 0) ⊎ (best.out.target ≡ 1) → IsCounterexampleWithTarget old states (get_or oss set []) start bad (target_of side) walked
     end_breaks {side} left right sided =
-        subst (λ (t : ℕ). IsBreak old states (get_or oss set []) start bad t walked) (target_told side b.target left right (best_sided x has b best sided))
+        subst (λ (t : ℕ). IsCounterexampleWithTarget old states (get_or oss set []) start bad t walked) (target_told side b.target left right (best_sided x has b best sided))
         (greedy_breaks old states (get_or oss set []) start bad (length ls - 1) walked (get_or ss s [], x) b.target greedy)
 
-    pub end_least : IsLeast (Breaks old states (get_or oss set []) start bad) walked
+    pub end_least : IsLeast (IsCounterexample old states (get_or oss set []) start bad) walked
     end_least =
         let some = levels.some in
         least_of old oss states set start bad ls broken (length ls - 1) walked (get_or ss s [], x) b.target levels (omega (arith, some)) greedy
 
-    pub end_left : IsBreak old states (get_or oss set []) start bad 0 walked → b.target ≡ 0
+    pub end_left : IsCounterexampleWithTarget old states (get_or oss set []) start bad 0 walked → b.target ≡ 0
     end_left w = left_first old states (get_or oss set []) start bad (length ls - 1) walked (get_or ss s [], x) b.target has b greedy same best refl w

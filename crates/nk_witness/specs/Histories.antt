@@ -1,12 +1,12 @@
 -- Histories that follow set states and end at a violation, and the least of them.
-pub use Rattle.nk_determ.specs.Breaks.{Walks, IsBreak, Breaks}
+pub use Rattle.nk_determ.specs.Counterexamples.{Walks, IsCounterexampleWithTarget, IsCounterexample}
 use Rattle.std.specs.Prelude.{◌≡◌, ℕ, zero, suc, ◌⊎◌, List, [], ◌∷◌, length}
 use Rattle.nk_field.specs.Order.{Found, Precedes}
 use Rattle.nk_store.specs.declared.node.Out.{Out}
 use Rattle.nk_store.specs.StoreState.{StoreState}
 use Rattle.nk_determ.specs.Pairs.{Node, IsStart, IsStep}
 use Rattle.nk_determ.specs.Levels.{IsViolation}
-use Rattle.nk_determ.specs.Breaks.{MakesWithTarget}
+use Rattle.nk_determ.specs.Counterexamples.{MakesWithTarget}
 
 -- something bad is met in exactly so many steps
 abbrev pub LeadsToViolation : (Node → Node → Type 0) → (Node → Type 0) → ℕ → Node → Type 0

@@ -5,7 +5,7 @@ ghost use Rattle.nk_store.specs.StoreState.{StoreState, IsStorePacket, Grows};
 ghost use Rattle.nk_determ.specs.Sets.{SetsGrow, HasEachSetOnce};
 ghost use Rattle.nk_determ.specs.Pairs.{AreStates};
 ghost use Rattle.nk_determ.specs.Levels.{AreLevels};
-ghost use Rattle.nk_witness.specs.Histories.{IsBreak, Breaks};
+ghost use Rattle.nk_witness.specs.Histories.{IsCounterexampleWithTarget, IsCounterexample};
 ghost use Rattle.nk_witness.specs.Backs.{AreBacks};
 ghost use Rattle.nk_witness.specs.Finds.{first_set, first_packets, target_of, found_of};
 
@@ -40,14 +40,17 @@ pub fn least_history<G: Goal>(
     ensures grows { Grows st.old st.new }
     ensures sets { SetsGrow ss.old ss.new }
     ensures breaks { IfOk result (λ f.
-        IsBreak st.old states.now (slice_index_or ss.old (first_set l.now.levels) [])
+        IsCounterexampleWithTarget st.old states.now
+        (slice_index_or ss.old (first_set l.now.levels) [])
         (first_packets l.now.levels) (G.violations_of g.old st.old) (target_of f.side)
         (found_of f)) }
     ensures least { IfOk result (λ f.
-        IsLeast (Breaks st.old states.now (slice_index_or ss.old (first_set l.now.levels) [])
+        IsLeast (IsCounterexample st.old states.now
+        (slice_index_or ss.old (first_set l.now.levels) [])
         (first_packets l.now.levels) (G.violations_of g.old st.old)) (found_of f)) }
     ensures left { IfOk result (λ f.
-        IsBreak st.old states.now (slice_index_or ss.old (first_set l.now.levels) [])
+        IsCounterexampleWithTarget st.old states.now
+        (slice_index_or ss.old (first_set l.now.levels) [])
         (first_packets l.now.levels) (G.violations_of g.old st.old) 0 (found_of f)
         → f.side ≡ Side.Left) }
     ensures range { IfOk result (λ f. IsStorePacket st.old f.history.last) }
@@ -80,14 +83,17 @@ fn go_forward<G: Goal>(
     ensures grows { Grows st.old st.new }
     ensures sets { SetsGrow ss.old ss.new }
     ensures breaks { IfOk result (λ f.
-        IsBreak st.old states.now (slice_index_or ss.old (first_set l.now.levels) [])
+        IsCounterexampleWithTarget st.old states.now
+        (slice_index_or ss.old (first_set l.now.levels) [])
         (first_packets l.now.levels) (G.violations_of g.old st.old) (target_of f.side)
         (found_of f)) }
     ensures least { IfOk result (λ f.
-        IsLeast (Breaks st.old states.now (slice_index_or ss.old (first_set l.now.levels) [])
+        IsLeast (IsCounterexample st.old states.now
+        (slice_index_or ss.old (first_set l.now.levels) [])
         (first_packets l.now.levels) (G.violations_of g.old st.old)) (found_of f)) }
     ensures left { IfOk result (λ f.
-        IsBreak st.old states.now (slice_index_or ss.old (first_set l.now.levels) [])
+        IsCounterexampleWithTarget st.old states.now
+        (slice_index_or ss.old (first_set l.now.levels) [])
         (first_packets l.now.levels) (G.violations_of g.old st.old) 0 (found_of f)
         → f.side ≡ Side.Left) }
     ensures range { IfOk result (λ f. IsStorePacket st.old f.history.last) }

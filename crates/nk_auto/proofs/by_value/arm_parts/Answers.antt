@@ -26,7 +26,7 @@ loop-i-preserved c =
       below = below_step c.loop-i.from c.loop-i.i x arms l c.at.ensures (omega (arith, le, rise)) c.loop-i.invariant.below;
       alone = alone_step c.args.st.now c.loop-i.from c.loop-i.i x arms l c.at.ensures le c.loop-i.invariant.below c.loop-i.invariant.alone;
       built = arm_step c.args.st.now c.args.f c.loop-i.from c.loop-i.i c.args.outside x arms c.loop-i.parts c.push_gap.new.parts c.push.new.self c.requires.field l
-          c.at.ensures le rise c.requires.behind c.requires.outside c.loop-i.invariant.below c.in_ok-push_gap.ensures c.in_ok-push.ensures.ok c.loop-i.invariant.built;
+          c.at.ensures le rise c.requires.children c.requires.outside c.loop-i.invariant.below c.in_ok-push_gap.ensures c.in_ok-push.ensures.ok c.loop-i.invariant.built;
     }
 
 pub returns-then-hi-max-2-clause-parts : goal.returns-then-hi-max-2-clause-parts
@@ -37,7 +37,7 @@ returns-then-hi-max-2-clause-parts c =
     let le : c.loop-i.from ≤ x.0.0 = omega arith in
     let rise : x.0.0 ≤ x.0.1 = omega arith in
     let step = arm_step c.args.st.now c.args.f c.loop-i.from c.loop-i.i c.args.outside x arms c.loop-i.parts c.push_gap.new.parts c.push.new.self c.requires.field l
-    c.at.ensures le rise c.requires.behind c.requires.outside c.loop-i.invariant.below c.in_ok-push_gap.ensures c.in_ok-push.ensures.ok c.loop-i.invariant.built in
+    c.at.ensures le rise c.requires.children c.requires.outside c.loop-i.invariant.below c.in_ok-push_gap.ensures c.in_ok-push.ensures.ok c.loop-i.invariant.built in
     let all : take (c.loop-i.i + 1) arms ≡ arms = take_all (c.loop-i.i + 1) arms (omega arith) in
     arms_parts c.args.st.now c.args.f c.max-max.result arms c.push.new.self c.requires.field c.max-max.ensures
     (subst (λ n. Built (by_arm c.args.st.now arms) c.args.st.now c.args.f (n + 1) c.push.new.self) c.if-hi-max-2.true

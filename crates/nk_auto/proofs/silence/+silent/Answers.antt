@@ -12,7 +12,7 @@ use Rattle.nk_apply.proofs.MadeOf.{on_any}
 use Rattle.nk_auto.specs.Continued.{IsSilent}
 use Rattle.nk_auto.specs.ByValue.{IsArm, AreArms}
 use Rattle.nk_auto.proofs.DrawnAssignments.{assignments_grow, alone_silent}
-use Rattle.nk_auto.proofs.ByValue.{Arm, arm_behind, arms_grow, arms_more, arms_moved}
+use Rattle.nk_auto.proofs.ByValue.{Arm, arm_child, arms_grow, arms_more, arms_moved}
 use Rattle.nk_auto.proofs.Grown.{leaves_grow}
 use Rattle.nk_auto.proofs.Parts.{trees_before}
 use Rattle.nk_auto.proofs.Silences.{silent_grow, cons_silent, none_at_place, none_between, not_silent, star_silent}
@@ -102,12 +102,12 @@ arms_of-returns-clause-ok t c =
     (arms_moved c.loop-i.st c.args.f c.into_vec-arms.result.items c.sort_unstable.new.self.items (sum_of (trees_of c.args.ps.now)) c.sort_unstable.ensures.permutation
     (subst (λ (xs : List Arm). AreArms c.loop-i.st c.args.f xs (sum_of (trees_of c.args.ps.now))) (sym c.into_vec-arms.ensures) found))
 
-pub arm_of_all-returns-then-is_behind-clause-ok : goal.arm_of_all-returns-then-is_behind-clause-ok
-arm_of_all-returns-then-is_behind-clause-ok t c =
+pub arm_of_all-returns-then-is_child-clause-ok : goal.arm_of_all-returns-then-is_child-clause-ok
+arm_of_all-returns-then-is_child-clause-ok t c =
     let some : 0 < length c.args.ps.now = omega (arith, c.if-ps-eq0.false) in
-    let child = c.is_behind.ensures c.if-is_behind.true in
+    let child = c.is_child.ensures c.if-is_child.true in
     subst (λ ps. IsArm c.what_follows.new.st c.args.f (c.in-Some.ends, c.in_ok-d.d) (seq_of ps)) (sym (ap trees_of (left_is c.args.ps.now 0 c.index-ps-0.result some c.index-ps-0.is)))
-    (arm_behind c.what_follows.new.st c.args.f c.in_ok-d.d c.in-Some.ends (tree_of c.index-ps-0.result) (trees_of (drop 1 c.args.ps.now)) c.in-Some.ensures c.in_ok-d.ensures.ok child)
+    (arm_child c.what_follows.new.st c.args.f c.in_ok-d.d c.in-Some.ends (tree_of c.index-ps-0.result) (trees_of (drop 1 c.args.ps.now)) c.in-Some.ensures c.in_ok-d.ensures.ok child)
 
 pub what_follows-returns-in-Some-clause-ok : goal.what_follows-returns-in-Some-clause-ok
 what_follows-returns-in-Some-clause-ok t c =

@@ -15,5 +15,5 @@ close_all-requires-clause-pre c = known_on c.args.st.now c.add_level.new.st c.ar
 pub returns-clause-ok : goal.returns-clause-ok
 returns-clause-ok c =
     subst (λ ps. IsClosure c.args.st.now c.args.ts.now c.args.goal c.close_all.new.st ps) (sym c.new.ensures)
-    (closure_from c.args.st.now c.add_level.new.st c.close_all.new.st c.args.ts.now c.args.goal c.add_level.new.met.entries c.close_all.new.back.entries c.add_level.ensures.grows c.requires.given
-    (subst (λ ps. IsMerged c.args.st.now ps c.args.goal c.add_level.new.st c.add_level.new.met.entries) c.new-back.ensures.empty c.in_ok-add_level.ensures.ok) c.in_ok-close_all.ensures.ok)
+    (closure_from c.args.st.now c.add_level.new.st c.close_all.new.st c.args.ts.now c.args.goal c.add_level.new.visited.entries c.close_all.new.back.entries c.add_level.ensures.grows c.requires.given
+    (subst (λ ps. IsMerged c.args.st.now ps c.args.goal c.add_level.new.st c.add_level.new.visited.entries) c.new-back.ensures.empty c.in_ok-add_level.ensures.ok) c.in_ok-close_all.ensures.ok)

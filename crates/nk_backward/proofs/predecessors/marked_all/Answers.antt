@@ -3,7 +3,7 @@ use Rattle.nk_store.proofs.Stores.{grows_on, grows_same}
 use Rattle.std.proofs.lemmas.List.{get_or_default}
 use Rattle.nk_outs.proofs.Givens.{is_given_on}
 use Rattle.nk_outs.specs.Outs.{IsGiven}
-use Rattle.nk_outs.specs.declared.outs.Given.{Given}
+use Rattle.nk_outs.specs.declared.outs.OutPackets.{OutPackets}
 use Rattle.nk_backward.specs.declared.transitions.Transitions.{Transitions}
 use Rattle.nk_backward.specs.Predecessors.{out_at, place_at, AreMarked}
 use Rattle.nk_backward.proofs.Tracing.{at_place}
@@ -32,7 +32,7 @@ push_marked-requires-clause-given c =
     let l : c.loop-n.n < length c.args.places.now = omega (arith, c.loop-n-test.true, c.len-n-end.ensures) in
     let w = place_here c.args.ts.now c.args.places.now c.loop-n.n c.at-place.result.now c.requires.places l c.at-place.ensures in
     let is = out_here c.args.ts.now c.at-place.result.now c.at-t.result.now c.at-q.result.now w.0 w.1 c.at-t.ensures c.at-q.ensures in
-    is_given_on c.args.st.now c.loop-n.st c.at-q.result.now c.loop-n.invariant.grows (subst (λ (q : Given). IsGiven c.args.st.now q) (sym is) (c.requires.given c.at-place.result.now.0 w.0 c.at-place.result.now.1 w.1))
+    is_given_on c.args.st.now c.loop-n.st c.at-q.result.now c.loop-n.invariant.grows (subst (λ (q : OutPackets). IsGiven c.args.st.now q) (sym is) (c.requires.given c.at-place.result.now.0 w.0 c.at-place.result.now.1 w.1))
 
 pub loop-n-preserved : goal.loop-n-preserved
 loop-n-preserved c =

@@ -9,4 +9,4 @@ returns-then-is_empty-clause-ok c = widened_empty c.args.st.now c.args.s c.args.
 pub returns-clause-ok : goal.returns-clause-ok
 returns-clause-ok c =
     widened_put c.args.st.now c.add.new.st c.args.s c.args.y c.args.back.now.entries c.add.new.pairs.entries c.is_same.result c.add.ensures.grows c.requires.back c.in_ok-add.ensures.ok
-    (λ e. let x = c.is_same.ensures e in (x.0, sym c.under-before.ensures ∙ x.1, sym c.under-after.ensures ∙ x.2))
+    (λ e. let x = c.is_same.ensures e in (x.0, sym c.packets_of_set-before.ensures ∙ x.1, sym c.packets_of_set-after.ensures ∙ x.2))

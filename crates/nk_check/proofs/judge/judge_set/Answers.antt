@@ -33,8 +33,8 @@ pub next_level-requires-clause-states : goal.next_level-requires-clause-states
 next_level-requires-clause-states c =
     subst (AreStates c.any_violation.new.st) (sym c.as_slice.ensures) (states_grow c.args.st.now c.any_violation.new.st c.args.judge.now.states c.any_violation.ensures.grows c.requires.can.states_are)
 
-pub next_level-requires-clause-met : goal.next_level-requires-clause-met
-next_level-requires-clause-met c =
+pub next_level-requires-clause-visited : goal.next_level-requires-clause-visited
+next_level-requires-clause-visited c =
     subst (λ (r : List ℕ). ArePairs c.any_violation.new.st c.args.ss.now (length r) c.args.judge.now.told.entries) (sym c.as_slice.ensures)
     (pairs_on c.args.st.now c.any_violation.new.st c.args.ss.now c.args.ss.now (length c.args.judge.now.states) c.args.judge.now.told.entries c.any_violation.ensures.grows (sets_refl c.args.ss.now) c.requires.can.told_are)
 

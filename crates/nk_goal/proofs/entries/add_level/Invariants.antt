@@ -6,5 +6,5 @@ use Rattle.nk_goal.proofs.entries.add_level.Given as goal
 abbrev pub invariant-loop-k : goal.invariant-loop-k
 invariant-loop-k l = record {
   grows : Grows l.fn.st l.st;
-  merged : IsMerged l.fn.st l.fn.met.entries (take l.k l.level) l.st l.met.entries;
+  merged : IsMerged l.fn.st l.fn.visited.entries (take l.k l.level) l.st l.visited.entries;
 }

@@ -8,10 +8,10 @@ use Rattle.nk_goal.proofs.Growing.{packets_of, each_weaker}
 use Rattle.nk_reach.proofs.Nexts.{next_of_raw}
 use Rattle.nk_reach.proofs.rounds.next_level.Goals as goal
 
-pub fresh-requires-clause-met : goal.fresh-requires-clause-met
-fresh-requires-clause-met c =
-    each_weaker (λ p. IsSet c.args.st.now p.1) (λ p. IsSet c.follow_level.new.st p.1) c.args.met.now.entries (λ p q. set_grows c.args.st.now c.follow_level.new.st p.1 c.follow_level.ensures.grows q)
-    (packets_of c.args.st.now c.args.ss.now (length c.args.states.now) c.args.met.now.entries c.requires.met.each)
+pub fresh-requires-clause-visited : goal.fresh-requires-clause-visited
+fresh-requires-clause-visited c =
+    each_weaker (λ p. IsSet c.args.st.now p.1) (λ p. IsSet c.follow_level.new.st p.1) c.args.visited.now.entries (λ p q. set_grows c.args.st.now c.follow_level.new.st p.1 c.follow_level.ensures.grows q)
+    (packets_of c.args.st.now c.args.ss.now (length c.args.states.now) c.args.visited.now.entries c.requires.visited.each)
 
 pub fresh-requires-clause-raw : goal.fresh-requires-clause-raw
 fresh-requires-clause-raw c =
@@ -23,6 +23,6 @@ fresh-requires-clause-apart c = subst Once (sym c.in_ok-raw.ensures) c.in_ok-fou
 
 pub returns-clause-ok : goal.returns-clause-ok
 returns-clause-ok c =
-    next_of_raw c.args.st.now c.follow_level.new.st c.fresh.new.st c.args.ss.now c.follow_level.new.ss c.args.states.now c.args.met.now.entries c.args.last.now c.in_ok-raw.raw c.in_ok-level.level
+    next_of_raw c.args.st.now c.follow_level.new.st c.fresh.new.st c.args.ss.now c.follow_level.new.ss c.args.states.now c.args.visited.now.entries c.args.last.now c.in_ok-raw.raw c.in_ok-level.level
     (subst (IsRaw c.args.st.now c.args.ss.now c.args.states.now c.args.last.now c.follow_level.new.st c.follow_level.new.ss) (sym c.in_ok-raw.ensures) c.in_ok-found.ensures.ok)
-    c.in_ok-level.ensures.ok c.follow_level.ensures.grows c.follow_level.ensures.sets c.requires.met
+    c.in_ok-level.ensures.ok c.follow_level.ensures.grows c.follow_level.ensures.sets c.requires.visited

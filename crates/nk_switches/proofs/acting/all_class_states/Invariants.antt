@@ -6,9 +6,9 @@ use Rattle.nk_switches.specs.Classed.{AreClassStates}
 use Rattle.nk_switches.proofs.acting.all_class_states.Given as goal
 
 -- the switches so far have their diagrams
-abbrev pub invariant-loop-stop : goal.invariant-loop-stop
-invariant-loop-stop l = record {
+abbrev pub invariant-loop-switch_entry : goal.invariant-loop-switch_entry
+invariant-loop-switch_entry l = record {
   grows : Grows l.fn.st l.st;
   sets : SetsGrow l.fn.ss l.ss;
-  made : Matched (AreClassStates l.st l.ss l.states l.tags l.tag) (take l.stop-index l.stops) l.all;
+  made : Matched (AreClassStates l.st l.ss l.states l.tags l.tag) (take l.switch_entry-index l.by_switch) l.all;
 }

@@ -10,5 +10,5 @@ abbrev pub invariant-loop-h : goal.invariant-loop-h
 invariant-loop-h l = record {
   grows : Grows l.fn.st l.st;
   sets : SetsGrow l.fn.ss l.ss;
-  made : Matched (IsClassState l.st l.ss l.states l.tags l.tag l.stop.switch) (take l.h-index l.h-items) l.tag_states;
+  made : Matched (IsClassState l.st l.ss l.states l.tags l.tag l.switch_entry.switch) (take l.h-index l.h-items) l.tag_states;
 }

@@ -5,12 +5,12 @@ use Rattle.nk_switches.specs.Made.{ArePrintableStates, IsTableBy}
 use Rattle.nk_switches.specs.Tagged.{IsTagTable}
 use Rattle.nk_switches.specs.Classed.{AreClassStates}
 use Rattle.nk_switches.proofs.Tagging.{same_some}
-use Rattle.nk_switches.proofs.ClassTables.{stop_classes, tags_within, class_tables_are, all_class_printable}
+use Rattle.nk_switches.proofs.ClassTables.{switch_classes, tags_within, class_tables_are, all_class_printable}
 use Rattle.nk_switches.proofs.classes.class_tables.Goals as goal
 
 pub all_class_states-requires-clause-acting : goal.all_class_states-requires-clause-acting
 all_class_states-requires-clause-acting c = λ k d lt.
-    stop_classes c.args.st.now c.args.ss.now c.args.states.now c.args.tags.now c.requires.frame.0 _ (c.requires.stops c.requires.frame.0 c.requires.frame.1 k d lt)
+    switch_classes c.args.st.now c.args.ss.now c.args.states.now c.args.tags.now c.requires.frame.0 _ (c.requires.by_switch c.requires.frame.0 c.requires.frame.1 k d lt)
 
 pub class_targets-requires : goal.class_targets-requires
 class_targets-requires c = record {
@@ -26,9 +26,9 @@ all_tables-requires-clause-printable c = λ tag is.
     let same = same_some c.in-Some.tag tag (sym c.in-Some.is ∙ c.tag.ensures.is ∙ before) in
     subst (All (ArePrintableStates c.all_class_states.new.st tag)) (sym c.as_slice-3.ensures)
     (all_class_printable c.args.st.now c.all_class_states.new.st c.args.ss.now c.all_class_states.new.ss c.args.states.now c.args.tags.now c.args.classes.now tag c.all_class_states.ensures.grows
-    c.all_class_states.ensures.sets c.requires.states c.requires.known c.differ.ensures.differ c.differ.ensures.ascend past c.laws.ensures.tidy c.args.stops.now c.in_ok-class_states.class_states
-    (c.requires.stops tag before)
-    (subst (λ f. Matched (AreClassStates c.all_class_states.new.st c.all_class_states.new.ss c.args.states.now c.args.tags.now f) c.args.stops.now c.in_ok-class_states.class_states) same
+    c.all_class_states.ensures.sets c.requires.states c.requires.known c.differ.ensures.differ c.differ.ensures.ascend past c.laws.ensures.tidy c.args.by_switch.now c.in_ok-class_states.class_states
+    (c.requires.by_switch tag before)
+    (subst (λ f. Matched (AreClassStates c.all_class_states.new.st c.all_class_states.new.ss c.args.states.now c.args.tags.now f) c.args.by_switch.now c.in_ok-class_states.class_states) same
     c.in_ok-class_states.ensures.tag_states))
 
 pub returns : goal.returns
@@ -39,9 +39,9 @@ returns c = λ tag is.
     class_tables_are c.args.st.now c.all_class_states.new.st c.args.ss.now c.all_class_states.new.ss c.args.states.now c.args.tags.now c.args.classes.now tag c.all_class_states.ensures.grows
     c.all_class_states.ensures.sets c.requires.states c.requires.known c.differ.ensures.differ c.differ.ensures.ascend c.as_slice.result.now
     (subst (IsTagTable (length c.args.tags.now) c.all_class_states.new.ss c.args.tags.now) (sym c.as_slice.ensures) c.in_ok-by_tag.ensures)
-    c.args.stops.now c.as_slice-3.result.now c.into_tables.result (c.requires.stops tag is)
-    (subst (λ f. Matched (AreClassStates c.all_class_states.new.st c.all_class_states.new.ss c.args.states.now c.args.tags.now f) c.args.stops.now c.as_slice-3.result.now) same
-    (subst (Matched (AreClassStates c.all_class_states.new.st c.all_class_states.new.ss c.args.states.now c.args.tags.now c.in-Some.tag) c.args.stops.now) (sym c.as_slice-3.ensures) c.in_ok-class_states.ensures.tag_states))
+    c.args.by_switch.now c.as_slice-3.result.now c.into_tables.result (c.requires.by_switch tag is)
+    (subst (λ f. Matched (AreClassStates c.all_class_states.new.st c.all_class_states.new.ss c.args.states.now c.args.tags.now f) c.args.by_switch.now c.as_slice-3.result.now) same
+    (subst (Matched (AreClassStates c.all_class_states.new.st c.all_class_states.new.ss c.args.states.now c.args.tags.now c.in-Some.tag) c.args.by_switch.now) (sym c.as_slice-3.ensures) c.in_ok-class_states.ensures.tag_states))
     (subst (λ table. Matched (IsTableBy c.all_class_states.new.st table tag) c.as_slice-3.result.now c.into_tables.result) (c.as_slice-2.ensures ∙ c.in_ok-table.ensures)
     (subst (Matched (IsTableBy c.all_class_states.new.st c.as_slice-2.result.now tag) c.as_slice-3.result.now) (sym kept)
     (made.2 tag (c.all_class_states.ensures.grows.tag ∙ is))))

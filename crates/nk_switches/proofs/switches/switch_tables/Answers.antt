@@ -6,12 +6,12 @@ use Rattle.nk_switches.specs.Made.{ArePrintableStates, AreStatesAt}
 use Rattle.nk_switches.specs.Tagged.{IsTagTable}
 use Rattle.nk_switches.proofs.Tagging.{same_some, once_kept}
 use Rattle.nk_switches.proofs.Trees.{frame_grown}
-use Rattle.nk_switches.proofs.Finishing.{stop_places, tables_are, all_printable}
+use Rattle.nk_switches.proofs.Finishing.{switch_places, tables_are, all_printable}
 use Rattle.nk_switches.proofs.switches.switch_tables.Goals as goal
 
 pub all_states-requires-clause-places : goal.all_states-requires-clause-places
 all_states-requires-clause-places g c = λ k d lt.
-    stop_places c.args.st.now c.args.ss.now c.args.states.now c.args.tags.now c.requires.frame.0 _ (c.requires.stops c.requires.frame.0 c.requires.frame.1 k d lt)
+    switch_places c.args.st.now c.args.ss.now c.args.states.now c.args.tags.now c.requires.frame.0 _ (c.requires.by_switch c.requires.frame.0 c.requires.frame.1 k d lt)
 
 pub tag_table-requires-clause-once : goal.tag_table-requires-clause-once
 tag_table-requires-clause-once g c =
@@ -28,7 +28,7 @@ all_tables-requires-clause-printable g c = λ tag is.
     let past = subst (λ f. 2 ≤ f) (same_some c.requires.frame.0 tag (sym c.requires.frame.1 ∙ before)) c.requires.frame.2.past_port in
     subst (All (ArePrintableStates c.all_states.new.st tag)) (sym c.as_slice-2.ensures)
     (all_printable c.args.st.now c.all_states.new.st c.args.ss.now c.all_states.new.ss c.args.states.now c.args.tags.now tag c.all_states.ensures.grows c.all_states.ensures.sets c.requires.states c.requires.known
-    c.differ.ensures.differ c.differ.ensures.ascend past c.laws.ensures.tidy c.args.stops.now c.in_ok-tag_states.tag_states (c.requires.stops tag before) c.in_ok-tag_states.ensures.tag_states)
+    c.differ.ensures.differ c.differ.ensures.ascend past c.laws.ensures.tidy c.args.by_switch.now c.in_ok-tag_states.tag_states (c.requires.by_switch tag before) c.in_ok-tag_states.ensures.tag_states)
 
 pub returns : goal.returns
 returns g c = on_ok_weaker c.all_tables.result (λ made. (
@@ -38,7 +38,7 @@ returns g c = on_ok_weaker c.all_tables.result (λ made. (
       tables_are c.args.st.now c.all_states.new.st c.args.ss.now c.all_states.new.ss c.args.states.now c.args.tags.now tag c.all_states.ensures.grows c.all_states.ensures.sets c.requires.states c.requires.known
       c.differ.ensures.differ c.differ.ensures.ascend c.as_slice.result.now
       (subst (IsTagTable (length c.args.tags.now) c.all_states.new.ss c.args.tags.now) (sym c.as_slice.ensures) c.in_ok-table.ensures)
-      c.args.stops.now c.as_slice-2.result.now made.0 (c.requires.stops tag is)
-      (subst (Matched (AreStatesAt c.all_states.new.st c.all_states.new.ss c.args.states.now c.args.tags.now) c.args.stops.now) (sym c.as_slice-2.ensures) c.in_ok-tag_states.ensures.tag_states)
+      c.args.by_switch.now c.as_slice-2.result.now made.0 (c.requires.by_switch tag is)
+      (subst (Matched (AreStatesAt c.all_states.new.st c.all_states.new.ss c.args.states.now c.args.tags.now) c.args.by_switch.now) (sym c.as_slice-2.ensures) c.in_ok-tag_states.ensures.tag_states)
       (made.2 tag (c.all_states.ensures.grows.tag ∙ is)),
 )) c.all_tables.ensures.tables

@@ -9,5 +9,5 @@ abbrev pub invariant-loop-tag : goal.invariant-loop-tag
 invariant-loop-tag l = record {
   grows : Grows l.fn.st l.st;
   sets : SetsGrow l.fn.ss l.ss;
-  made : AreSoFar l.st l.ss l.states l.tags l.stop.switch (take l.tag-index l.tag-items) l.tag_states;
+  made : AreSoFar l.st l.ss l.states l.tags l.switch_entry.switch (take l.tag-index l.tag-items) l.tag_states;
 }

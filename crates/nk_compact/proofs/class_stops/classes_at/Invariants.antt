@@ -1,7 +1,0 @@
-use Rattle.std.proofs.Common.{◌≡◌}
-use Rattle.nk_compact.specs.ClassStops.{classes_among}
-use Rattle.nk_compact.proofs.class_stops.classes_at.Given as goal
-
--- the classes so far
-abbrev pub invariant-loop-c : goal.invariant-loop-c
-invariant-loop-c l = l.here ≡ classes_among l.classes l.met l.firsts l.tags l.c
