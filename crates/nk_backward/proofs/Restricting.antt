@@ -15,7 +15,7 @@ use Rattle.nk_goal.proofs.Growing.{under_on, under_back}
 use Rattle.nk_goal.proofs.Adding.{under_append, under_left, under_right, named_left, named_right}
 use Rattle.nk_witness.specs.Backs.{AreViolationsSoFar}
 use Rattle.nk_witness.specs.declared.found.Side.{Side}
-use Rattle.nk_backward.specs.ViolatingStarts.{of_side}
+use Rattle.nk_backward.specs.CounterexampleStarts.{of_side}
 
 -- nothing is left where there is no packet
 guarded_none : (os : List Out) → guarded os [] ≡ []

@@ -6,7 +6,7 @@ use Rattle.nk_determ.specs.Targets.{out_by_table, retargeted}
 use Rattle.nk_witness.specs.Finds.{target_of}
 use Rattle.nk_witness.specs.declared.found.Side.{Side}
 use Rattle.nk_witness.specs.declared.found.Side.TheVariants.{Left, Right}
-use Rattle.nk_backward.specs.ViolatingStarts.{of_side}
+use Rattle.nk_backward.specs.CounterexampleStarts.{of_side}
 
 -- a list that isn't empty has a member
 some_member : (os : List Out) → (os ≡ [] → ⊥) → (o : Out) × Has os o

@@ -24,7 +24,7 @@ use Rattle.nk_witness.proofs.Pulling.{empty_not}
 use Rattle.nk_backward.specs.declared.transitions.Transitions.{Transitions}
 use Rattle.nk_backward.specs.Transitions.{explored_entries, AreAllGiven, LeadsInto, AreTransitions}
 use Rattle.nk_backward.specs.Closures.{IsClosure}
-use Rattle.nk_backward.specs.ViolatingStarts.{StartsCounterexample, AreViolatingStarts, of_side, IsSideViolation, LeadToSide, StandUnder}
+use Rattle.nk_backward.specs.CounterexampleStarts.{StartsCounterexample, AreCounterexampleStarts, of_side, IsSideViolation, LeadToSide, StandUnder}
 use Rattle.nk_backward.proofs.Listing.{under_entries, each_entry}
 use Rattle.nk_backward.proofs.Taking.{leads_on, leads_grow}
 use Rattle.nk_backward.proofs.Sided.{side_has, has_side}
@@ -146,7 +146,7 @@ module _ (old : StoreState) (oss : List (List ℕ)) (states : List ℕ) (set sta
 
   -- the packets from where transitions lead to a violation of a side are those that start such a history
   pub side_starts : (bad now : List ℕ → List ℕ → List Out) (side : Side) (new : StoreState) (r : ℕ) → ((n : Node) → AreLabelsBelow (length states) n.0 → now n.0 n.1 ≡ bad n.0 n.1) →
-      LeadToSide st ss ts entries now side set start new r → AreViolatingStarts old states (get_or oss set []) start bad (target_of side) new r
+      LeadToSide st ss ts entries now side set start new r → AreCounterexampleStarts old states (get_or oss set []) start bad (target_of side) new r
   side_starts bad now side new r same lead = record {
     packets = lead.packets;
     exactly = λ y w. (sound y w, full y w);
@@ -196,7 +196,7 @@ module _ (old : StoreState) (oss : List (List ℕ)) (states : List ℕ) (set sta
           subst (λ (z : List ℕ). is_in new r z ≡ true) b.1 in_r
 
 -- sets of starts stay so as the store grows
-pub starts_on : (old st new : StoreState) (states set : List ℕ) (start : ℕ) (bad : List ℕ → List ℕ → List Out) (target r : ℕ) → Grows old st → Grows st new → AreViolatingStarts old states set start bad target st r → AreViolatingStarts old states set start bad target new r
+pub starts_on : (old st new : StoreState) (states set : List ℕ) (start : ℕ) (bad : List ℕ → List ℕ → List Out) (target r : ℕ) → Grows old st → Grows st new → AreCounterexampleStarts old states set start bad target st r → AreCounterexampleStarts old states set start bad target new r
 starts_on old st new states set start bad target r g0 g k = record {
   packets = set_grows st new r g k.packets;
   exactly = λ y w. (λ m. (k.exactly y w).0 (has_back st new r y g k.packets.id m), λ b. has_on st new r y g k.packets.id ((k.exactly y w).1 b));

@@ -3,4 +3,4 @@ pub mod Predecessors
 pub mod Places
 pub mod Closures
 pub mod Sweeps
-pub mod ViolatingStarts
+pub mod CounterexampleStarts

@@ -28,7 +28,7 @@ pub record IsWidened (st : StoreState) (Comes : ℕ → List ℕ → Type 0) (ol
   pub packets : HaveSets new all
   pub once : Once all
 
--- the entries have gained the packets from where the transitions lead into the old ones, and if the bool is true, none came
+-- the entries have gained the packets from where the transitions lead into the old ones, and if the bool is true, none of them is new
 abbrev pub IsTakenBack : StoreState → Transitions → List (ℕ × ℕ) → StoreState → List (ℕ × ℕ) → Bool → Type 0
 IsTakenBack st t old new all none = IsWidened st (IsLedBy st t (length t.outs) old) old new all none
 

@@ -268,13 +268,13 @@ fn take_out(
     };
     let t = ts.at(place.0);
     let o = t.outs.at(place.1);
-    let led = preimage_of_out(st, o, q.packets)?;
+    let led = preimage_by_out(st, o, q.packets)?;
     found.push((t.source, led))?;
     Ok(())
 }
 
 /// The packets of an out that the out's act makes packets of this set.
-pub(crate) fn preimage_of_out(st: &mut Store, o: &OutPackets, x: Id) -> Result<Id, AllocError>
+pub(crate) fn preimage_by_out(st: &mut Store, o: &OutPackets, x: Id) -> Result<Id, AllocError>
     requires from { IsSet st.old o.now.packets }
     requires to { IsSet st.old x }
     ensures grows { Grows st.old st.new }

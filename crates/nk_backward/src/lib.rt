@@ -13,4 +13,4 @@ mod transitions;
 mod violations;
 
 pub use exploring::explored;
-pub use starts::{ViolatingStarts, violating_starts};
+pub use starts::{CounterexampleStarts, counterexample_starts};

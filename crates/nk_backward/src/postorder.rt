@@ -104,7 +104,7 @@ fn search_from(
         let Some((k, done)) = path.pop() else {
             return Ok(());
         };
-        match unmet_after(ts, places, ranks, k, done) {
+        match unvisited_after(ts, places, ranks, k, done) {
             Some((next, count)) => {
                 set_rank(ranks, next, (from, 1));
                 path.push((k, count))?;
@@ -127,7 +127,7 @@ fn set_rank(ranks: &mut List<Rank>, k: usize, rank: Rank)
 
 /// A place without a rank that comes after a place: the next one of the same set, or else one to which an out leads that isn't done; and
 /// how many outs are done then.
-fn unmet_after(
+fn unvisited_after(
     ts: &List<Transitions>,
     places: &SetPlaces,
     ranks: &List<Rank>,

@@ -9,7 +9,7 @@ ghost use Rattle.nk_goal.specs.Entries.{HaveSets};
 ghost use Rattle.nk_witness.specs.Finds.{first_set, first_packets};
 ghost use Rattle.nk_backward.specs.Transitions.{AreAllGiven};
 ghost use Rattle.nk_backward.specs.Predecessors.{ArePredecessors};
-ghost use Rattle.nk_backward.specs.ViolatingStarts.{AreViolatingStarts, LeadToSide, StandUnder};
+ghost use Rattle.nk_backward.specs.CounterexampleStarts.{AreCounterexampleStarts, LeadToSide, StandUnder};
 
 use crate::closure::close_back;
 use crate::predecessors::Predecessors;
@@ -24,7 +24,7 @@ use std::alloc::AllocError;
 
 /// The packets that start a history which breaks a goal, by the side of the violation that ends it.
 #[derive(Drop)]
-pub struct ViolatingStarts {
+pub struct CounterexampleStarts {
     /// Those of the left or only side.
     pub left: Id,
     /// Those of the right side.
@@ -33,13 +33,13 @@ pub struct ViolatingStarts {
 
 /// The packets that start a history which breaks a goal, exactly: backward reachability from all violations. The levels are
 /// those of these states to their end. The only error is that memory ran out.
-pub fn violating_starts<G: Goal>(
+pub fn counterexample_starts<G: Goal>(
     st: &mut Store,
     ss: &mut Sets,
     states: &[Id],
     l: &Levels,
     g: &mut G,
-) -> Result<ViolatingStarts, AllocError>
+) -> Result<CounterexampleStarts, AllocError>
     requires fits { G.fits g.old st.old }
     requires labels { length states.now ≤ G.labels g.old }
     requires states { AreStates st.old states.now }
@@ -48,11 +48,11 @@ pub fn violating_starts<G: Goal>(
     ensures grows { Grows st.old st.new }
     ensures sets { SetsGrow ss.old ss.new }
     ensures left { IfOk result
-        (λ r. AreViolatingStarts st.old states.now
+        (λ r. AreCounterexampleStarts st.old states.now
         (slice_index_or ss.old (first_set l.now.levels) [])
         (first_packets l.now.levels) (G.violations_of g.old st.old) 0 st.new r.left) }
     ensures right { IfOk result
-        (λ r. AreViolatingStarts st.old states.now
+        (λ r. AreCounterexampleStarts st.old states.now
         (slice_index_or ss.old (first_set l.now.levels) [])
         (first_packets l.now.levels) (G.violations_of g.old st.old) 1 st.new r.right) }
 {
@@ -61,7 +61,7 @@ pub fn violating_starts<G: Goal>(
     let mut pre = None;
     let left = starts_of(st, ss, &graph, &mut pre, s, x, g, Side::Left)?;
     let right = starts_of(st, ss, &graph, &mut pre, s, x, g, Side::Right)?;
-    Ok(ViolatingStarts { left, right })
+    Ok(CounterexampleStarts { left, right })
 }
 
 /// The set that levels start from, with its packets.

@@ -10,7 +10,7 @@ ghost use Rattle.nk_backward.specs.Places.{AreAllPlaces};
 ghost use Rattle.nk_backward.specs.Closures.{AreFound};
 ghost use Rattle.nk_backward.specs.Sweeps.{IsLedOut, IsLedBy, IsWidened, IsTakenBack, IsSwept};
 
-use crate::closure::preimage_of_out;
+use crate::closure::preimage_by_out;
 use crate::postorder::{Rank, in_postorder};
 use crate::predecessors::{run_of_set, set_at};
 use crate::transitions::Transitions;
@@ -51,7 +51,7 @@ pub(crate) fn sweep_some(
     Ok(false)
 }
 
-/// Takes the entries back along the transitions of each place in turn. The answer is true only if no packet came.
+/// Takes the entries back along the transitions of each place in turn. The answer is true only if no packet is new.
 fn sweep(
     st: &mut Store,
     ts: &List<Transitions>,
@@ -83,7 +83,7 @@ fn both_hold(a: bool, b: bool) -> bool
     a && b
 }
 
-/// Takes the entries back along the transitions of one place. The answer is true only if no packet came.
+/// Takes the entries back along the transitions of one place. The answer is true only if no packet is new.
 fn sweep_one(
     st: &mut Store,
     t: &Transitions,
@@ -198,7 +198,7 @@ fn push_led(
     let Some(x) = packets_of_set(back, SetId::from_target(o.out.target)) else {
         return Ok(());
     };
-    let led = preimage_of_out(st, o, x)?;
+    let led = preimage_by_out(st, o, x)?;
     found.push((s, led))?;
     Ok(())
 }

@@ -6,7 +6,7 @@ ghost use Rattle.nk_sets.specs.PacketSets.{IsSet};
 ghost use Rattle.nk_determ.specs.Pairs.{AreLabelsBelow, EachPair, IsPair, Once};
 ghost use Rattle.nk_goal.specs.Entries.{HaveSets, IsAdded};
 ghost use Rattle.nk_witness.specs.Backs.{AreViolationsSoFar};
-ghost use Rattle.nk_backward.specs.ViolatingStarts.{of_side};
+ghost use Rattle.nk_backward.specs.CounterexampleStarts.{of_side};
 
 use crate::closure::listed;
 use indexmap::IndexMap;

@@ -12,7 +12,7 @@ use Rattle.nk_witness.specs.Finds.{first_set, first_packets}
 use Rattle.nk_witness.proofs.Settling.{levels_now}
 use Rattle.nk_cert.specs.Levelled.{HasEach}
 use Rattle.nk_cert.proofs.CertRows.{goal_is_one_sided}
-use Rattle.nk_backward.specs.ViolatingStarts.{AreViolatingStarts}
+use Rattle.nk_backward.specs.CounterexampleStarts.{AreCounterexampleStarts}
 use Rattle.nk_difference.specs.Sides.{AreStartsOfSides}
 
 -- no violation
@@ -32,8 +32,8 @@ levels_here old st ss states set start ls g states_ok id k =
 pub starts_of_sides_are : (first made mid old new : StoreState) (states : List ℕ) (left right bound set start : ℕ) (ss : List (List ℕ)) (ends : List ℕ) (ls : List (List (ℕ × ℕ))) (of_left of_right : ℕ) → Grows first made → Grows made mid → Grows mid old → Grows old new → AreTidy old →
     get_or ss set [] ≡ 0 ∷ [] → IsId mid start → HasEach mid start → AreLevels mid old ss states set start nothing ls false → AreIds made ends → length ends ≡ length states →
     ((s pk : List ℕ) → AreLabelsBelow (length states) s → IsStorePacket first pk → AreOneSided first states left right bound s pk (alone (ends_of made ends s pk))) →
-    AreViolatingStarts old states (get_or ss (first_set ls) []) (first_packets ls) (λ s pk. alone (ends_of old ends s pk)) 0 new of_left →
-    AreViolatingStarts old states (get_or ss (first_set ls) []) (first_packets ls) (λ s pk. alone (ends_of old ends s pk)) 1 new of_right → AreStartsOfSides first states left right bound new of_left of_right
+    AreCounterexampleStarts old states (get_or ss (first_set ls) []) (first_packets ls) (λ s pk. alone (ends_of old ends s pk)) 0 new of_left →
+    AreCounterexampleStarts old states (get_or ss (first_set ls) []) (first_packets ls) (λ s pk. alone (ends_of old ends s pk)) 1 new of_right → AreStartsOfSides first states left right bound new of_left of_right
 starts_of_sides_are first made mid old new states left right bound set start ss ends ls of_left of_right g1 g2 g3 g4 tidy alone_set id each k ids count sided on_left on_right = record {
   old = old;
   begun = grows_on first made old g1 (grows_on made mid old g2 g3);
@@ -53,7 +53,7 @@ starts_of_sides_are first made mid old new states left right bound set start ss 
     start_is : first_packets ls ≡ start
     start_is = ap (λ (v : List (ℕ × ℕ)). (get_or v 0 (0, 0)).1) k.start_is
 
-    from_all : (t r : ℕ) → AreViolatingStarts old states (get_or ss (first_set ls) []) (first_packets ls) (λ s pk. alone (ends_of old ends s pk)) t new r → AreViolatingStarts old states (0 ∷ []) start (λ s pk. alone (ends_of old ends s pk)) t new r
+    from_all : (t r : ℕ) → AreCounterexampleStarts old states (get_or ss (first_set ls) []) (first_packets ls) (λ s pk. alone (ends_of old ends s pk)) t new r → AreCounterexampleStarts old states (0 ∷ []) start (λ s pk. alone (ends_of old ends s pk)) t new r
     from_all t r h =
-        subst (λ (x : ℕ). AreViolatingStarts old states (0 ∷ []) x (λ s pk. alone (ends_of old ends s pk)) t new r) start_is
-        (subst (λ (s : List ℕ). AreViolatingStarts old states s (first_packets ls) (λ s pk. alone (ends_of old ends s pk)) t new r) (ap (λ i. get_or ss i []) set_is ∙ alone_set) h)
+        subst (λ (x : ℕ). AreCounterexampleStarts old states (0 ∷ []) x (λ s pk. alone (ends_of old ends s pk)) t new r) start_is
+        (subst (λ (s : List ℕ). AreCounterexampleStarts old states s (first_packets ls) (λ s pk. alone (ends_of old ends s pk)) t new r) (ap (λ i. get_or ss i []) set_is ∙ alone_set) h)

@@ -6,7 +6,7 @@ use Rattle.nk_store.specs.StoreState.{StoreState, IsWhole, IsStorePacket, Grows,
 use Rattle.nk_sets.specs.PacketSets.{is_in}
 use Rattle.nk_sets.specs.PolicyOf.{IsPolicyOf}
 use Rattle.nk_cert.specs.Levelled.{HasEach, IsOneSided}
-use Rattle.nk_backward.specs.ViolatingStarts.{AreViolatingStarts}
+use Rattle.nk_backward.specs.CounterexampleStarts.{AreCounterexampleStarts}
 use Rattle.nk_difference.specs.declared.predicates.Difference.{Difference}
 use Rattle.nk_difference.specs.declared.predicates.Difference.TheVariants.{Same, Differs}
 
@@ -21,8 +21,8 @@ pub record AreStartsOfSides (first : StoreState) (states : List ℕ) (left right
   pub start_is : HasEach old start
   pub bad : List ℕ → List ℕ → List Out
   pub sided : IsOneSided first states left right bound bad
-  pub left_starts : AreViolatingStarts old states (0 ∷ []) start bad 0 new of_left
-  pub right_starts : AreViolatingStarts old states (0 ∷ []) start bad 1 new of_right
+  pub left_starts : AreCounterexampleStarts old states (0 ∷ []) start bad 0 new of_left
+  pub right_starts : AreCounterexampleStarts old states (0 ∷ []) start bad 1 new of_right
 
 -- both sets are empty; or these are the predicates of the two, of which one has a packet
 abbrev pub IsDifferenceIn : StoreState → ℕ → ℕ → Difference → Type 0

@@ -14,7 +14,7 @@ ghost use Rattle.nk_difference.specs.Sides.{AreStartsOfSides, IsDifferenceIn};
 
 use crate::predicates::Difference;
 use nk_apply::identity;
-use nk_backward::{ViolatingStarts, explored, violating_starts};
+use nk_backward::{CounterexampleStarts, counterexample_starts, explored};
 use nk_cert::{Both, number_after, owned_automaton, start_alone};
 use nk_determ::Sets;
 use nk_field::Fields;
@@ -67,7 +67,7 @@ fn starts_of_sides(
     left: Id,
     right: Id,
     bound: usize,
-) -> Result<ViolatingStarts, AllocError>
+) -> Result<CounterexampleStarts, AllocError>
     requires states { AreStates st.old states.now }
     requires some { 0 < length states.now }
     requires left { IsId st.old left }
@@ -82,12 +82,12 @@ fn starts_of_sides(
     let s = ss.intern(start_alone(st.alloc())?)?;
     let l = explored(st, &mut ss, states, s, from)?;
     st.laws();
-    let starts = violating_starts(st, &mut ss, states, &l, &mut goal)?;
+    let starts = counterexample_starts(st, &mut ss, states, &l, &mut goal)?;
     Ok(starts)
 }
 
 /// The predicates of both sides' packets, unless there are none.
-fn difference_of(st: &Store, starts: &ViolatingStarts) -> Result<Difference, AllocError>
+fn difference_of(st: &Store, starts: &CounterexampleStarts) -> Result<Difference, AllocError>
     requires left { IsSet st.now starts.now.left }
     requires right { IsSet st.now starts.now.right }
     ensures { IfOk result (IsDifferenceIn st.now starts.now.left starts.now.right) }

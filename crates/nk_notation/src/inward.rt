@@ -9,9 +9,9 @@ ghost use Rattle.nk_notation.specs.Translation.{Puts};
 use crate::context::TextKind;
 use crate::notation::Notation;
 use nk_number_forms::{
-    Atom, Cause, Fault, Stop, WordStop, address_of, atom_of, block_size, colons, dropped, first_of,
-    is_dotted, is_white, last_of, number_within, place_of, place_of_dots, put, put_number,
-    split_once,
+    Atom, Cause, Fault, Stop, WordStop, address_of, around_first, atom_of, block_size, colons,
+    dropped, first_of, is_dotted, is_white, last_of, number_within, place_of, place_of_dots, put,
+    put_number,
 };
 use std::alloc::{AllocError, AllocFailed};
 
@@ -331,7 +331,7 @@ fn put_slash(
 ) -> Result<(), WordStop>
     ensures { Puts result (slash_in tables tests lead.now run.now) out.old.items out.new.items }
 {
-    let (front, length) = split_once(b'/', run);
+    let (front, length) = around_first(b'/', run);
     if !is_dotted(front) {
         return put_both(out, lead, atom_of(front), front, b"/", Atom::Kept, length);
     }

@@ -10,8 +10,8 @@ use crate::inward::{is_tables, kind_after, kind_beyond};
 use crate::notation::Notation;
 use nk_lex::LARGEST;
 use nk_number_forms::{
-    Stop, block_size, dropped, first_of, last_of, number_within, place_of, place_of_dots, put,
-    put_address, put_hardware, put_hexadecimal, put_number, split_once,
+    Stop, around_first, block_size, dropped, first_of, last_of, number_within, place_of,
+    place_of_dots, put, put_address, put_hardware, put_hexadecimal, put_number,
 };
 use std::alloc::AllocError;
 
@@ -266,7 +266,7 @@ fn put_value(out: &mut Vec<u8>, tables: bool, form: Form, text: &[u8]) -> Result
 {
     put(out, b"=")?;
     if tables && place_of(b'/', text) < text.len() {
-        let (value, length) = split_once(b'/', text);
+        let (value, length) = around_first(b'/', text);
         put_prefix(out, form, value, length)?;
         put(out, b"/")?;
         return put(out, length);

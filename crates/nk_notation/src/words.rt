@@ -8,7 +8,7 @@ ghost use Rattle.nk_notation.specs.Words.{IsPushed, decimal_form, direction_by, 
 use crate::cutter::{is_name_byte, is_name_start};
 use crate::inward::small_size;
 use crate::outward::{Form, NamedField};
-use nk_number_forms::{first_of, split_once};
+use nk_number_forms::{around_first, first_of};
 use std::alloc::{AllocError, Global};
 
 /// What the words ask for.
@@ -77,7 +77,7 @@ fn push_field(alloc: Global, fields: &mut Vec<NamedField>, word: &str) -> Result
         IsPushed named_one (map named_form fields.old.items) (map named_form fields.new.items)
         (field_of word.now)) }
 {
-    let (name, kind) = split_once(b'=', word.as_bytes());
+    let (name, kind) = around_first(b'=', word.as_bytes());
     if !is_name(name) {
         return Ok(false);
     }

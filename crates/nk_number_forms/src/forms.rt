@@ -31,7 +31,7 @@ pub fn place_of(byte: u8, text: &[u8]) -> usize
 
 /// The bytes before the first such byte and those after it, where none is all and nothing.
 #[tactic(auto, unfolding(crate::specs::Forms::before_first, crate::specs::Forms::after_first))]
-pub fn split_once(byte: u8, text: &[u8]) -> (&[u8], &[u8])
+pub fn around_first(byte: u8, text: &[u8]) -> (&[u8], &[u8])
     ensures before { result.0.now ≡ before_first byte text.now }
     ensures after { result.1.now ≡ after_first byte text.now }
 {
@@ -49,11 +49,11 @@ pub fn address_of(text: &[u8]) -> Option<u64>
     ensures value { result ≡ address_of text.now }
     ensures small { IfSome result (λ n. n < 2 ^ 32) }
 {
-    let (first, text) = split_once(b'.', text);
+    let (first, text) = around_first(b'.', text);
     let first = octet(first)?;
-    let (second, text) = split_once(b'.', text);
+    let (second, text) = around_first(b'.', text);
     let second = octet(second)?;
-    let (third, fourth) = split_once(b'.', text);
+    let (third, fourth) = around_first(b'.', text);
     let third = octet(third)?;
     let fourth = octet(fourth)?;
     Some(first * 16_777_216 + second * 65_536 + third * 256 + fourth)
@@ -76,11 +76,11 @@ fn three_pairs(first: &[u8], second: &[u8], third: &[u8]) -> Option<u64>
 fn hardware_of(text: &[u8]) -> Option<u64>
     ensures { result ≡ hardware_of text.now }
 {
-    let (first, text) = split_once(b':', text);
-    let (second, text) = split_once(b':', text);
-    let (third, text) = split_once(b':', text);
-    let (fourth, text) = split_once(b':', text);
-    let (fifth, sixth) = split_once(b':', text);
+    let (first, text) = around_first(b':', text);
+    let (second, text) = around_first(b':', text);
+    let (third, text) = around_first(b':', text);
+    let (fourth, text) = around_first(b':', text);
+    let (fifth, sixth) = around_first(b':', text);
     combined(
         three_pairs(first, second, third),
         three_pairs(fourth, fifth, sixth),

@@ -10,8 +10,8 @@ mod writing;
 
 pub use fault::{Cause, Fault, Stop, WordStop};
 pub use forms::{
-    Atom, address_of, atom_of, block_size, colons, dropped, first_of, is_dotted, last_of, place_of,
-    place_of_dots, split_once,
+    Atom, address_of, around_first, atom_of, block_size, colons, dropped, first_of, is_dotted,
+    last_of, place_of, place_of_dots,
 };
 pub use numbers::{is_digit, is_white, number_within};
 pub use texts::{put_address, put_hardware, put_hexadecimal};

@@ -22,8 +22,8 @@ at-o-requires c =
     let w = place_within c.args.ts.now c.args.places.now c.args.q.now c.in-Some.place c.requires.places c.in-Some.ensures.some in
     subst (λ (t : Transitions). c.in-Some.place.1 < length t.outs) (sym (at_place c.args.ts.now c.in-Some.place.0 c.at-t.result.now w.0 c.at-t.ensures)) w.1
 
-pub preimage_of_out-requires-clause-from : goal.preimage_of_out-requires-clause-from
-preimage_of_out-requires-clause-from c =
+pub preimage_by_out-requires-clause-from : goal.preimage_by_out-requires-clause-from
+preimage_by_out-requires-clause-from c =
     let w = place_within c.args.ts.now c.args.places.now c.args.q.now c.in-Some.place c.requires.places c.in-Some.ensures.some in
     let t_is = at_place c.args.ts.now c.in-Some.place.0 c.at-t.result.now w.0 c.at-t.ensures in
     let l : c.in-Some.place.1 < length c.at-t.result.now.outs = subst (λ (t : Transitions). c.in-Some.place.1 < length t.outs) (sym t_is) w.1 in
@@ -34,5 +34,5 @@ returns-clause-ok c =
     let w = place_within c.args.ts.now c.args.places.now c.args.q.now c.in-Some.place c.requires.places c.in-Some.ensures.some in
     let t_is = at_place c.args.ts.now c.in-Some.place.0 c.at-t.result.now w.0 c.at-t.ensures in
     let l : c.in-Some.place.1 < length c.at-t.result.now.outs = subst (λ (t : Transitions). c.in-Some.place.1 < length t.outs) (sym t_is) w.1 in
-    taken_one c.args.st.now c.preimage_of_out.new.st c.args.ts.now c.args.places.now c.args.q.now c.in-Some.place c.at-t.result.now c.at-o.result.now c.in_ok-led.led c.args.found.now c.push.new.self
-    c.preimage_of_out.ensures.grows c.requires.found c.in-Some.ensures.some t_is (entry_at c.at-t.result.now.outs c.in-Some.place.1 c.at-o.result.now l c.at-o.ensures) c.in_ok-led.ensures.ok c.in_ok-push.ensures.ok
+    taken_one c.args.st.now c.preimage_by_out.new.st c.args.ts.now c.args.places.now c.args.q.now c.in-Some.place c.at-t.result.now c.at-o.result.now c.in_ok-led.led c.args.found.now c.push.new.self
+    c.preimage_by_out.ensures.grows c.requires.found c.in-Some.ensures.some t_is (entry_at c.at-t.result.now.outs c.in-Some.place.1 c.at-o.result.now l c.at-o.ensures) c.in_ok-led.ensures.ok c.in_ok-push.ensures.ok

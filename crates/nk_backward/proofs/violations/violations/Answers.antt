@@ -7,7 +7,7 @@ use Rattle.nk_goal.proofs.Places.{each_at}
 use Rattle.nk_goal.proofs.Growing.{each_weaker}
 use Rattle.nk_goal.proofs.Adding.{take_more}
 use Rattle.nk_witness.specs.Backs.{AreViolationsSoFar}
-use Rattle.nk_backward.specs.ViolatingStarts.{of_side}
+use Rattle.nk_backward.specs.CounterexampleStarts.{of_side}
 use Rattle.nk_backward.proofs.Restricting.{restricted_set, restricted_push}
 use Rattle.nk_backward.proofs.violations.violations.Goals as goal
 

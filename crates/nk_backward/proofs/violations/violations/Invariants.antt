@@ -1,7 +1,7 @@
 use Rattle.std.proofs.Common.{◌≡◌, ℕ, List, take}
 use Rattle.nk_store.specs.StoreState.{StoreState, Grows}
 use Rattle.nk_witness.specs.Backs.{AreViolationsSoFar}
-use Rattle.nk_backward.specs.ViolatingStarts.{of_side}
+use Rattle.nk_backward.specs.CounterexampleStarts.{of_side}
 use Rattle.nk_backward.proofs.violations.violations.Given as goal
 
 abbrev pub invariant-loop-k : goal.invariant-loop-k

@@ -18,7 +18,7 @@ abbrev pub StartsCounterexample : StoreState → List ℕ → List ℕ → ℕ �
 StartsCounterexample st states set start bad target y = (f : Found) × (f.start ≡ y) × IsCounterexampleWithTarget st states set start bad target f
 
 -- exactly these packets start a history that breaks the goal with that target
-pub record AreViolatingStarts (old : StoreState) (states set : List ℕ) (start : ℕ) (bad : List ℕ → List ℕ → List Out) (target : ℕ) (new : StoreState) (r : ℕ) : Type 0 where
+pub record AreCounterexampleStarts (old : StoreState) (states set : List ℕ) (start : ℕ) (bad : List ℕ → List ℕ → List Out) (target : ℕ) (new : StoreState) (r : ℕ) : Type 0 where
   pub packets : IsSet new r
   pub exactly : (y : List ℕ) → IsStorePacket old y → (is_in new r y ≡ true) ↔ StartsCounterexample old states set start bad target y
 

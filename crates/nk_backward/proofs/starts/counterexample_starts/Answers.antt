@@ -5,10 +5,10 @@ use Rattle.nk_determ.specs.Pairs.{EachPair, IsPair}
 use Rattle.nk_witness.specs.Finds.{first_set, first_packets}
 use Rattle.nk_witness.specs.declared.found.Side.TheVariants.{Left, Right}
 use Rattle.nk_backward.specs.declared.transitions.Transitions.{Transitions}
-use Rattle.nk_backward.specs.ViolatingStarts.{LeadToSide}
+use Rattle.nk_backward.specs.CounterexampleStarts.{LeadToSide}
 use Rattle.nk_backward.proofs.Tracing.{transitions_on}
 use Rattle.nk_backward.proofs.Starting.{IsGraph, entries_pairs, pairs_wider, side_starts, starts_on}
-use Rattle.nk_backward.proofs.starts.violating_starts.Goals as goal
+use Rattle.nk_backward.proofs.starts.counterexample_starts.Goals as goal
 
 pub graph_of-requires-clause-entries : goal.graph_of-requires-clause-entries
 graph_of-requires-clause-entries g c =
