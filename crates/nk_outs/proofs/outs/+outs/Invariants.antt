@@ -1,7 +1,7 @@
 use Rattle.std.proofs.Common.{◌+◌, ◌*◌, ◌-◌, ◌≤◌}
 use Rattle.nk_store.specs.StoreState.{Grows}
 use Rattle.nk_outs.specs.Outs.{AreByOut, IsUpTo}
-use Rattle.nk_outs.proofs.outs.+outs.OutPackets as goal
+use Rattle.nk_outs.proofs.outs.+outs.Given as goal
 
 abbrev pub decreases-visit : goal.decreases-visit
 decreases-visit l = 5 * l.d + 3
