@@ -1,4 +1,4 @@
--- Field tables: one more field, and the place of a name.
+-- Field tables: one more field, and the index of a name.
 use Rattle.std.proofs.Common.{◌≡◌, ◌≢◌, ℕ, suc, ◌+◌, ◌<◌, ◌≤◌, inl, inr, Bool, true, false, not, cond, List, [], ◌∷◌, ◌++◌, length, take, refl, sym, ap, ◌∙◌, arith, get_or, Option, None, Some, length-append}
 use Rattle.std.specs.Prelude.{map, position, IsNone, AllPairs, nat_lt}
 use Rattle.std.specs.Str.{bytes_eq}
@@ -24,12 +24,12 @@ map_length : {X Y : Type 0} (f : X → Y) (xs : List X) → length (map f xs) �
 map_length f [] = refl
 map_length f (x ∷ xs) = ap suc (map_length f xs)
 
--- the place of the first image that passes
+-- the index of the first image that passes
 pub position-map : {X Y : Type 0} (f : X → Y) (p : Y → Bool) (xs : List X) →
     position p (map f xs) ≡ position (λ x. p (f x)) xs
 position-map f p xs = rw (prefix_len-map f (λ y. not (p y)) xs, map_length f xs) refl
 
--- where a test gives no place, it failed
+-- where a test gives no index, it failed
 none_is : (b : Bool) (n : ℕ) → IsNone (cond b (Some n) None) → b ≡ false
 none_is true n h = cc
 none_is false n h = refl

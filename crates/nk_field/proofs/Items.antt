@@ -117,7 +117,7 @@ parsed_err max ds h plain lt =
     parse_plain own {E = ℕ} 64 ds (Err 0) h plain in
     sym (number_none max ds (λ a b c. k (a, b, omega arith)))
 
--- the item at a place
+-- the items from index n on begin with the item at n
 pub next_item : (items : List (Bor (List ℕ))) (n : ℕ) (i : Bor (List ℕ)) → n < length items → i ≡ get_or items n i
     → drop n (map (λ j. j.now) items) ≡ i.now ∷ drop (n + 1) (map (λ j. j.now) items)
 next_item items n i lt at =

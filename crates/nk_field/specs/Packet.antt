@@ -1,11 +1,11 @@
 -- Fields, packets and histories as plain values (NetKAT: Anderson et al., POPL 2014, section 3).
--- A packet is the list of its values by the place of the field: place 0 is the switch, place 1 the port, and the
--- declared fields follow. It has eighteen places, and 0 where there is no field.
+-- A packet is the list of its values by the index of the field: index 0 is the switch, index 1 the port, and the
+-- declared fields follow. It has eighteen values, and 0 where there is no field.
 use Rattle.std.specs.Prelude.{◌≡◌, ◌≢◌, ℕ, ◌≤◌, ◌<◌, List, [], ◌∷◌, ◌++◌, Option, Some, None, take, length, slice_index, slice_set, position, codes, AllPairs}
 use Rattle.std.specs.Str.{bytes_eq}
 
--- the declared fields: of each its name and its largest value, in order with the switch and the port first; and the
--- place of the tag
+-- the name and the largest value of each field, in order with the switch and the port first; and the index of the tag, if
+-- there is one
 pub record FieldTable : Type 0 where
   pub names : List (List ℕ)
   pub maxima : List ℕ
@@ -29,7 +29,7 @@ pub record IsFieldTable (fields : FieldTable) : Type 0 where
   pub distinct : AllPairs (λ a b. a ≢ b) fields.names
   pub tag_past_port : (f : ℕ) → fields.tag ≡ Some f → (2 ≤ f) × (f < length fields.maxima)
 
--- the place of the field with this name, if there is one
+-- the index of the field with this name, if there is one
 abbrev pub field_named : FieldTable → List ℕ → Option ℕ
 field_named fields name = position (bytes_eq name) fields.names
 
@@ -49,7 +49,7 @@ pub record IsPacket (fields : FieldTable) (pk : List ℕ) : Type 0 where
   pub places : length pk ≡ 18
   pub within : (f : ℕ) → slice_index pk f ≤ slice_index fields.maxima f
 
--- the packet with the field at this place set to 0
+-- the packet with this field, if one is given, set to 0
 abbrev pub without : Option ℕ → List ℕ → List ℕ
 without None pk = pk
 without (Some f) pk = slice_set pk f 0

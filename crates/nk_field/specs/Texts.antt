@@ -13,7 +13,7 @@ use Rattle.nk_field.specs.declared.reading.PacketError.TheVariants.{BadPacket, N
 abbrev pub name_of : FieldTable → ℕ → List ℕ
 name_of fields f = slice_index_or fields.names f []
 
--- whether the place is this one
+-- whether an index is given, and is this one
 abbrev pub is_this : Option ℕ → ℕ → Bool
 is_this None f = false
 is_this (Some g) f = f == g

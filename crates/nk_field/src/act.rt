@@ -141,7 +141,7 @@ fn lay_under(
     Ok(all)
 }
 
-/// Puts the assignments from a place on at the end.
+/// Appends the assignments from this index on.
 fn push_from(
     all: &mut Short<(Fid, u64)>,
     sets: &[(Fid, u64)],

@@ -28,7 +28,7 @@ pub enum FieldsError {
     TooManyFields,
 }
 
-/// The fields, by place: the switch, the port, then the declared ones. Each has a name of its own and a largest
+/// The fields, by index: the switch, the port, then the declared ones. Each has a name of its own and a largest
 /// value, and one of the declared ones may be the tag.
 #[derive(Debug)]
 pub struct Fields {
@@ -192,7 +192,7 @@ impl Fields {
     }
 }
 
-/// The place of a name among the names.
+/// The first index at which the name stands among the names, if it does.
 fn place_of(names: &[String], name: &str) -> Option<usize>
     ensures is { result ≡ position (λ n. bytes_eq name.now (string_bytes n)) names.now }
     ensures within { IfSome result (λ place. place < length names.now) }

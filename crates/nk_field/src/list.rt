@@ -59,7 +59,7 @@ impl<T: Drop> List<T> {
         Ok(())
     }
 
-    /// Replaces the item at a place, 0 being the first. There must be one.
+    /// Replaces the item at this index, which is below the length.
     pub fn put(&mut self, index: usize, value: T)
         requires { index < length self.old }
         ensures { self.new ≡ slice_set self.old index value }
@@ -103,7 +103,7 @@ impl<T> List<T> {
         self.vec.as_slice()
     }
 
-    /// The item at a place, 0 being the first. There must be one.
+    /// The item at this index, which is below the length.
     pub fn at(&self, index: usize) -> &T
         requires { index < length self.now }
         ensures { result.now ≡ slice_index_or self.now index result.now }

@@ -31,7 +31,7 @@ impl Fid {
     /// The port.
     pub const PORT: Fid = Fid { place: 1 };
 
-    /// The field at a place, 0 to 17.
+    /// The field with this index, 0 to 17.
     pub fn new(place: u8) -> Fid
         requires { place < 18 }
         ensures { result ≡ place }
@@ -39,7 +39,7 @@ impl Fid {
         Fid { place }
     }
 
-    /// The place of the field, 0 to 17.
+    /// The index of the field, 0 to 17.
     pub fn place(self) -> usize
         ensures is { result ≡ self }
         ensures below { result < 18 }
@@ -48,7 +48,7 @@ impl Fid {
     }
 }
 
-/// One value per field, and 0 at each place that no field has. A contract sees it as the list of its eighteen values,
+/// One value per field, and 0 at each index that no field has. A contract sees it as the list of its eighteen values,
 /// and `IsPacket` says that they are in the ranges of some fields. Packets are ordered by the first field where they
 /// differ.
 #[derive(Clone, Copy, PartialEq, Eq, PartialOrd, Ord, Debug)]

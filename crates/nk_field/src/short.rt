@@ -75,7 +75,7 @@ impl<T> Short<T> {
         self.vec.as_slice()
     }
 
-    /// The item at a place, 0 being the first. There must be one.
+    /// The item at this index, which is below the length.
     pub fn at(&self, index: usize) -> &T
         requires { index < length self.now }
         ensures { result.now ≡ slice_index_or self.now index result.now }
