@@ -4,7 +4,7 @@ use Rattle.std.specs.declared.result.Result.{Result}
 use Rattle.std.specs.declared.option.Option.{Option}
 use Rattle.std.specs.Io.KnownBytes.{Appends, Keeps}
 
--- the last value of a count, that of a u64
+-- the largest value of a count, which is the largest u64
 abbrev pub last_count : ℕ
 last_count = 2 ^ 64 - 1
 
