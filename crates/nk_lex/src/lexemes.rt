@@ -11,7 +11,6 @@ ghost use Rattle.std.specs.Prelude.{
   ◌∷◌,
   length,
   drop,
-  get_or,
   Option,
   Some,
   None,
@@ -24,6 +23,7 @@ ghost use Rattle.std.specs.Prelude.{
   min,
   option_to_list,
   if◌then◌else◌,
+  slice_index,
   nat_le,
   IsUtf8,
 };
@@ -183,7 +183,7 @@ pub fn put_front(
 ) -> Result<usize, LexError>
     requires some { 0 < length bytes.now }
     requires room { at + length bytes.now < 2 ^ 64 }
-    requires front { front ≡ front_of (get_or bytes.now 0 0) (drop 1 bytes.now) }
+    requires front { front ≡ front_of (slice_index bytes.now 0) (drop 1 bytes.now) }
     requires fits { FitsIn front (length bytes.now) }
     ensures ok { IfOk result (λ n. (t : Option Token) × (cut_front bytes.now line at ≡ Ok (n, t))
         × (tokens.new.items ≡ tokens.old.items ++ option_to_list t)) }

@@ -9,12 +9,12 @@ ghost use Rattle.std.specs.Prelude.{
   ◌++◌,
   ℕ,
   [],
+  slice_index,
   length,
   Ok,
   IfOk,
   IfSome,
   is_some,
-  get_or,
   drop,
   OnErr,
   OnOk,
@@ -110,7 +110,7 @@ fn is_open(first: u8, rest: &[u8], front: Front) -> bool
 #[inline(always)]
 fn whole_front(bytes: &[u8]) -> Option<Front>
     ensures whole { is_some result ≡ has_whole bytes.now }
-    ensures front { IfSome result (λ f. f ≡ front_of (get_or bytes.now 0 0) (drop 1 bytes.now)) }
+    ensures front { IfSome result (λ f. f ≡ front_of (slice_index bytes.now 0) (drop 1 bytes.now)) }
     ensures fits { IfSome result (λ f. FitsIn f (length bytes.now)) }
 {
     let [first, rest @ ..] = bytes else {
