@@ -1,4 +1,4 @@
--- A text that is cut as far as no further byte changes it, and more bytes after it.
+-- A text that is cut up to its open lexeme, and more bytes after it.
 use Rattle.std.proofs.Common.{◌≡◌, ◌<◌, ◌≤◌, ◌+◌, ◌-◌, ◌==◌, ◌||◌, ◌&&◌, ℕ, zero, suc, List, [], ◌∷◌, ◌++◌, Bool, true, false, not, length, drop, get_or, refl, sym, ◌∙◌, ap, arith, cond, Option, option_to_list, append_assoc, append-nil, subst}
 use Rattle.std.specs.Prelude.{Some, None, Ok, Err, take_while, ⊤}
 use Rattle.std.specs.List.{list_all, prefix_len}

@@ -10,7 +10,7 @@ use Rattle.nk_lex.specs.Pieces.{Left, left_by, held_of, Rest, Fault}
 abbrev pub value_on : ℕ → List ℕ → ℕ
 value_on front digits = fold (λ n d. n * 10 + (d - 48)) front digits
 
--- which lexeme is open, of these bytes that begin at this place
+-- which lexeme is open, where these bytes of it came, the first at this index
 abbrev pub pending_of : ℕ → List ℕ → Pending
 pending_of at [] = pending.Nothing
 pending_of at (b ∷ rest) =
@@ -35,7 +35,7 @@ pub record IsFed (text : List ℕ) (s : FeedState) : Type 0 where
   pub fed : s.fed ≡ length text
   pub kept : IsKept (left_by text) s.line s.pending s.held
 
--- the place and the value of an open number are those of some bytes so far
+-- an open number begins at index `fed` at most, and its value is at most one above the largest
 abbrev pub IsPendingWithin : Pending → ℕ → Type 0
 IsPendingWithin (pending.Number at value) fed = (at ≤ fed) × (value ≤ largest + 1)
 IsPendingWithin p fed = ⊤

@@ -104,8 +104,8 @@ go_on (Err e) next = ([], Some e)
 abbrev pub line_after : ℕ → ℕ → ℕ
 line_after line b = if b == 10 then line + 1 else line
 
--- The tokens of the bytes from place `at` on, or the first fault. The first `skip` bytes belong to the
--- lexeme before, and `line` is the line of the first byte after it.
+-- The tokens of the bytes, the first of which has the index `at` in the text, and the first fault, if there is one. The first
+-- `skip` bytes belong to the lexeme before, and `line` is the line of the first byte after it.
 abbrev pub scan : List ℕ → ℕ → ℕ → ℕ → Scanned
 scan [] skip line at = ([], None)
 scan (b ∷ rest) zero line at =

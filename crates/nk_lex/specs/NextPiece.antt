@@ -56,7 +56,7 @@ number_or_fault at len line value =
 abbrev pub number_answer : (at len line value : ℕ) → Result (List Token) LexError
 number_answer at len line value = alone (number_or_fault at len line value)
 
--- how a piece is cut after an open number with this place and value, that of its bytes before `fed`
+-- how a piece is cut after an open number that begins at `start`, and whose bytes before `fed` have this value
 abbrev pub number_settled : (start value fed line : ℕ) → List ℕ → Settled
 number_settled start value fed line piece =
     let n = length (take_while is_digit piece) in
@@ -98,7 +98,7 @@ pub record IsNext (before : List Token) (r : Settled) (n : Next) : Type 0 where
   pub tokens : n.tokens.items ≡ before ++ r.0
   pub kept : IsKept r.1 n.line n.pending n.held.items
 
--- what is kept is of so many bytes
+-- the line and the bytes that are kept are possible after so many bytes
 pub record Fits (fed : ℕ) (n : Next) : Type 0 where
   pub line : n.line + length n.held.items ≤ fed + 1
   pub held : length n.held.items ≤ fed

@@ -26,7 +26,7 @@ is_open b rest =
     else if begins_longer b then is_empty rest
     else false
 
--- what stands after the lexemes that are complete: the bytes of an open one, with their line and their place, or a fault
+-- what stands after the lexemes that are complete: the bytes of an open one, with the line and the index where they begin, or a fault
 pub data Left : Type 0 where
   Rest : (line at : ℕ) → List ℕ → Left
   Fault : LexError → Left
@@ -43,8 +43,8 @@ abbrev pub settle_on : Result (ℕ × Option Token) LexError → (ℕ → Settle
 settle_on (Ok p) next = with_complete p.1 (next p.0)
 settle_on (Err e) next = ([], Fault e)
 
--- How the bytes from place `at` on are cut as far as no further byte changes it: up to a lexeme that is open, or to the first
--- fault. The first `skip` bytes belong to the lexeme before, and `line` is the line of the first byte after it.
+-- How bytes are cut that more bytes may follow: up to a lexeme that is open, or up to the first fault. The first byte has the
+-- index `at` in the text. The first `skip` bytes belong to the lexeme before, and `line` is the line of the first byte after it.
 abbrev pub settle : List ℕ → (skip line at : ℕ) → Settled
 settle [] skip line at = ([], Rest line at [])
 settle (b ∷ rest) zero line at =

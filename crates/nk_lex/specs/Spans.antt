@@ -22,7 +22,7 @@ last_line line (t ∷ ts) = last_line t.line ts
 abbrev pub line_feeds : List ℕ → ℕ
 line_feeds text = count_by (λ b. b == 10) text
 
--- the tokens stand one after the other from this place on, each with a byte at least
+-- the tokens follow one another from this index on, each with at least one byte
 abbrev pub StandInOrder : ℕ → List Token → Type 0
 StandInOrder from [] = ⊤
 StandInOrder from (t ∷ ts) = (from ≤ t.start) × (t.start < t.end) × StandInOrder t.end ts
@@ -46,7 +46,7 @@ abbrev pub LinesCount : Type 0
 LinesCount = (text : List ℕ) →
     All (λ t. t.line ≡ 1 + line_feeds (take t.start text)) (tokens_before_fault text)
 
--- a number's value is that of the digits in its span
+-- a number's value is the decimal value of the digits in its span
 abbrev pub NumbersAreDigits : Type 0
 NumbersAreDigits = (text : List ℕ) →
     All (λ t. t.kind ≡ kind.Number → t.value ≡ value_of (span_of text t)) (tokens_before_fault text)

@@ -86,7 +86,7 @@ abbrev pub text_of : List Lexeme → List ℕ
 text_of [] = []
 text_of (x ∷ xs) = bytes_of x ++ text_of xs
 
--- their tokens, where the first one stands at this place of this line
+-- their tokens, where the first lexeme begins on this line, at this index of the text
 abbrev pub tokens_from : (line at : ℕ) → List Lexeme → List Token
 tokens_from line at [] = []
 tokens_from line at (space ∷ xs) = tokens_from line (at + 1) xs

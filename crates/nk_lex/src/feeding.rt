@@ -72,7 +72,7 @@ impl Feed {
         }
     }
 
-    /// The tokens that the piece completes, with their places and lines in the whole text. A token is
+    /// The tokens that the piece completes, with their spans and lines in the whole text. A token is
     /// complete once no further byte can make it longer. The piece may be empty; all bytes that were fed,
     /// the piece's among them, are fewer than the last `usize`. A fault of the text is no error here: from
     /// its byte on no token comes, whatever is fed, and `end` answers it.

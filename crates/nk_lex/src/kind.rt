@@ -63,7 +63,7 @@ fn is_word(name: &[u8], word: &[u8]) -> bool
     }
 }
 
-/// The kind of a keyword; of any other text that of a name.
+/// The kind of a keyword; for any other text the kind of a name.
 pub fn kind_of_name(name: &str) -> Kind
     ensures { result ≡ kind_of_name name.now }
 {

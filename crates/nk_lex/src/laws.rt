@@ -14,7 +14,7 @@ pub fn values_are_small()
     ensures { ValuesAreSmall }
 {}
 
-/// A token has at least one byte, is within the text, and ends at or before the place where the next one begins.
+/// A token has at least one byte, is within the text, and ends where the next one begins or before.
 pub fn spans_ascend()
     ensures { SpansAscend }
 {}
@@ -29,7 +29,7 @@ pub fn a_line_is_one_more_than_the_line_feeds_before()
     ensures { LinesCount }
 {}
 
-/// The value of a number is that of the digits in its span.
+/// The value of a number is the decimal value of the digits in its span.
 pub fn a_number_has_the_value_of_its_digits()
     ensures { NumbersAreDigits }
 {}
@@ -44,13 +44,14 @@ pub fn a_name_is_one()
     ensures { NamesAreNames }
 {}
 
-/// The tokens of a text, a line feed and a second text are those of the first, and after them those of the second, their
-/// lines moved on by the first text's lines and their places by its bytes and one; or the first fault of both.
+/// The tokens of a text, a line feed and a second text are the tokens of the first, and after them those of the second. Their
+/// lines are moved on by the first text's line feeds and one, their spans by its bytes and one. Or the answer is the first
+/// fault of both, on its line.
 pub fn texts_are_joined()
     ensures { JoinsTexts }
 {}
 
-/// The tokens of lexemes, moved on by lines and places, are those of the lexemes from a later line and place on.
+/// The tokens of lexemes, moved on by lines and bytes, are the tokens of the lexemes from a later line and index on.
 pub fn lexemes_are_moved()
     ensures { MovesLexemes }
 {}

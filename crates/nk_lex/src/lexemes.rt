@@ -212,7 +212,7 @@ pub fn put_front(
 }
 
 /// Reads the lexeme that the bytes begin with: puts its token after the others, where it has one, and answers how many bytes it
-/// has. The bytes begin at the place `at` of the text, on this line.
+/// has. The bytes begin at index `at` of the text, on this line.
 pub fn read_lexeme(
     alloc: Global,
     tokens: &mut Vec<Token>,

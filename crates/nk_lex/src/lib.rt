@@ -1,8 +1,8 @@
-//! The tokens of a text: names, keywords, numbers and symbols, each with its place and its line.
+//! The tokens of a text: names, keywords, numbers and symbols, each with its span and its line.
 //!
 //! White space is the space, tab, carriage return and line feed. `#` begins a comment that runs to
 //! the line feed or to the end. A name is a letter or `_`, then letters, digits and `_`; a number is
-//! one or more digits. Of two symbols that stand at one place the longer is taken. Any other byte
+//! one or more digits. Of two symbols that begin at one byte the longer is taken. Any other byte
 //! is a bad byte. The line of a byte is 1 plus the line feeds before it.
 //!
 //! `tokens` reads a whole text, and a `Feed` one that comes in pieces.

@@ -190,8 +190,8 @@ fn stop(alloc: Global, tokens: Vec<Token>, line: u64, error: LexError) -> Result
     }
 }
 
-/// The tokens of the bytes from this place on as far as no further byte changes them, after those
-/// that came before, and what is kept of the rest.
+/// The tokens that came before, the tokens of these bytes that no further byte can change, and what is kept of the rest. The
+/// first byte has the index `at` in the text.
 fn settle(
     alloc: Global,
     bytes: &[u8],

@@ -14,9 +14,9 @@ pub const LARGEST: u64 = 281_474_976_710_655;
 pub struct Token {
     /// What it is.
     pub kind: Kind,
-    /// The place of its first byte.
+    /// The index of its first byte in the text.
     pub start: usize,
-    /// The place after its last byte.
+    /// The index after its last byte.
     pub end: usize,
     /// The line of its first byte, from 1 on.
     pub line: u64,

@@ -9,7 +9,7 @@ pub enum Pending {
     Nothing,
     /// A comment.
     Comment,
-    /// A number: its first byte's place, and its value, which stops above `LARGEST`.
+    /// A number: the index of its first byte, and its value, which stops above `LARGEST`.
     Number { start: usize, value: u64 },
     /// A name or a symbol, whose bytes are held.
     Held,
