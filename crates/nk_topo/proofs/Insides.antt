@@ -1,4 +1,4 @@
--- Switches by the place of their numbers.
+-- Switches by the index of their numbers.
 use Rattle.std.proofs.Common.{◌≡◌, ℕ, zero, suc, ◌+◌, ◌<◌, ◌≤◌, ◌&&◌, ◌||◌, inl, inr, ⊎_elim, Bool, true, false, not, cond, List, [], ◌∷◌, length, get_or, refl, ap, sym, subst, ◌∙◌, arith, Option, None, Some}
 use Rattle.std.specs.Prelude.{◌==◌, nat_lt, map, position, AllPairs, is_some, IsNone, IsTrue, if◌then◌else◌}
 use Rattle.std.specs.List.{prefix_len, position_or_len, insert, list_any}
@@ -39,7 +39,7 @@ numbers_rise ns ps ls is =
     (images_in_order (λ (s : SwitchPorts). s.switch) (λ p q. p < q) (switches_with ns ps)
     (order_from_pairs (λ r s. r.switch < s.switch) (switches_with ns ps) is.topology.switches)))
 
--- a switch has the ports at the place of its number, and none where the number isn't there
+-- a switch has the ports at the index of its number, and none where the number isn't there
 pub ports_at : (sw : ℕ) (ns : List ℕ) (ps : List (List ℕ)) → length ns ≡ length ps →
     ports_among (switches_with ns ps) sw ≡ get_or ps (position_or_len (λ m. m == sw) ns) []
 ports_at sw [] [] e = refl

@@ -7,7 +7,7 @@ use Rattle.nk_topo.specs.Topology.{SwitchPorts, Link, Topology, IsTopology}
 abbrev pub link_of : ℕ × ℕ × ℕ × ℕ → Link
 link_of l = record { from_switch = l.0; from_port = l.1; to_switch = l.2; to_port = l.3 }
 
--- switches of these numbers, each with the ports at its place
+-- switches of these numbers, each with the ports at the same index
 abbrev pub switches_with : List ℕ → List (List ℕ) → List SwitchPorts
 switches_with [] ports = []
 switches_with (n ∷ ns) [] = []

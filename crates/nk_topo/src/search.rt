@@ -1,4 +1,4 @@
-//! Places in ascending lists.
+//! Where things stand in ascending lists.
 ghost use Rattle.std.specs.Prelude.{◌≡◌, ◌==◌, ◌<◌, ◌≤◌, false, nat_lt, length, position, map, AllPairs, IfSome, IfOk, IsTrue};
 ghost use Rattle.std.specs.List.{prefix_len};
 ghost use Rattle.nk_topo.specs.Topology.{starts_below, ascending, has_double};
@@ -15,7 +15,7 @@ pub(crate) fn place_in(numbers: &[u16], n: u16) -> usize
     numbers.partition_point(|m| *m < n)
 }
 
-/// The place of `n` among the ascending numbers.
+/// The index of `n` among the ascending numbers, if it is one of them.
 pub(crate) fn find_in(numbers: &[u16], n: u16) -> Option<usize>
     requires { AllPairs (λ p q. p < q) numbers.now }
     ensures place { result ≡ position (λ m. m == n) numbers.now }
