@@ -96,7 +96,7 @@ field_more t w n h is le none = record {
   names = All-append IsName t.names (w.text ∷ []) h.names (All-cons IsName w.text [] is (All-nil IsName));
 }
 
--- a place from a lower bound on
+-- an index that passes is not below `low`
 pub from_low : (low : ℕ) (o : Option ℕ) (f : ℕ) → is_from low o ≡ true → o ≡ Some f → low ≤ f
 from_low low None f h e = absurd cc
 from_low low (Some k) f h e = let same : k ≡ f = cc in let le : low ≤ k = passes low k h in omega arith

@@ -48,14 +48,14 @@ above most n = fault_if (nat_lt most n.value) fault.ValueOutOfRange n.line
 abbrev pub links_ends : Number → Number → Number → Number → MaybeFault
 links_ends a m b n = first_of (first_of (first_of (above 65535 a) (above 65535 m)) (above 65535 b)) (above 65535 n)
 
--- the place of a field, and its largest value
+-- the index of the field with this name, 0 where there is none, and its largest value
 abbrev pub place_of_field : FieldTable → Ident → ℕ
 place_of_field fields w = unwrap_or (field_named fields w.text) 0
 
 abbrev pub most_in : FieldTable → Ident → ℕ
 most_in fields w = slice_index fields.maxima (place_of_field fields w)
 
--- a place that is there, from `low` on
+-- whether an index is given, and is not below `low`
 abbrev pub is_from : (low : ℕ) → Option ℕ → Bool
 is_from low None = false
 is_from low (Some f) = nat_le low f
