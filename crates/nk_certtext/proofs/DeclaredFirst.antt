@@ -13,7 +13,7 @@ use Rattle.nk_grammar.specs.FileMachine.{Reading, reading, read_one, declaration
 use Rattle.nk_grammar.specs.Certified.{Row}
 use Rattle.nk_grammar.specs.CertifiedMachine.{CertifiedPhase, declaring, row_wanted, start_wanted, start_read, number_wanted, numbers_read, in_row, Certifying, is_certificate, is_start_word, row_in, in_line, certificate_begins, still_declaring, row_on, next_certifying, open_certified, judged_certified}
 use Rattle.nk_grammar.specs.Terminal.{is_colon_terminal}
-use Rattle.nk_grammar.specs.CertifiedProgress.{CertifiedProgress, Going, Stopped, bare, done_declarations, ParsedPrefix, so_far, nothing_so_far, so_far_judged, so_far_after, IsRead}
+use Rattle.nk_grammar.specs.CertifiedProgress.{CertifiedProgress, Going, Stopped, bare, done_declarations, ParsedPrefix, parsed_prefix, empty_prefix, prefix_judged, prefix_after, IsRead}
 
 -- the certificate has begun
 abbrev IsAfter : CertifiedPhase → Type 0
@@ -98,20 +98,20 @@ done_after (declaring r) ds b = absurd b
 done_after p ds b = refl
 
 -- the state that a token leads to
-judged_ordered : (o : Option Certifying) (s : ParsedPrefix) (line : ℕ) → HaveNoRow o → IsOrdered (so_far_judged (judged_certified line o) s line)
+judged_ordered : (o : Option Certifying) (s : ParsedPrefix) (line : ℕ) → HaveNoRow o → IsOrdered (prefix_judged (judged_certified line o) s line)
 judged_ordered None s line h = tt
 judged_ordered (Some c) s line h = by (nat_le (open_certified c) 256)
   where
-    by : (b : Bool) → IsOrdered (so_far_judged (cond b (Ok c) (Err (error.TooDeep line))) s line)
+    by : (b : Bool) → IsOrdered (prefix_judged (cond b (Ok c) (Err (error.TooDeep line))) s line)
     by true = bare_no_row c.phase c.rows h
     by false = tt
 
 judged_keeps : (ds : List Declaration) (o : Option Certifying) (s : ParsedPrefix) (line : ℕ) → s.declarations ≡ ds → Keeps ds o
-    → (so_far_judged (judged_certified line o) s line).declarations ≡ ds
+    → (prefix_judged (judged_certified line o) s line).declarations ≡ ds
 judged_keeps ds None s line is h = is
 judged_keeps ds (Some c) s line is h = by (nat_le (open_certified c) 256)
   where
-    by : (b : Bool) → (so_far_judged (cond b (Ok c) (Err (error.TooDeep line))) s line).declarations ≡ ds
+    by : (b : Bool) → (prefix_judged (cond b (Ok c) (Err (error.TooDeep line))) s line).declarations ≡ ds
     by true = done_after c.phase c.declarations h.0 ∙ h.1
     by false = is
 
@@ -124,19 +124,19 @@ abbrev IsOrderedOn : List Declaration → List Row → ParsedPrefix → Type 0
 IsOrderedOn ds rs s = IsOrdered s × ((rs ≡ []) ⊎ (s.declarations ≡ ds))
 
 after_ordered : (p : CertifiedPhase) (line : ℕ) (ds : List Declaration) (rs : List Row) (t : Token) → IsAfter p
-    → IsOrderedOn ds rs (so_far_judged (judged_certified t.line (next_certifying p ds rs (terminal_of t))) (so_far (Going p line) ds rs) t.line)
+    → IsOrderedOn ds rs (prefix_judged (judged_certified t.line (next_certifying p ds rs (terminal_of t))) (parsed_prefix (Going p line) ds rs) t.line)
 after_ordered p line ds rs t b =
     let o = next_certifying p ds rs (terminal_of t) in
     let keeps : Keeps ds o = next_keeps ds p rs (terminal_of t) b in (
-      judged_ordered o (so_far (Going p line) ds rs) t.line (keeps_no_row ds o keeps),
-      inr (judged_keeps ds o (so_far (Going p line) ds rs) t.line refl keeps),
+      judged_ordered o (parsed_prefix (Going p line) ds rs) t.line (keeps_no_row ds o keeps),
+      inr (judged_keeps ds o (parsed_prefix (Going p line) ds rs) t.line refl keeps),
     )
 
 one_ordered : (p : CertifiedProgress) (ds : List Declaration) (rs : List Row) (t : Token) → AreAfter p rs
-    → IsOrderedOn ds rs (so_far_after (so_far p ds rs) t)
+    → IsOrderedOn ds rs (prefix_after (parsed_prefix p ds rs) t)
 one_ordered (Stopped e) ds rs t h = (tt, inr refl)
 one_ordered (Going (declaring r) line) ds rs t h = (
-  judged_ordered _ (so_far (Going (declaring r) line) ds rs) t.line (next_declaring (reading r.phase ds) rs (terminal_of t) h),
+  judged_ordered _ (parsed_prefix (Going (declaring r) line) ds rs) t.line (next_declaring (reading r.phase ds) rs (terminal_of t) h),
   inl h,
 )
 one_ordered (Going row_wanted line) ds rs t h = after_ordered row_wanted line ds rs t tt
@@ -146,22 +146,22 @@ one_ordered (Going (number_wanted l) line) ds rs t h = after_ordered (number_wan
 one_ordered (Going (numbers_read l ns) line) ds rs t h = after_ordered (numbers_read l ns) line ds rs t tt
 one_ordered (Going (in_row l ns s) line) ds rs t h = after_ordered (in_row l ns s) line ds rs t tt
 
-all_ordered : (ts : List Token) (s : ParsedPrefix) → IsOrdered s → IsOrdered (fold so_far_after s ts)
+all_ordered : (ts : List Token) (s : ParsedPrefix) → IsOrdered s → IsOrdered (fold prefix_after s ts)
 all_ordered [] s h = h
-all_ordered (t ∷ ts) s h = all_ordered ts (so_far_after s t) (one_ordered s.progress s.declarations s.rows t h).0
+all_ordered (t ∷ ts) s h = all_ordered ts (prefix_after s t) (one_ordered s.progress s.declarations s.rows t h).0
 
 -- one more token of a text
 pub one_read : (ts : List Token) (t : Token) (ds es : List Declaration) (rs qs : List Row) (p q : CertifiedProgress)
-    → IsRead ts ds rs p → IsRead (ts ++ t ∷ []) es qs q → so_far_after (so_far p ds rs) t ≡ so_far q es qs
+    → IsRead ts ds rs p → IsRead (ts ++ t ∷ []) es qs q → prefix_after (parsed_prefix p ds rs) t ≡ parsed_prefix q es qs
 one_read ts t ds es rs qs p q h k =
-    ap (λ s. so_far_after s t) (sym h) ∙ sym (fold-append so_far_after nothing_so_far ts (t ∷ [])) ∙ k
+    ap (λ s. prefix_after s t) (sym h) ∙ sym (fold-append prefix_after empty_prefix ts (t ∷ [])) ∙ k
 
 pub declared_first : (ts : List Token) (t : Token) (ds es : List Declaration) (rs qs : List Row) (p q : CertifiedProgress)
     → IsRead ts ds rs p → IsRead (ts ++ t ∷ []) es qs q → (rs ≡ []) ⊎ (es ≡ ds)
 declared_first ts t ds es rs qs p q h k =
-    let before : IsOrdered (so_far p ds rs) = subst IsOrdered h (all_ordered ts nothing_so_far refl) in
+    let before : IsOrdered (parsed_prefix p ds rs) = subst IsOrdered h (all_ordered ts empty_prefix refl) in
     by (one_ordered p ds rs t before).1
   where
-    by : (rs ≡ []) ⊎ ((so_far_after (so_far p ds rs) t).declarations ≡ ds) → (rs ≡ []) ⊎ (es ≡ ds)
+    by : (rs ≡ []) ⊎ ((prefix_after (parsed_prefix p ds rs) t).declarations ≡ ds) → (rs ≡ []) ⊎ (es ≡ ds)
     by (inl e) = inl e
     by (inr e) = inr (sym (ap (λ (s : ParsedPrefix). s.declarations) (one_read ts t ds es rs qs p q h k)) ∙ e)

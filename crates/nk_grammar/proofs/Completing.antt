@@ -25,7 +25,7 @@ use Rattle.nk_grammar.specs.FileMachine.{Phase, between, name_wanted, field_name
 use Rattle.nk_grammar.specs.Answer.{terminals}
 use Rattle.nk_grammar.specs.Certified.{Row, row, row_value, IsWrittenRow}
 use Rattle.nk_grammar.specs.CertifiedMachine.{CertifiedPhase, declaring, row_wanted, start_wanted, start_read, number_wanted, numbers_read, in_row, Certifying, certifying, is_certificate, is_start_word, row_in, in_line, certificate_begins, still_declaring, row_on, certify_one, open_certified, judged_certified}
-use Rattle.nk_grammar.specs.CertifiedProgress.{CertifiedProgress, Going, Stopped, bare, with_done, done_declarations, ParsedPrefix, so_far, nothing_so_far, so_far_judged, so_far_after, IsRead, declarations_by, rows_by, IsWrittenPart, BeginsWithStart, CompletesWritten}
+use Rattle.nk_grammar.specs.CertifiedProgress.{CertifiedProgress, Going, Stopped, bare, with_done, done_declarations, ParsedPrefix, parsed_prefix, empty_prefix, prefix_judged, prefix_after, IsRead, declarations_by, rows_by, IsWrittenPart, BeginsWithStart, CompletesWritten}
 use Rattle.nk_grammar.proofs.Fronts.{none_some, some_same}
 use Rattle.nk_grammar.proofs.Written.{IsSmall, are_small}
 
@@ -51,23 +51,23 @@ IsKeptBy Q I = (p : CertifiedPhase) (ds : List Declaration) (rs : List Row) (t :
 
 after_token : (Q : Terminal → Type 0) (I : CertifiedPhase → List Declaration → List Row → Type 0) → IsKeptBy Q I
     → (x : CertifiedProgress) (ds : List Declaration) (rs : List Row) (t : Token) → Q (terminal_of t) → OfProgress I x ds rs
-    → OfPrefix I (so_far_after (so_far x ds rs) t)
+    → OfPrefix I (prefix_after (parsed_prefix x ds rs) t)
 after_token Q I k (Stopped e) ds rs t q h = h
 after_token Q I k (Going p line) ds rs t q h = by_step (certify_one (with_done p ds rs) (terminal_of t)) (k p ds rs (terminal_of t) q h)
   where
-    by_step : (o : Option Certifying) → OfState I o → OfPrefix I (so_far_judged (judged_certified t.line o) (so_far (Going p line) ds rs) t.line)
+    by_step : (o : Option Certifying) → OfState I o → OfPrefix I (prefix_judged (judged_certified t.line o) (parsed_prefix (Going p line) ds rs) t.line)
     by_step None i = (p, h)
     by_step (Some c) i = by_count (nat_le (open_certified c) 256)
       where
-        by_count : (b : Bool) → OfPrefix I (so_far_judged (if b then Ok c else Err (error.TooDeep t.line)) (so_far (Going p line) ds rs) t.line)
+        by_count : (b : Bool) → OfPrefix I (prefix_judged (if b then Ok c else Err (error.TooDeep t.line)) (parsed_prefix (Going p line) ds rs) t.line)
         by_count true = i
         by_count false = (p, h)
 
 after_all : (Q : Terminal → Type 0) (I : CertifiedPhase → List Declaration → List Row → Type 0) → IsKeptBy Q I
-    → (ts : List Token) (s : ParsedPrefix) → All Q (terminals ts) → OfPrefix I s → OfPrefix I (fold so_far_after s ts)
+    → (ts : List Token) (s : ParsedPrefix) → All Q (terminals ts) → OfPrefix I s → OfPrefix I (fold prefix_after s ts)
 after_all Q I k [] s q h = h
 after_all Q I k (t ∷ ts) s q h =
-    after_all Q I k ts (so_far_after s t) (All-tail Q (terminal_of t) (terminals ts) q)
+    after_all Q I k ts (prefix_after s t) (All-tail Q (terminal_of t) (terminals ts) q)
     (after_token Q I k s.progress s.declarations s.rows t (q 0 opening (omega arith)) h)
 
 -- cases of what comes next
@@ -286,7 +286,7 @@ any_terminals ts i d lt = tt
 
 started : (ts : List Token) (ds : List Declaration) (rs : List Row) (p : CertifiedProgress) → IsRead ts ds rs p → BeginsWithStart rs
 started ts ds rs p h =
-    by p (subst (OfPrefix IsStarted) h (after_all (λ t. ⊤) IsStarted start_kept ts nothing_so_far (any_terminals (terminals ts)) refl))
+    by p (subst (OfPrefix IsStarted) h (after_all (λ t. ⊤) IsStarted start_kept ts empty_prefix (any_terminals (terminals ts)) refl))
   where
     by : (p : CertifiedProgress) → OfProgress IsStarted p ds rs → BeginsWithStart rs
     by (Going x line) k = begins_so x ds rs k
@@ -296,7 +296,7 @@ written : (ts : List Token) (ds : List Declaration) (rs : List Row) (p : Certifi
     → All (λ t. t.value ≤ largest) ts → All IsWritten ds × All IsWrittenRow rs
 written ts ds rs p h v =
     by p (subst (OfPrefix IsWrittenSoFar) h
-    (after_all IsSmall IsWrittenSoFar numbers_kept ts nothing_so_far (are_small ts v) (All-nil IsWritten, All-nil IsWrittenRow, tt)))
+    (after_all IsSmall IsWrittenSoFar numbers_kept ts empty_prefix (are_small ts v) (All-nil IsWritten, All-nil IsWrittenRow, tt)))
   where
     by : (p : CertifiedProgress) → OfProgress IsWrittenSoFar p ds rs → All IsWritten ds × All IsWrittenRow rs
     by (Going x line) k = (k.0, k.1)

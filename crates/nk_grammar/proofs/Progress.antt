@@ -24,12 +24,12 @@ use Rattle.nk_grammar.specs.CertificateParser.{certified_phase_of, progress_of, 
 use Rattle.nk_grammar.specs.declared.decl.Completed.{Completed}
 use Rattle.nk_grammar.specs.declared.certificate_parser.Known.{Known}
 use Rattle.nk_grammar.specs.declared.certificate_parser.Known.TheVariants as known
-use Rattle.nk_grammar.specs.CertifiedProgress.{CertifiedProgress, Going, Stopped, bare, with_done, done_declarations, ParsedPrefix, so_far, nothing_so_far, so_far_at, so_far_judged, so_far_after, IsRead, certified_so_far, declarations_by, rows_by, IsStopped, ReadsCertifiedAsWhole}
+use Rattle.nk_grammar.specs.CertifiedProgress.{CertifiedProgress, Going, Stopped, bare, with_done, done_declarations, ParsedPrefix, parsed_prefix, empty_prefix, prefix_at, prefix_judged, prefix_after, IsRead, certified_so_far, declarations_by, rows_by, IsStopped, ReadsCertifiedAsWhole}
 use Rattle.nk_grammar.proofs.After.{following, certify_after}
 
 -- what the machine's state says that is put together
 pub at_done : (x : CertifiedStage) (p : Phase) (s : State) (ds : List Declaration) (rs : List Row) (line : ℕ)
-    → so_far_at (with_done (certified_phase_of x p s) ds rs) line ≡ so_far (Going (certified_phase_of x p s) line) ds rs
+    → prefix_at (with_done (certified_phase_of x p s) ds rs) line ≡ parsed_prefix (Going (certified_phase_of x p s) line) ds rs
 at_done stage.Declaring p s ds rs line = refl
 at_done x p s ds rs line = refl
 
@@ -37,23 +37,23 @@ at_done x p s ds rs line = refl
 
 -- a token is taken
 pub takes_on : (k j : Known) (t : Token) (o : Option Completed) (line : ℕ) → TakesToken k j t (Ok o)
-    → so_far_after (so_far (progress_of k line) [] []) t ≡ so_far (progress_of j t.line) (declarations_by o) (rows_by o)
+    → prefix_after (parsed_prefix (progress_of k line) [] []) t ≡ parsed_prefix (progress_of j t.line) (declarations_by o) (rows_by o)
 takes_on (known.Sound r) (known.Sound s) t o line h =
-    ap (λ x. so_far_judged x (so_far (progress_of (known.Sound r) line) [] []) t.line) h.0
+    ap (λ x. prefix_judged x (parsed_prefix (progress_of (known.Sound r) line) [] []) t.line) h.0
     ∙ at_done s.stage (phase_in s.reader) (reader_state s.policy) (declarations_by o) (rows_by o) t.line
 takes_on (known.Sound r) (known.Stopped e) t o line h = absurd h
 takes_on (known.Stopped e) j t o line h =
-    ap (λ x. so_far (progress_of x t.line) [] []) (sym h.0) ∙ ap (λ x. so_far (progress_of j t.line) (declarations_by x) (rows_by x)) (sym (same o h.1))
+    ap (λ x. parsed_prefix (progress_of x t.line) [] []) (sym h.0) ∙ ap (λ x. parsed_prefix (progress_of j t.line) (declarations_by x) (rows_by x)) (sym (same o h.1))
   where
     same : (o : Option Completed) → ◌≡◌ {A = Result (Option Completed) GrammarError} (Ok o) (Ok None) → o ≡ None
     same o e = cc
 
 -- a token has a fault
 pub takes_fault : (k j : Known) (t : Token) (e : GrammarError) (line : ℕ) → (e ≡ error.NoMemory → ⊥) → TakesToken k j t (Err e)
-    → so_far_after (so_far (progress_of k line) [] []) t ≡ so_far (Stopped e) [] []
+    → prefix_after (parsed_prefix (progress_of k line) [] []) t ≡ parsed_prefix (Stopped e) [] []
 takes_fault (known.Sound r) (known.Sound s) t error.NoMemory line n h = absurd (n refl)
 takes_fault (known.Sound r) (known.Sound s) t e line n h =
-    ap (λ x. so_far_judged x (so_far (progress_of (known.Sound r) line) [] []) t.line) h.0
+    ap (λ x. prefix_judged x (parsed_prefix (progress_of (known.Sound r) line) [] []) t.line) h.0
 takes_fault (known.Sound r) (known.Stopped f) t e line n h = absurd h
 takes_fault (known.Stopped f) j t e line n h = absurd (differ h.1)
   where
@@ -85,12 +85,12 @@ takes_no_memory (known.Stopped e) j t line h = ap (λ x. progress_of x line) h.0
 -- ---- after further declarations and rows
 
 -- what is known, with these declarations and rows before those that are done
-abbrev so_far_following : List Declaration → List Row → ParsedPrefix → ParsedPrefix
-so_far_following ds rs s = so_far s.progress (ds ++ s.declarations) (rs ++ s.rows)
+abbrev prefix_following : List Declaration → List Row → ParsedPrefix → ParsedPrefix
+prefix_following ds rs s = parsed_prefix s.progress (ds ++ s.declarations) (rs ++ s.rows)
 
 -- nothing is done but what was before
-nothing_following : (p : CertifiedProgress) (ds : List Declaration) (rs : List Row) → so_far p ds rs ≡ so_far_following ds rs (so_far p [] [])
-nothing_following p ds rs = ap (λ l. so_far p l rs) (sym (append-nil ds)) ∙ ap (λ l. so_far p (ds ++ []) l) (sym (append-nil rs))
+nothing_following : (p : CertifiedProgress) (ds : List Declaration) (rs : List Row) → parsed_prefix p ds rs ≡ prefix_following ds rs (parsed_prefix p [] [])
+nothing_following p ds rs = ap (λ l. parsed_prefix p l rs) (sym (append-nil ds)) ∙ ap (λ l. parsed_prefix p (ds ++ []) l) (sym (append-nil rs))
 
 -- after further declarations and rows as many parentheses and `~` are open
 open_after : (ds : List Declaration) (rs : List Row) (p : CertifiedPhase) (es : List Declaration) (qs : List Row)
@@ -100,40 +100,40 @@ open_after ds rs p es qs = refl
 
 -- what is known of a state after further declarations and rows is what is known of the state, with these before
 at_after : (ds : List Declaration) (rs : List Row) (p : CertifiedPhase) (es : List Declaration) (qs : List Row) (line : ℕ)
-    → so_far_at (following ds rs (certifying p es qs)) line ≡ so_far_following ds rs (so_far_at (certifying p es qs) line)
+    → prefix_at (following ds rs (certifying p es qs)) line ≡ prefix_following ds rs (prefix_at (certifying p es qs) line)
 at_after ds rs (declaring r) es qs line = refl
 at_after ds rs p es qs line = refl
 
 -- what a token leads to
 judged_after : (p : CertifiedProgress) (ds : List Declaration) (rs : List Row) (at : ℕ) (o : Option Certifying)
-    → so_far_judged (judged_certified at (option_map (following ds rs) o)) (so_far p ds rs) at
-    ≡ so_far_following ds rs (so_far_judged (judged_certified at o) (so_far p [] []) at)
+    → prefix_judged (judged_certified at (option_map (following ds rs) o)) (parsed_prefix p ds rs) at
+    ≡ prefix_following ds rs (prefix_judged (judged_certified at o) (parsed_prefix p [] []) at)
 judged_after p ds rs at None = nothing_following (Stopped (error.Unexpected at)) ds rs
 judged_after p ds rs at (Some c) =
-    ap (λ n. so_far_judged (if nat_le n 256 then Ok (following ds rs c) else Err (error.TooDeep at)) (so_far p ds rs) at)
+    ap (λ n. prefix_judged (if nat_le n 256 then Ok (following ds rs c) else Err (error.TooDeep at)) (parsed_prefix p ds rs) at)
     (open_after ds rs c.phase c.declarations c.rows)
     ∙ by_count (nat_le (open_certified c) 256)
   where
-    by_count : (b : Bool) → so_far_judged (if b then Ok (following ds rs c) else Err (error.TooDeep at)) (so_far p ds rs) at
-        ≡ so_far_following ds rs (so_far_judged (if b then Ok c else Err (error.TooDeep at)) (so_far p [] []) at)
+    by_count : (b : Bool) → prefix_judged (if b then Ok (following ds rs c) else Err (error.TooDeep at)) (parsed_prefix p ds rs) at
+        ≡ prefix_following ds rs (prefix_judged (if b then Ok c else Err (error.TooDeep at)) (parsed_prefix p [] []) at)
     by_count true = at_after ds rs c.phase c.declarations c.rows at
     by_count false = nothing_following (Stopped (error.TooDeep at)) ds rs
 
 -- one more token
 after_next : (p : CertifiedProgress) (ds : List Declaration) (rs : List Row) (t : Token)
-    → so_far_after (so_far p ds rs) t ≡ so_far_following ds rs (so_far_after (so_far p [] []) t)
+    → prefix_after (parsed_prefix p ds rs) t ≡ prefix_following ds rs (prefix_after (parsed_prefix p [] []) t)
 after_next (Stopped e) ds rs t = nothing_following (Stopped e) ds rs
 after_next (Going p line) ds rs t =
-    ap (λ l. so_far_judged (judged_certified t.line (certify_one (with_done p l rs) (terminal_of t))) (so_far (Going p line) ds rs) t.line) (sym (append-nil ds))
-    ∙ ap (λ l. so_far_judged (judged_certified t.line (certify_one (with_done p (ds ++ []) l) (terminal_of t))) (so_far (Going p line) ds rs) t.line) (sym (append-nil rs))
-    ∙ ap (λ o. so_far_judged (judged_certified t.line o) (so_far (Going p line) ds rs) t.line) (certify_after ds [] rs [] p (terminal_of t))
+    ap (λ l. prefix_judged (judged_certified t.line (certify_one (with_done p l rs) (terminal_of t))) (parsed_prefix (Going p line) ds rs) t.line) (sym (append-nil ds))
+    ∙ ap (λ l. prefix_judged (judged_certified t.line (certify_one (with_done p (ds ++ []) l) (terminal_of t))) (parsed_prefix (Going p line) ds rs) t.line) (sym (append-nil rs))
+    ∙ ap (λ o. prefix_judged (judged_certified t.line o) (parsed_prefix (Going p line) ds rs) t.line) (certify_after ds [] rs [] p (terminal_of t))
     ∙ judged_after (Going p line) ds rs t.line (certify_one (with_done p [] []) (terminal_of t))
 
 -- a further token is read
 pub one_more_read : (ts : List Token) (ds es : List Declaration) (rs qs : List Row) (p q : CertifiedProgress) (t : Token)
-    → so_far_after (so_far p [] []) t ≡ so_far q es qs → IsRead ts ds rs p → IsRead (ts ++ t ∷ []) (ds ++ es) (rs ++ qs) q
+    → prefix_after (parsed_prefix p [] []) t ≡ parsed_prefix q es qs → IsRead ts ds rs p → IsRead (ts ++ t ∷ []) (ds ++ es) (rs ++ qs) q
 one_more_read ts ds es rs qs p q t e h =
-    fold-append so_far_after nothing_so_far ts (t ∷ []) ∙ ap (λ s. so_far_after s t) h ∙ after_next p ds rs t ∙ ap (so_far_following ds rs) e
+    fold-append prefix_after empty_prefix ts (t ∷ []) ∙ ap (λ s. prefix_after s t) h ∙ after_next p ds rs t ∙ ap (prefix_following ds rs) e
 
 -- what holds of a value that is there
 pub on_ok : {T E : Type 0} {P Q : T → Type 0} (r : Result T E) → ((x : T) → P x → Q x) → IfOk r P → IfOk r Q
@@ -243,25 +243,25 @@ abbrev end_of : ParsedPrefix → Result Certified GrammarError
 end_of s = certified_so_far s.progress s.declarations s.rows
 
 stays : (ts : List Token) (e : GrammarError) (ds : List Declaration) (rs : List Row)
-    → end_of (fold so_far_after (so_far (Stopped e) ds rs) ts) ≡ Err e
+    → end_of (fold prefix_after (parsed_prefix (Stopped e) ds rs) ts) ≡ Err e
 stays [] e ds rs = refl
 stays (t ∷ ts) e ds rs = stays ts e ds rs
 
 rest_is : (ts : List Token) (p : CertifiedPhase) (line : ℕ) (ds : List Declaration) (rs : List Row)
-    → end_of (fold so_far_after (so_far (Going p line) ds rs) ts) ≡ rest_of_certified ts (with_done p ds rs) line
+    → end_of (fold prefix_after (parsed_prefix (Going p line) ds rs) ts) ≡ rest_of_certified ts (with_done p ds rs) line
 rest_is [] p line ds rs = refl
 rest_is (t ∷ ts) p line ds rs = by_step (certify_one (with_done p ds rs) (terminal_of t)) (tidy p ds rs (terminal_of t)) (λ q l es qs. rest_is ts q l es qs)
   where
     by_step : (o : Option Certifying) → AreTidy o
         → ((q : CertifiedPhase) (l : ℕ) (es : List Declaration) (qs : List Row)
-        → end_of (fold so_far_after (so_far (Going q l) es qs) ts) ≡ rest_of_certified ts (with_done q es qs) l)
-        → end_of (fold so_far_after (so_far_judged (judged_certified t.line o) (so_far (Going p line) ds rs) t.line) ts)
+        → end_of (fold prefix_after (parsed_prefix (Going q l) es qs) ts) ≡ rest_of_certified ts (with_done q es qs) l)
+        → end_of (fold prefix_after (prefix_judged (judged_certified t.line o) (parsed_prefix (Going p line) ds rs) t.line) ts)
         ≡ and_then (judged_certified t.line o) (λ c. rest_of_certified ts c t.line)
     by_step None h ih = stays ts (error.Unexpected t.line) ds rs
     by_step (Some c) h ih = by_count (nat_le (open_certified c) 256)
       where
         by_count : (b : Bool)
-            → end_of (fold so_far_after (so_far_judged (if b then Ok c else Err (error.TooDeep t.line)) (so_far (Going p line) ds rs) t.line) ts)
+            → end_of (fold prefix_after (prefix_judged (if b then Ok c else Err (error.TooDeep t.line)) (parsed_prefix (Going p line) ds rs) t.line) ts)
             ≡ and_then (if b then Ok c else Err (error.TooDeep t.line)) (λ c. rest_of_certified ts c t.line)
         by_count true =
             ih (bare c.phase) t.line (done_declarations c.phase c.declarations) c.rows ∙ ap (λ x. rest_of_certified ts x t.line) h

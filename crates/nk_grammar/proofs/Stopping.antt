@@ -9,7 +9,7 @@ use Rattle.nk_grammar.specs.Answer.{terminals}
 use Rattle.nk_grammar.specs.Certified.{Row, CertifiedGoesOn}
 use Rattle.nk_grammar.specs.CertifiedAnswer.{IsCertifiedShallow}
 use Rattle.nk_grammar.specs.CertifiedMachine.{Certifying, certify_one, certify_all, first_certifying, open_certified, judged_certified}
-use Rattle.nk_grammar.specs.CertifiedProgress.{CertifiedProgress, Going, Stopped, with_done, ParsedPrefix, so_far, nothing_so_far, so_far_judged, so_far_after, IsRead, IsStopped, StopsWithCertifiedTexts}
+use Rattle.nk_grammar.specs.CertifiedProgress.{CertifiedProgress, Going, Stopped, with_done, ParsedPrefix, parsed_prefix, empty_prefix, prefix_judged, prefix_after, IsRead, IsStopped, StopsWithCertifiedTexts}
 use Rattle.nk_grammar.proofs.Machines.{terminals_more, all_more, shallow_more, shallow_first, within, beyond}
 use Rattle.nk_grammar.proofs.CertifiedTexts.{certified_machine, certified_goes_on, certified_stops, certify_append}
 use Rattle.nk_grammar.proofs.Progress.{AreTidy, tidy}
@@ -36,7 +36,7 @@ refused_more ts t (inl e) = inl (certify_append ts (t ∷ []) first_certifying �
 refused_more ts t (inr n) = inr (λ h. n (shallow_front ts (t ∷ []) h))
 
 one_more : (ts : List Terminal) (x : CertifiedProgress) (ds : List Declaration) (rs : List Row) (t : Token) → IsKnownOf ts x ds rs
-    → IsKnownAt (ts ++ terminal_of t ∷ []) (so_far_after (so_far x ds rs) t)
+    → IsKnownAt (ts ++ terminal_of t ∷ []) (prefix_after (parsed_prefix x ds rs) t)
 one_more ts (Stopped e) ds rs t h = refused_more ts (terminal_of t) h
 one_more ts (Going p line) ds rs t h =
     by_step (certify_one (with_done p ds rs) (terminal_of t)) (all_more certified_machine ts (terminal_of t) (with_done p ds rs) h.0) (tidy p ds rs (terminal_of t))
@@ -45,27 +45,27 @@ one_more ts (Going p line) ds rs t h =
     now = ts ++ terminal_of t ∷ []
 
     by_step : (o : Option Certifying) → certify_all now first_certifying ≡ o → AreTidy o
-        → IsKnownAt now (so_far_judged (judged_certified t.line o) (so_far (Going p line) ds rs) t.line)
+        → IsKnownAt now (prefix_judged (judged_certified t.line o) (parsed_prefix (Going p line) ds rs) t.line)
     by_step None e i = inl e
     by_step (Some c) e i = by_count (nat_le (open_certified c) 256) refl
       where
         by_count : (b : Bool) → nat_le (open_certified c) 256 ≡ b
-            → IsKnownAt now (so_far_judged (if b then Ok c else Err (error.TooDeep t.line)) (so_far (Going p line) ds rs) t.line)
+            → IsKnownAt now (prefix_judged (if b then Ok c else Err (error.TooDeep t.line)) (parsed_prefix (Going p line) ds rs) t.line)
         by_count true f = (e ∙ ap (λ s. Some s) (sym i), shallow_more certified_machine ts (terminal_of t) c h.1 e (within (open_certified c) f))
         by_count false f = inr (λ s. s now [] (sym (append-nil now)) (c, e, beyond (open_certified c) f))
 
 all_known : (us ts : List Token) (s : ParsedPrefix) → IsKnownAt (terminals us) s
-    → IsKnownAt (terminals (us ++ ts)) (fold so_far_after s ts)
+    → IsKnownAt (terminals (us ++ ts)) (fold prefix_after s ts)
 all_known us [] s h = subst (λ l. IsKnownAt (terminals l) s) (sym (append-nil us)) h
 all_known us (t ∷ ts) s h =
-    subst (λ l. IsKnownAt (terminals l) (fold so_far_after (so_far_after s t) ts)) (append_assoc us (t ∷ []) ts)
-    (all_known (us ++ t ∷ []) ts (so_far_after s t)
-    (subst (λ l. IsKnownAt l (so_far_after s t)) (sym (terminals_more us t))
+    subst (λ l. IsKnownAt (terminals l) (fold prefix_after (prefix_after s t) ts)) (append_assoc us (t ∷ []) ts)
+    (all_known (us ++ t ∷ []) ts (prefix_after s t)
+    (subst (λ l. IsKnownAt l (prefix_after s t)) (sym (terminals_more us t))
     (one_more (terminals us) s.progress s.declarations s.rows t h)))
 
 known_of : (ts : List Token) (ds : List Declaration) (rs : List Row) (p : CertifiedProgress) → IsRead ts ds rs p → IsKnownOf (terminals ts) p ds rs
 known_of ts ds rs p h =
-    subst (IsKnownAt (terminals ts)) h (all_known [] ts nothing_so_far (refl, shallow_first certified_machine))
+    subst (IsKnownAt (terminals ts)) h (all_known [] ts empty_prefix (refl, shallow_first certified_machine))
 
 pub stops_with_texts : StopsWithCertifiedTexts
 stops_with_texts ts ds rs p h = by p (known_of ts ds rs p h)

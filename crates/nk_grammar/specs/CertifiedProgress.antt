@@ -46,35 +46,35 @@ pub record ParsedPrefix : Type 0 where
   pub rows : List Row
 
 -- the record by its parts
-abbrev pub so_far : CertifiedProgress → List Declaration → List Row → ParsedPrefix
-so_far p ds rs = record { progress = p; declarations = ds; rows = rs }
+abbrev pub parsed_prefix : CertifiedProgress → List Declaration → List Row → ParsedPrefix
+parsed_prefix p ds rs = record { progress = p; declarations = ds; rows = rs }
 
 -- before the first token
-abbrev pub nothing_so_far : ParsedPrefix
-nothing_so_far = so_far first_progress [] []
+abbrev pub empty_prefix : ParsedPrefix
+empty_prefix = parsed_prefix first_progress [] []
 
 -- what is known after a token on this line, and what is done, by the machine's state after the token
-abbrev pub so_far_at : Certifying → (line : ℕ) → ParsedPrefix
-so_far_at c line = so_far (Going (bare c.phase) line) (done_declarations c.phase c.declarations) c.rows
+abbrev pub prefix_at : Certifying → (line : ℕ) → ParsedPrefix
+prefix_at c line = parsed_prefix (Going (bare c.phase) line) (done_declarations c.phase c.declarations) c.rows
 
 -- a fault comes after what is done
-abbrev pub so_far_judged : Result Certifying GrammarError → ParsedPrefix → (line : ℕ) → ParsedPrefix
-so_far_judged (Ok c) s line = so_far_at c line
-so_far_judged (Err e) s line = so_far (Stopped e) s.declarations s.rows
+abbrev pub prefix_judged : Result Certifying GrammarError → ParsedPrefix → (line : ℕ) → ParsedPrefix
+prefix_judged (Ok c) s line = prefix_at c line
+prefix_judged (Err e) s line = parsed_prefix (Stopped e) s.declarations s.rows
 
 -- one more token; a fault stays
-abbrev pub so_far_on : CertifiedProgress → ParsedPrefix → Token → ParsedPrefix
-so_far_on (Going p line) s t =
-    so_far_judged (judged_certified t.line (certify_one (with_done p s.declarations s.rows) (terminal_of t))) s t.line
-so_far_on (Stopped e) s t = s
+abbrev pub prefix_on : CertifiedProgress → ParsedPrefix → Token → ParsedPrefix
+prefix_on (Going p line) s t =
+    prefix_judged (judged_certified t.line (certify_one (with_done p s.declarations s.rows) (terminal_of t))) s t.line
+prefix_on (Stopped e) s t = s
 
 -- one more token, by what is known of the tokens before it
-abbrev pub so_far_after : ParsedPrefix → Token → ParsedPrefix
-so_far_after s t = so_far_on s.progress s t
+abbrev pub prefix_after : ParsedPrefix → Token → ParsedPrefix
+prefix_after s t = prefix_on s.progress s t
 
 -- of these tokens this is known, and they completed these declarations and rows
 abbrev pub IsRead : List Token → List Declaration → List Row → CertifiedProgress → Type 0
-IsRead ts ds rs p = fold so_far_after nothing_so_far ts ≡ so_far p ds rs
+IsRead ts ds rs p = fold prefix_after empty_prefix ts ≡ parsed_prefix p ds rs
 
 -- there is a fault
 abbrev pub is_stopped : CertifiedProgress → Bool

@@ -15,8 +15,8 @@ ghost use Rattle.nk_grammar.specs.CertifiedProgress.{
   declarations_by,
   is_stopped,
   rows_by,
-  so_far,
-  so_far_after,
+  parsed_prefix,
+  prefix_after,
 };
 ghost use Rattle.nk_grammar.specs.CertificateParser.{TakesToken, TakesTokenInside, progress_of};
 ghost use Rattle.nk_grammar.specs.File.{Declaration, IsWritten, declaration_of};
@@ -139,8 +139,8 @@ impl CertificateParser {
     #[tactic(auto, using(crate::proofs::Progress::takes_on, crate::proofs::Progress::takes_fault, crate::proofs::Progress::takes_nothing, crate::proofs::Progress::takes_no_memory, crate::proofs::Progress::no_fault_after))]
     #[inline(never)]
     fn put_other(&mut self, alloc: Global, token: &Token) -> Result<Option<Completed>, AllocError>
-        ensures taken { IfOk result (λ o. so_far_after (so_far self.old [] []) token.now
-            ≡ so_far self.new (declarations_by o) (rows_by o)) }
+        ensures taken { IfOk result (λ o. prefix_after (parsed_prefix self.old [] []) token.now
+            ≡ parsed_prefix self.new (declarations_by o) (rows_by o)) }
         ensures stopped { IsStopped self.old → (result ≡ Ok None) × (self.new ≡ self.old) }
         ensures err { OnErr result (self.new ≡ self.old) }
     {
@@ -156,8 +156,8 @@ impl CertificateParser {
     /// One more token, and what it completes.
     #[tactic(auto, using(crate::proofs::Progress::takes_on, crate::proofs::Progress::takes_fault, crate::proofs::Progress::takes_nothing, crate::proofs::Progress::takes_no_memory, crate::proofs::Progress::no_fault_after))]
     fn put(&mut self, alloc: Global, token: &Token) -> Result<Option<Completed>, AllocError>
-        ensures taken { IfOk result (λ o. so_far_after (so_far self.old [] []) token.now
-            ≡ so_far self.new (declarations_by o) (rows_by o)) }
+        ensures taken { IfOk result (λ o. prefix_after (parsed_prefix self.old [] []) token.now
+            ≡ parsed_prefix self.new (declarations_by o) (rows_by o)) }
         ensures stopped { IsStopped self.old → (result ≡ Ok None) × (self.new ≡ self.old) }
         ensures err { OnErr result (self.new ≡ self.old) }
     {
