@@ -5,7 +5,7 @@ use Rattle.nk_policy.specs.Tree.{tree_of, trees_of}
 use Rattle.nk_policy.specs.declared.policy.Pol.{Pol}
 use Rattle.nk_policy.proofs.Trees.{joined, joined_push}
 
--- what is left begins with the part at the place
+-- the parts from an index on begin with the part at the index
 pub left_is : (xs : List Pol) (i : ℕ) (q : Pol) → i < length xs → q ≡ get_or xs i q
     → drop i xs ≡ q ∷ drop (i + 1) xs
 left_is xs i q lt is = rw add-one (drop-cons xs i q lt ∙ ap (λ x. x ∷ drop (suc i) xs) (sym is))

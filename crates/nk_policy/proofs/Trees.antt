@@ -16,7 +16,7 @@ row_trees (more_of-Pol p ps) = ap (part (tree_of p)) (row_trees ps)
 pub tree_of_sum : (ps : Pols) → tree_of (Sum ps) ≡ sum_of (trees_of ps.items.items)
 tree_of_sum ps = ap sum_of (row_trees (hidden-the_row-Pol-0 ps.items) ∙ ap trees_of (items_hidden-the_row-Pol-0 ps.items))
 
--- and that of a sequence the sequence
+-- the tree of a sequence is the sequence of the trees of its parts
 pub tree_of_seq : (ps : Pols) → tree_of (Seq ps) ≡ seq_of (trees_of ps.items.items)
 tree_of_seq ps = ap seq_of (row_trees (hidden-the_row-Pol-0 ps.items) ∙ ap trees_of (items_hidden-the_row-Pol-0 ps.items))
 

@@ -32,7 +32,7 @@ abbrev mutual
 abbrev pub after_dup : ℕ → ℕ → Policy
 after_dup k l = if l == k then id_policy else drop_policy
 
--- a link's rest: that of the sequence of its six parts
+-- what is left of a link: what is left of the sequence of its six parts
 abbrev pub after_link : ℕ → ℕ → ℕ → ℕ → Policy
 after_link b n k l =
     if l == k then
@@ -53,12 +53,12 @@ abbrev mutual
   after (dup k) l = after_dup k l
   after (link a m b n k) l = after_link b n k l
 
-  -- of a sum, that of the part that holds the dup
+  -- what is left of a sum: what is left of the part that has the dup
   pub after_some : Policies → ℕ → Policy
   after_some no_part l = drop_policy
   after_some (part p ps) l = if has_dup p l then after p l else after_some ps l
 
-  -- of a sequence, that of the part that holds the dup, then the parts after it
+  -- what is left of a sequence: what is left of the part that has the dup, then the parts after it
   pub after_all : Policies → ℕ → Policy
   after_all no_part l = drop_policy
   after_all (part p ps) l = if has_dup p l then seq_of (part (after p l) ps) else after_all ps l

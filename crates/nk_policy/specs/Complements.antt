@@ -1,8 +1,8 @@
--- Policies in which each complement is of a predicate.
+-- Policies in which each complement negates a predicate.
 use Rattle.std.specs.Prelude.{◌≡◌, true}
 use Rattle.nk_policy.specs.Policy.{Policy, Policies, test, range, assign, sum_of, seq_of, not_of, star_of, dup, link, no_part, part, is_predicate}
 
--- each complement is of a predicate
+-- each complement negates a predicate
 abbrev mutual
   pub NegatesPredicates : Policy → Type 0
   NegatesPredicates (test f n) = Unit {0}
@@ -15,7 +15,7 @@ abbrev mutual
   NegatesPredicates (dup l) = Unit {0}
   NegatesPredicates (link a m b n l) = Unit {0}
 
-  -- each complement in the parts is of a predicate
+  -- each complement in the parts negates a predicate
   pub AllNegatePredicates : Policies → Type 0
   AllNegatePredicates no_part = Unit {0}
   AllNegatePredicates (part p ps) = NegatesPredicates p × AllNegatePredicates ps

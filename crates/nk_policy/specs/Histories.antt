@@ -50,7 +50,7 @@ abbrev mutual
 abbrev pub histories_of : Policy → Packet → List History
 histories_of p pk = histories_from p record { records = []; last = pk }
 
--- it has no star, and each complement is that of a predicate
+-- the policy has no star, and each complement negates a predicate
 abbrev mutual
   pub IsFlat : Policy → Type 0
   IsFlat (test f n) = Unit {0}

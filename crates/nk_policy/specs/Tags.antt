@@ -16,7 +16,7 @@ abbrev pub IsTagBefore : Policy → (Packet → Type 0) → List ℕ → List �
 IsTagBefore p Start s t =
     (m : ℕ) × (n : ℕ) × IsShortest p Start s m × IsShortest p Start t n × ((m < n) ⊎ ((m ≡ n) × IsListedBefore s t))
 
--- the tag sets of a policy in order: tag t stands for the one at place t - 1
+-- the tag sets of a policy in order: tag t stands for the one at index t - 1
 pub record AreTags (p : Policy) (Start : Packet → Type 0) (tags : List (List ℕ)) : Type 0 where
   pub exactly : (s : List ℕ) → Contains tags s ↔ IsTagSet p Start s
   pub in_order : AllPairs (IsTagBefore p Start) tags

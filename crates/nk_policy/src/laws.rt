@@ -46,7 +46,7 @@ pub fn a_run_splits()
         (RecordsAt p pk u x l × RecordsAt (after p l) x v y l') }
 {}
 
-/// A run of what is left after dup k splits in the same way, and the second run is of what is left of the whole policy.
+/// A run of what is left after dup k splits in the same way, and the second run is a run of what is left of the whole policy.
 pub fn a_rest_splits()
     ensures complete { (p : Policy) → HasDistinct p
         → (k : ℕ) (pk : Packet) (u : Marked) (x : Packet) (l : ℕ) (v : Marked) (y : Packet)
