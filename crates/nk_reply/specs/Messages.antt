@@ -14,6 +14,6 @@ start_line fields start = codes "start " ++ packet_bytes fields true start ++ co
 abbrev pub way_lines : FieldTable → Packet → History → List ℕ
 way_lines fields start h = start_line fields start ++ codes "history " ++ history_bytes fields true h ++ codes "\n"
 
--- so it is of what was found
+-- the start packet and the history of what was found, with every field
 abbrev pub found_lines : FieldTable → Found → List ℕ
 found_lines fields f = way_lines fields f.start (record { records = f.records; last = f.last })
