@@ -1,5 +1,5 @@
 //! Answers of operations that are kept.
-ghost use Rattle.std.specs.Prelude.{◌≡◌, [], cond, Some, OnOk, OnErr};
+ghost use Rattle.std.specs.Prelude.{◌≡◌, [], if◌then◌else◌, Some, OnOk, OnErr};
 ghost use Rattle.std.specs.Map.{lookup};
 ghost use Rattle.nk_store.specs.declared.operation.Key.{Key};
 ghost use Rattle.nk_store.specs.Keys.{key_of, key_eq, with_answer};
@@ -54,7 +54,8 @@ impl Answers {
     ) -> Result<(), AllocError>
         ensures answers { OnOk result (self.new ≡ with_answer self.old (key_of operation a b) d) }
         ensures found { OnOk result ((q : Key) → lookup (key_eq q) self.new
-            ≡ cond (key_eq (key_of operation a b) q) (Some d) (lookup (key_eq q) self.old)) }
+            ≡ (if key_eq (key_of operation a b) q then Some d
+            else lookup (key_eq q) self.old)) }
         ensures err { OnErr result (self.new ≡ self.old) }
     {
         self.answers.insert(key(operation, a, b), d)?;

@@ -1,5 +1,5 @@
 //! The nodes of a store, each once, and what is kept beside them.
-ghost use Rattle.std.specs.Prelude.{◌≡◌, ℕ, ◌+◌, ◌-◌, ◌<◌, ◌≤◌, [], ◌++◌, length, replicate, reverse, true, slice_index, cond, Some, IfOk, OnOk, OnErr, List as Items};
+ghost use Rattle.std.specs.Prelude.{◌≡◌, ℕ, ◌+◌, ◌-◌, ◌<◌, ◌≤◌, [], ◌++◌, if◌then◌else◌, length, replicate, reverse, true, slice_index, Some, IfOk, OnOk, OnErr, List as Items};
 ghost use Rattle.std.specs.Map.{lookup};
 ghost use Rattle.nk_store.specs.Nodes.{child_at, is_empty_leaf, Fits, Sound};
 ghost use Rattle.nk_store.specs.Leaves.{Strict, Every, Suits};
@@ -223,7 +223,8 @@ impl NodeTable {
     ) -> Result<(), AllocError>
         ensures ok { OnOk result (self.new ≡ keeping self.old operation a b d) }
         ensures found { OnOk result ((q : Key) → lookup (key_eq q) self.new.kept
-            ≡ cond (key_eq (key_of operation a b) q) (Some d) (lookup (key_eq q) self.old.kept)) }
+            ≡ (if key_eq (key_of operation a b) q then Some d
+            else lookup (key_eq q) self.old.kept)) }
         ensures err { OnErr result (self.new ≡ self.old) }
     {
         self.answers.keep(operation, a, b, d)
