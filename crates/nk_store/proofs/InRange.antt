@@ -15,7 +15,7 @@ padded_value [] n k = zero_value n k
 padded_value (x ∷ xs) n zero = refl
 padded_value (x ∷ xs) n (suc k) = padded_value xs n k
 
--- the largest value of each field is that of the fields
+-- the store has the largest value of each field, as the fields have it
 pub same_value : (fields : FieldTable) (st : StoreState) (k : ℕ) → IsOver fields st →
     get_or st.maxes k 0 ≡ get_or fields.maxima k 0
 same_value fields st k o = ap (λ ms. get_or ms k 0) o.maxes ∙ padded_value fields.maxima (18 - length fields.maxima) k

@@ -79,7 +79,7 @@ joined_some p (q ∷ ps) =
       | inr other ↦ subst (λ ks. 0 < length ks) (sym (joined-keep p q ps other.1)) (omega arith)
     ]
 
--- a single part's child is that of each value
+-- where there is a single part, its child is the child at each value
 pub single_child : (d v : ℕ) (ps : List (ℕ × ℕ)) (q : ℕ × ℕ) → length ps ≡ 1 → q ≡ get_or ps 0 q →
     child_at d ps v ≡ q.1
 single_child d v [] q l e = absurd (omega arith)

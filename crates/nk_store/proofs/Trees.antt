@@ -69,7 +69,7 @@ tree_case made (n ∷ older) i f ps h e below =
           ∙ ap (case f) (branches_same ps (λ c. tree_in made older c) (λ c. tree_in made (n ∷ older) c) (each_of (λ c. c < i) (λ c. tree_in made older c ≡ tree_in made (n ∷ older) c) ps (λ c l. sym (tree_old made n older c (omega (arith, l, below')))) below))
     ]
 
--- the leaf among the branches of parts is that of the child at the value
+-- the leaf among the branches of parts is the leaf of the child at the value
 among_is :
     {L : Type 0} (none : L) (tree : ℕ → Diagram L) (high from d v : ℕ) (ps : List (ℕ × ℕ)) (pk : List ℕ) → Rises high from ps
     → v ≤ high → from ≤ v

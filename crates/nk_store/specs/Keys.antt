@@ -13,6 +13,6 @@ key_eq k q = ghosts.eq k q
 abbrev pub key_of : Operation → ℕ → ℕ → Key
 key_of operation a b = record { operation = operation; left = a; right = b }
 
--- the answers with one more put in: at the place of its key, where that is there, else after all others
+-- the answers with one more put in: in place of the answer of its key, if there is one, else after all others
 abbrev pub with_answer : List (Key × ℕ) → Key → ℕ → List (Key × ℕ)
 with_answer answers k d = insert_entry ghosts.eq answers k d

@@ -11,7 +11,7 @@ use Rattle.nk_store.specs.Keys.{key_eq, key_of}
 use Rattle.nk_store.specs.Leaves.{Strict, Every, Suits}
 use Rattle.nk_store.specs.Nodes.{child_at, node_at, look_in, root_field_in, Rises, Each, Joined, InRange}
 
--- the nodes, newest first; the highest value at each of eighteen places, 0 where no field is; how many fields there are,
+-- the nodes, newest first; the highest value at each of eighteen indices, 0 where no field is; how many fields there are,
 -- the switch and the port among them; which of them is the tag; and the answers of operations that are kept, each with what
 -- it is found by
 pub record StoreState : Type 0 where
@@ -27,7 +27,7 @@ pub record IsOver (fields : FieldTable) (st : StoreState) : Type 0 where
   pub width : st.width ≡ length fields.maxima
   pub tag : st.tag ≡ fields.tag
 
--- eighteen places, the fields in front, no value but 0 after them, and the tag past the port
+-- eighteen highest values, those of the fields in front, only 0 after them, and the tag after the port
 pub record HasFields (st : StoreState) : Type 0 where
   pub places : length st.maxes ≡ 18
   pub few : st.width ≤ 18

@@ -20,14 +20,14 @@ impl Model for Id {
 }
 
 impl Id {
-    /// The number of a place.
+    /// The number of the node at this index.
     pub(crate) fn new(place: usize) -> Id
         ensures { result ≡ place }
     {
         Id { place }
     }
 
-    /// The place of a number.
+    /// The index of the node with this number.
     pub(crate) fn place(self) -> usize
         ensures { result ≡ self }
     {

@@ -242,7 +242,7 @@ impl NodeTable {
     }
 }
 
-/// The largest value at each place, 0 where no field is.
+/// The largest value of each field by its index, 0 where no field is.
 fn maxima(fields: &Fields) -> [u64; 18]
     requires { length fields.now.maxima ≤ 18 }
     ensures { result ≡ fields.now.maxima ++ replicate (18 - length fields.now.maxima) 0 }
