@@ -1,4 +1,4 @@
--- Kinds by their place.
+-- Kinds by their index.
 use Rattle.std.proofs.Common.{◌≡◌, ℕ, true, false, refl, sym, ap, ◌∙◌}
 use Rattle.std.specs.Prelude.{◌==◌, if◌then◌else◌}
 use Rattle.std.proofs.lemmas.Bool.Decides.{eqb_tells}
@@ -7,7 +7,7 @@ use Rattle.nk_lex.specs.declared.kind.Kind.{Kind}
 use Rattle.nk_lex.specs.declared.kind.Kind.TheVariants as kind
 use Rattle.nk_tabgrammar.specs.Terminal.{Terminal, name, number, mark, kind_place, is_mark}
 
--- the kind at a place
+-- the kind with this index
 abbrev kind_at : ℕ → Kind
 kind_at n =
     if n == 0 then kind.Name
@@ -54,7 +54,7 @@ kind_there : (k : Kind) → kind_at (kind_place k) ≡ k
 kind_there kind.Name = refl
 kind_there k = refl
 
--- kinds of one place are one
+-- kinds with one index are equal
 same_kind : (k l : Kind) → kind_place k ≡ kind_place l → k ≡ l
 same_kind k l e = sym (kind_there k) ∙ ap kind_at e ∙ kind_there l
 

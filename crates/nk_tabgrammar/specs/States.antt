@@ -32,11 +32,11 @@ use Rattle.nk_tabgrammar.specs.Machine.{Reading, read_table_token, written_at_en
 abbrev pub MaybeStep : Type 0
 MaybeStep = Option (State × Tells)
 
--- the token is of this kind
+-- whether two kinds are the same
 abbrev pub is_kind : Kind → Kind → Bool
 is_kind k l = kind_place k == kind_place l
 
--- where the token is of this kind, this comes of it
+-- this step, if the kind is the wanted one
 abbrev pub step_if : Kind → Kind → State → Tells → MaybeStep
 step_if wanted k s t = if is_kind wanted k then Some (s, t) else None
 

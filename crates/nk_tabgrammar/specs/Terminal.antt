@@ -21,7 +21,7 @@ table_terminal_from k line value text = mark k
 abbrev pub table_terminal_of : Token → Terminal
 table_terminal_of t = table_terminal_from t.kind t.line t.value t.text
 
--- the place of a kind among all kinds
+-- the index of a kind among all kinds
 abbrev pub kind_place : Kind → ℕ
 kind_place kind.Name = 0
 kind_place kind.Number = 1
