@@ -1,5 +1,5 @@
 //! Diagrams that test an interval of one field.
-ghost use Rattle.std.specs.Prelude.{◌≡◌, ◌<◌, ◌≤◌, [], ◌∷◌, cond, eqb, min, IfOk, slice_index};
+ghost use Rattle.std.specs.Prelude.{◌≡◌, ◌==◌, ◌<◌, ◌≤◌, [], ◌∷◌, if◌then◌else◌, min, IfOk, slice_index};
 ghost use Rattle.nk_store.specs.StoreState.{IsChild, look, root_field, Grows, HasLeaves};
 ghost use Rattle.nk_apply.specs.Spans.{spanned, span_list};
 ghost use Rattle.nk_apply.specs.Seqs.{no_out, in_span};
@@ -63,8 +63,8 @@ pub fn test(st: &mut Store, f: Fid, n: u64) -> Result<Id, AllocError>
     requires within { n ≤ slice_index st.old.maxes f }
     ensures grows { Grows st.old st.new }
     ensures ok { IfOk result (λ d. HasLeaves st.new d
-        (λ pk. cond (eqb (min (slice_index pk f) (slice_index st.old.maxes f)) n)
-        (no_out ∷ []) [])) }
+        (λ pk. if min (slice_index pk f) (slice_index st.old.maxes f) == n
+        then no_out ∷ [] else [])) }
     ensures later { IfOk result (λ d. f ≤ root_field st.new d) }
     ensures predicate { IfOk result (λ d. IsPredicate st.new d) }
 {
@@ -77,8 +77,8 @@ fn at_value(st: &mut Store, f: Fid, n: u64) -> Result<Id, AllocError>
     requires within { n ≤ slice_index st.old.maxes f }
     ensures grows { Grows st.old st.new }
     ensures ok { IfOk result (λ d. HasLeaves st.new d
-        (λ pk. cond (eqb (min (slice_index pk f) (slice_index st.old.maxes f)) n)
-        (no_out ∷ []) [])) }
+        (λ pk. if min (slice_index pk f) (slice_index st.old.maxes f) == n
+        then no_out ∷ [] else [])) }
     ensures later { IfOk result (λ d. f ≤ root_field st.new d) }
 {
     let inside = identity(st)?;
