@@ -12,7 +12,7 @@ use Rattle.nk_apply.specs.Cofactors.{cofactor}
 abbrev pub AreIds : StoreState → List ℕ → Type 0
 AreIds st ds = (k : ℕ) → k < length ds → IsId st (slice_index ds k)
 
--- the leaves of n of the diagrams, from a place on, as one ascending list
+-- the leaves of n of the diagrams, from an index on, as one ascending list
 abbrev pub unions : StoreState → List ℕ → ℕ → ℕ → List ℕ → List Out
 unions st ds from zero pk = []
 unions st ds from (suc n) pk = merged (look st (slice_index ds from) pk) (unions st ds (from + 1) n pk)
@@ -21,12 +21,12 @@ unions st ds from (suc n) pk = merged (look st (slice_index ds from) pk) (unions
 abbrev pub outs_in_turn : StoreState → List ℕ → List Out
 outs_in_turn st ds = flat_map (outs_of st) ds
 
--- what F makes of n places from one on, as one ascending list
+-- what F makes of n indices from this one on, as one ascending list
 abbrev pub over_places : (ℕ → List Out) → ℕ → ℕ → List Out
 over_places F from zero = []
 over_places F from (suc n) = merged (F from) (over_places F (from + 1) n)
 
--- what F makes of n places from one on, one's after the other's
+-- what F makes of n indices from this one on, one list after the other
 abbrev pub in_turn : (ℕ → List Out) → ℕ → ℕ → List Out
 in_turn F from zero = []
 in_turn F from (suc n) = F from ++ in_turn F (from + 1) n
@@ -35,7 +35,7 @@ in_turn F from (suc n) = F from ++ in_turn F (from + 1) n
 abbrev pub AreFrom : StoreState → ℕ → List ℕ → Type 0
 AreFrom st f ds = (k : ℕ) → k < length ds → f ≤ root_field st (slice_index ds k)
 
--- the leaf of the diagram at place k, at the value v of f
+-- the leaf of the diagram with index k, at the value v of f
 abbrev pub cofactor_leaf : StoreState → ℕ → List ℕ → ℕ → List ℕ → ℕ → List Out
 cofactor_leaf st f ds v pk k = look st (cofactor st f v (slice_index ds k)) pk
 

@@ -118,7 +118,7 @@ impl Join for Absent {
     }
 }
 
-/// Appends the outs from a place on.
+/// Appends the outs from this index on.
 pub(crate) fn copy_from(all: &mut List<Out>, outs: &[Out], from: usize) -> Result<(), AllocError>
     requires { from ≤ length outs.now }
     ensures { OnOk result (all.new ≡ all.old ++ drop from outs.now) }

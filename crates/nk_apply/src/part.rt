@@ -33,8 +33,8 @@ pub fn part_at(st: &Store, d: Id, f: Fid, v: u64) -> (u64, Id)
 }
 
 /// Which diagram it is at a value of the field, and up to which value that stays so: the last such value, then the diagram. The
-/// search begins at the place `near` among the parts and leaves there the place that it found, so values that rise are found in
-/// few steps. No clause speaks of that place.
+/// search begins at the index `near` among the parts and sets `near` to the index that it found, so values that rise are found in
+/// few steps. No clause speaks of that index.
 pub fn part_near(st: &Store, d: Id, f: Fid, v: u64, near: &mut usize) -> (u64, Id)
     requires id { IsId st.now d }
     requires first { f ≤ root_field st.now d }
@@ -55,8 +55,8 @@ pub fn part_near(st: &Store, d: Id, f: Fid, v: u64, near: &mut usize) -> (u64, I
     }
 }
 
-/// The first part whose end is not below the value, looked for at a place first, which becomes the part's own;
-/// no clause speaks of that place.
+/// The first part whose end is not below the value. It is looked for at the index `near` first, which becomes the part's own
+/// index; no clause speaks of that index.
 pub fn found_near(parts: &[(u64, Id)], max: u64, v: u64, near: &mut usize) -> (u64, Id)
     requires rise { Rises max 0 parts.now }
     requires within { v ≤ max }
@@ -69,8 +69,8 @@ pub fn found_near(parts: &[(u64, Id)], max: u64, v: u64, near: &mut usize) -> (u
     parts[place]
 }
 
-/// The place of the first part whose end is not below the value, of parts whose ends rise to the highest value: looked for
-/// at a place, then after it, then everywhere.
+/// The index of the first part whose end is not below the value, of parts whose ends rise to the highest value: looked for
+/// at the index `near`, then after it, then everywhere.
 fn place_near(parts: &[(u64, Id)], max: u64, v: u64, near: usize) -> usize
     requires rise { Rises max 0 parts.now }
     requires within { v ≤ max }
@@ -86,7 +86,7 @@ fn place_near(parts: &[(u64, Id)], max: u64, v: u64, near: usize) -> usize
     place_of(parts, max, v)
 }
 
-/// Whether the part at a place is that one: its end is not below the value, and the one before it is.
+/// Whether the part at this index is that one: its end is not below the value, and the one before it is.
 fn is_place(parts: &[(u64, Id)], max: u64, v: u64, place: usize) -> bool
     requires rise { Rises max 0 parts.now }
     ensures within { result ≡ true → place < length parts.now }
@@ -103,7 +103,7 @@ fn is_place(parts: &[(u64, Id)], max: u64, v: u64, place: usize) -> bool
     parts[before].0 < v
 }
 
-/// The place of that part.
+/// The index of that part.
 fn place_of(parts: &[(u64, Id)], max: u64, v: u64) -> usize
     requires rise { Rises max 0 parts.now }
     requires within { v ≤ max }
