@@ -9,7 +9,7 @@ use nk_store::Out;
 use std::alloc::AllocError;
 
 /// How many fields there are, the match of the tag in these rows (the field, its value and all its digits), and the bit
-/// of the field at each place.
+/// of each field by its index.
 #[derive(Clone, Copy)]
 pub(crate) struct Frame {
     pub width: usize,
@@ -52,7 +52,7 @@ fn priority(frame: &Frame, matches: &[(Fid, u64, u8)]) -> u16
     all as u16
 }
 
-/// The bit of the field at each place: one for each matchable field after it.
+/// The bit of each field by its index: one for each matchable field after it.
 pub(crate) fn bits_of(width: usize, tag: Fid) -> [u32; 18]
     requires { width ≤ 18 }
     ensures { AreBits width tag result }
