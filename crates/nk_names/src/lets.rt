@@ -14,7 +14,7 @@ use nk_field::List;
 use std::alloc::{AllocError, Global};
 use std::collections::HashMap;
 
-/// Policies in the order of the text, each with its name, what is known of it, and its place by its name.
+/// Policies in the order of the text, each with its name, what is known of it, and its index by its name.
 pub(crate) struct Lets {
     pub(crate) entries: Vec<(List<u8>, NamedPolicy)>,
     shapes: Vec<Shape>,
@@ -46,7 +46,7 @@ impl Lets {
         }
     }
 
-    /// The place of the policy with the name.
+    /// The index of the policy with the name, if there is one.
     fn place(&self, name: &[u8]) -> Option<usize>
         ensures place { result ≡ position_from
             (λ e. bytes_eq e.0 name.now) 0 self.now.entries.items }
