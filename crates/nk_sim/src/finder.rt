@@ -14,7 +14,7 @@ pub struct Finder {
 }
 
 impl Finder {
-    /// The finder of these tables. It takes a few bytes for each number up to that of the greatest switch with a table.
+    /// The finder of these tables. It takes a few bytes for each number up to the number of the greatest switch with a table.
     /// The only error is that memory ran out.
     pub fn new(alloc: Global, t: &Tables) -> Result<Finder, AllocError>
         ensures { IfOk result (λ finder. Finds finder t.now.tables) }
@@ -35,7 +35,7 @@ impl Finder {
     }
 }
 
-/// The place of the first table of each switch.
+/// The index of the first table of each switch.
 fn places_of(alloc: Global, tables: &[Table]) -> Result<Vec<Option<usize>>, AllocError>
     ensures { IfOk result (λ places. (switch : ℕ)
         → found_by places.items tables.now switch ≡ table_of tables.now switch) }
@@ -49,7 +49,7 @@ fn places_of(alloc: Global, tables: &[Table]) -> Result<Vec<Option<usize>>, Allo
     Ok(places)
 }
 
-/// Sets a switch's place.
+/// Sets the index of a switch's table.
 fn set_place(places: &mut Vec<Option<usize>>, switch: u16, place: usize) -> Result<(), AllocError>
     ensures { OnOk result ((other : ℕ) → slice_index_or places.new.items other None
         ≡ (if switch == other then Some place else slice_index_or places.old.items other None)) }
@@ -59,7 +59,7 @@ fn set_place(places: &mut Vec<Option<usize>>, switch: u16, place: usize) -> Resu
     Ok(())
 }
 
-/// Makes room for a switch's place; no switch gets one.
+/// Makes room for the index of a switch's table; no switch gets one.
 fn make_room(places: &mut Vec<Option<usize>>, switch: u16) -> Result<(), AllocError>
     ensures room { OnOk result (switch < length places.new.items) }
     ensures kept { OnOk result
@@ -74,7 +74,7 @@ fn make_room(places: &mut Vec<Option<usize>>, switch: u16) -> Result<(), AllocEr
     Ok(())
 }
 
-/// The place that a switch has, if it has one.
+/// The index of a switch's table, if it has one.
 fn place_at(places: &[Option<usize>], switch: u64) -> Option<usize>
     ensures { result ≡ slice_index_or places.now switch None }
 {
