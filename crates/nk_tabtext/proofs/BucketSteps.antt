@@ -34,7 +34,7 @@ use Rattle.nk_tabgrammar.specs.declared.states.Tells.TheVariants as tells
 use Rattle.nk_tabgrammar.specs.States.{MaybeStep, after_token, after_in, bucket_state, in_bucket, or_else, state_of_stage}
 use Rattle.nk_tabtext.specs.Values.{bucket_with, line_above, row_with}
 use Rattle.nk_tabtext.specs.Progress.{group_bucket_told, row_bucket_told, out_back_told, FillingValue, PartialValue, KnownValue, number_of_token, word_of_token}
-use Rattle.nk_tabtext.proofs.Prefixes.{then_same, unless_assoc}
+use Rattle.nk_tabtext.proofs.AddedParts.{then_same, unless_assoc}
 use Rattle.nk_tabtext.proofs.Stages.{TablesSoFar, so_far, with_sets, rowed_so, filled_so, assigned_so, named_so, left_so, is_assigned, word_fault, row_more_bucket, first_bucket_more, bucket_more, pair_more}
 use Rattle.nk_tabtext.proofs.Fitting.{Fits, IsField, Owns, Rows, gives_filling, gives_on, gives_still}
 use Rattle.nk_tabtext.proofs.Going.{Both, Follows, both_through, by_token, none_through}

@@ -37,7 +37,7 @@ use Rattle.nk_tabgrammar.specs.States.{MaybeStep, after_token, state_of_stage}
 use Rattle.nk_declare.specs.Declarations.{number_fault, port_fault}
 use Rattle.nk_tabtext.specs.Values.{read_of, version_fault}
 use Rattle.nk_tabtext.specs.Progress.{DeclaringValue, PartialValue, KnownValue, declares_of, finished, first_partial, known_after, known_of, number_of_token, switch_ends_told, unless_declared, with_declaring, word_of_token}
-use Rattle.nk_tabtext.proofs.Prefixes.{then_assoc, then_same}
+use Rattle.nk_tabtext.proofs.AddedParts.{then_assoc, then_same}
 use Rattle.nk_tabtext.proofs.Stages.{TablesSoFar, so_far, declared_so, tabled_so, declaration_more, no_table_more}
 use Rattle.nk_tabtext.proofs.Fitting.{Closes, Declares, Fits, Gives, Linked, Parts, Ported, Real, gives_declaring, gives_more, gives_on, gives_still, gives_unless, gives_with, ports_so, switch_so}
 use Rattle.nk_tabtext.proofs.Going.{Both, Follows, both_if, both_last, both_through, by_token, none_if}

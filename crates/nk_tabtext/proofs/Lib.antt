@@ -23,7 +23,7 @@ pub mod RowSteps
 pub mod Rowing
 pub mod SameBucket
 pub mod Setting
-pub mod Prefixes
+pub mod AddedParts
 pub mod Stages
 pub mod Stopping
 pub mod TableLines

@@ -34,7 +34,7 @@ use Rattle.nk_tabgrammar.specs.declared.stage.Owner.TheVariants as owner
 use Rattle.nk_tabgrammar.specs.Machine.{with_declaration, with_table, with_group, with_table_row, with_table_match, row_written}
 use Rattle.nk_tabtext.specs.Values.{FaultLine, bucket_with, checked, digits_in, group_fault, group_of, group_read, groups_read, has_key, length_fault, line_above, line_if, matches_read, ones_fault, pairs_read, plain_declaration, placed_match, read_of, row_with, rows_read, said_after, table_fault, table_with, tables_read, version_fault, way_read}
 use Rattle.nk_tabtext.specs.Progress.{match_set}
-use Rattle.nk_tabtext.proofs.Prefixes.{then_assoc, checked_assoc, checked_first, unless_assoc, said_more, pairs_more, matches_more, buckets_more, groups_more, rows_more, tables_more}
+use Rattle.nk_tabtext.proofs.AddedParts.{then_assoc, checked_assoc, checked_first, unless_assoc, said_more, pairs_more, matches_more, buckets_more, groups_more, rows_more, tables_more}
 
 -- what is said so far: of the text, of the table that is read, and of the group or row that is
 pub record TablesSoFar : Type 0 where

@@ -25,7 +25,7 @@ use Rattle.nk_tabgrammar.specs.declared.states.Tells.TheVariants as tells
 use Rattle.nk_tabgrammar.specs.States.{MaybeStep, after_token, bucket_state, in_bucket, state_of_stage}
 use Rattle.nk_tabtext.specs.Values.{group_of, line_if, unless_at}
 use Rattle.nk_tabtext.specs.Progress.{PartialValue, KnownValue, finished, known_after}
-use Rattle.nk_tabtext.proofs.Prefixes.{then_assoc}
+use Rattle.nk_tabtext.proofs.AddedParts.{then_assoc}
 use Rattle.nk_tabtext.proofs.Stages.{TablesSoFar, so_far, tabled_so, grouped_so, filled_so, group_more}
 use Rattle.nk_tabtext.proofs.Fitting.{Closes, Fits, Gives, Groups, Owns, gives_more}
 use Rattle.nk_tabtext.proofs.Going.{Both, Follows}
@@ -43,7 +43,7 @@ use Rattle.nk_tabgrammar.specs.Machine.{Reading, first_table_reading, table_judg
 use Rattle.nk_tabgrammar.specs.States.{at_end}
 use Rattle.nk_tabtext.specs.Values.{tables_from, whole}
 use Rattle.nk_tabtext.specs.Progress.{Progress, ReadsAsWhole, Sound, Faulty, Stopped, read_at_end, end_told, first_table_progress, progress_after, progress_on, step_on, tables_of_progress}
-use Rattle.nk_tabtext.proofs.Prefixes.{checked_assoc}
+use Rattle.nk_tabtext.proofs.AddedParts.{checked_assoc}
 use Rattle.nk_tabtext.proofs.Stages.{declared_so, no_table_more}
 use Rattle.nk_tabtext.proofs.Fitting.{Declares, Ported, ports_so}
 use Rattle.nk_tabtext.proofs.DeclarationSteps.{step_start, step_version, step_between, step_field, step_named, step_tag, step_switch, step_numbered, step_first_port, step_next_port, step_port, step_link, switch_ends, switch_more, with_ports}
