@@ -92,7 +92,7 @@ impl LastMatches {
         Ok(place)
     }
 
-    /// Puts a match, where it is of the tag or not as is asked.
+    /// Puts a match of the tag, if `tag` is true, and one of another field, if `tag` is false; else nothing changes.
     #[inline(always)]
     fn put_if(
         &mut self,

@@ -176,7 +176,7 @@ fn some_matches(
     Ok(())
 }
 
-/// A match, where it is of the tag or not as is asked.
+/// Appends a match of the tag, if `tag` is true, and one of another field, if `tag` is false; else nothing.
 fn match_if(out: &mut Vec<u8>, fs: &Fields, m: &(Fid, u64, u8), tag: bool) -> Result<(), AllocError>
     ensures { OnOk result (out.new.items
         ≡ out.old.items ++ where_same (is_tag fs.now m.now.0) tag (match_text fs.now m.now)) }
@@ -204,7 +204,7 @@ fn some_sets(
     Ok(())
 }
 
-/// An assignment, where it is of the tag or not as is asked.
+/// Appends an assignment to the tag, if `tag` is true, and one to another field, if `tag` is false; else nothing.
 fn set_if(out: &mut Vec<u8>, fs: &Fields, f: Fid, n: u64, tag: bool) -> Result<(), AllocError>
     ensures { OnOk result (out.new.items
         ≡ out.old.items ++ where_same (is_tag fs.now f) tag (set_text fs.now (f, n))) }
