@@ -69,7 +69,7 @@ fn outs_partition(
     Ok(all)
 }
 
-/// Puts an out at the end, where it is of the kind, or where it isn't.
+/// Appends an out whose act is of the kind, if `chosen` is true, and one whose act isn't, if `chosen` is false; else nothing.
 fn push_apart(all: &mut List<Out>, kind: &Kind, chosen: bool, o: &Out) -> Result<(), AllocError>
     ensures { OnOk result (all.new ≡ all.old ++ passed (is_of kind.now) chosen o.now) }
 {
