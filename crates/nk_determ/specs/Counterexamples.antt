@@ -23,6 +23,6 @@ pub record IsCounterexampleWithTarget (st : StoreState) (states set : List ℕ) 
   pub walk : Walks (IsStep st states) (set, f.start) f.records end
   pub makes : MakesWithTarget (bad end.0 end.1) end.1 f.last target
 
--- the history is a break by a violation with some target
+-- the history is a counterexample with some target
 abbrev pub IsCounterexample : StoreState → List ℕ → List ℕ → ℕ → (List ℕ → List ℕ → List Out) → Found → Type 0
 IsCounterexample st states set start bad f = (target : ℕ) × IsCounterexampleWithTarget st states set start bad target f
