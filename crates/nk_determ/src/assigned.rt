@@ -1,5 +1,5 @@
 //! What the acts of a diagram assign: to which fields, and which values to one of them.
-ghost use Rattle.std.specs.Prelude.{◌≡◌, ℕ, ◌<◌, ◌≤◌, ◌++◌, eqb, true, false, List as Items, IfOk, OnOk, length, slice_index_or};
+ghost use Rattle.std.specs.Prelude.{◌≡◌, ◌==◌, ℕ, ◌<◌, ◌≤◌, ◌++◌, true, false, List as Items, IfOk, OnOk, length, slice_index_or};
 ghost use Rattle.std.specs.List.{Contains, list_any};
 ghost use Rattle.std.specs.List.Sorted.{IsNonDecreasing};
 ghost use Rattle.nk_store.specs.declared.node.Out.{Out};
@@ -213,7 +213,7 @@ fn add_once(found: &mut List<u64>, n: u64) -> Result<(), AllocError>
 
 /// Whether a number is one of these.
 pub(crate) fn is_among(all: &List<u64>, n: u64) -> bool
-    ensures { result ≡ list_any (λ m. eqb m n) all.now }
+    ensures { result ≡ list_any (λ m. m == n) all.now }
 {
     all.as_slice().iter().any(|m| *m == n)
 }

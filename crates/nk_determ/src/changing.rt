@@ -1,5 +1,5 @@
 //! Diagrams without the assignments to one field that don't change the packet.
-ghost use Rattle.std.specs.Prelude.{◌≡◌, ℕ, ◌<◌, ◌≤◌, map, min, cond, IfOk, List as Items, slice_index};
+ghost use Rattle.std.specs.Prelude.{◌≡◌, ℕ, ◌<◌, ◌≤◌, if◌then◌else◌, map, min, IfOk, List as Items, slice_index};
 ghost use Rattle.std.specs.List.Sorted.{IsNonDecreasing};
 ghost use Rattle.nk_store.specs.Nodes.{child_at};
 ghost use Rattle.nk_store.specs.StoreState.{IsId, IsWhole, look, root_field, Grows, HasLeaves, AreParts};
@@ -162,7 +162,7 @@ fn piece(st: &mut Store, f: Fid, n: u64, alone: bool, d: Id) -> Result<Id, Alloc
     ensures grows { Grows st.old st.new }
     ensures ok { IfOk result
         (λ r. HasLeaves st.new r
-        (λ pk. cond alone (leaf_without f n (look st.old d pk)) (look st.old d pk))) }
+        (λ pk. if alone then leaf_without f n (look st.old d pk) else look st.old d pk)) }
     ensures later { IfOk result (λ r. root_field st.old d ≤ root_field st.new r) }
 {
     if alone {

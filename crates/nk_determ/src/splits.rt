@@ -1,5 +1,5 @@
 //! Diagrams whose acts assign exactly the fields that they change.
-ghost use Rattle.std.specs.Prelude.{◌≡◌, ℕ, ◌<◌, ◌↔◌, cond, eqb, List as Items, Some, IfOk, true};
+ghost use Rattle.std.specs.Prelude.{◌≡◌, ◌==◌, ℕ, ◌<◌, ◌↔◌, if◌then◌else◌, List as Items, Some, IfOk, true};
 ghost use Rattle.std.specs.List.{list_any};
 ghost use Rattle.nk_store.specs.StoreState.{IsId, IsStorePacket, look, recalled, Grows, HasLeaves};
 ghost use Rattle.nk_store.specs.KeptAnswers.{GivesKept};
@@ -71,8 +71,8 @@ fn drop_among(st: &mut Store, fields: &List<u64>, f: Fid, d: Id) -> Result<Id, A
     ensures grows { Grows st.old st.new }
     ensures ok { IfOk result
         (λ r. HasLeaves st.new r
-        (λ pk. cond (list_any (λ m. eqb m f) fields.now)
-        (leaf_changing st.old.maxes f pk (look st.old d pk)) (look st.old d pk))) }
+        (λ pk. if list_any (λ m. m == f) fields.now
+        then leaf_changing st.old.maxes f pk (look st.old d pk) else look st.old d pk)) }
 {
     if is_among(fields, f.place() as u64) {
         return drop_unchanged(st, f, d);
