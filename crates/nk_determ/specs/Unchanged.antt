@@ -10,7 +10,7 @@ use Rattle.nk_store.specs.StoreState.{StoreState, look}
 abbrev pub assigns : ℕ → ℕ → List (ℕ × ℕ) → Bool
 assigns f n act = list_any (λ s. eqb s.0 f && eqb s.1 n) act
 
--- the act without the assignment to the field f, where that is of the value n
+-- the act without its assignments to the field f, if it assigns the value n to f, else the act itself
 abbrev pub act_without : ℕ → ℕ → List (ℕ × ℕ) → List (ℕ × ℕ)
 act_without f n act = cond (assigns f n act) (left_without f act) act
 

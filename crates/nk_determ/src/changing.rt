@@ -12,7 +12,7 @@ use nk_field::{Act, Fid, List};
 use nk_store::{Id, Out, Store};
 use std::alloc::{AllocError, Global};
 
-/// Each act without the assignment to a field, where that is of a value.
+/// A change of acts: an act that assigns the value to the field loses its assignments to the field, and others stay.
 #[derive(Drop)]
 struct Without {
     field: Fid,
@@ -29,7 +29,7 @@ impl LeafMap for Without {
     }
 }
 
-/// Each out with its act without the assignment to a field, where that is of a value; in their order.
+/// The outs, in order: an act that assigns the value to the field loses its assignments to the field.
 fn outs_without(alloc: Global, f: Fid, n: u64, outs: &[Out]) -> Result<List<Out>, AllocError>
     ensures { IfOk result (λ r. r ≡ map (out_without f n) outs.now) }
 {
@@ -43,7 +43,7 @@ fn outs_without(alloc: Global, f: Fid, n: u64, outs: &[Out]) -> Result<List<Out>
     Ok(all)
 }
 
-/// The act without the assignment to a field, where that is of a value.
+/// The act, which loses its assignments to the field if it assigns the value to the field.
 fn act_without(alloc: Global, f: Fid, n: u64, act: &Act) -> Result<Act, AllocError>
     ensures { IfOk result (λ a. a ≡ act_without f n act.now) }
 {

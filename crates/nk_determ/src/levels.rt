@@ -5,10 +5,10 @@ use crate::sets::SetId;
 use nk_field::List;
 use nk_store::Id;
 
-/// A walk of an automaton, level by level: the level at place k has each set state with the packets that are
+/// A walk of an automaton, level by level: level k has each set state with the packets that are
 /// first met under it after k records.
 pub struct Levels {
-    /// The levels, that of the start first. Each is a list of a set's number and its packets, each set once.
+    /// The levels, the level of the start first. Each is a list of a set's number and its packets, each set once.
     pub levels: List<List<(SetId, Id)>>,
     /// Whether they ended at a level with a violation.
     broken: bool,
