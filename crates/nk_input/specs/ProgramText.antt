@@ -44,12 +44,12 @@ abbrev pub IsFaultOfNames : Result DeclaredProgram NamesError → List ℕ → T
 IsFaultOfNames (Ok said) text = ⊥
 IsFaultOfNames (Err e) text = TellsNames e text
 
--- so it is of tokens
+-- the grammar has a fault, or else the declarations have one, and the line tells the first one
 abbrev pub IsFaultOfTokens : Result (List Declaration) GrammarError → List ℕ → Type 0
 IsFaultOfTokens (Ok declarations) text = IsFaultOfNames (program_of declarations) text
 IsFaultOfTokens (Err e) text = TellsGrammar e text
 
--- and of bytes
+-- there is a lexical fault, or else one of the grammar or of the declarations, and the line tells the first one
 abbrev pub IsFaultOfBytes : Result (List Token) LexError → List ℕ → Type 0
 IsFaultOfBytes (Ok tokens) text = IsFaultOfTokens (file_of tokens) text
 IsFaultOfBytes (Err e) text = TellsLexical e text

@@ -19,13 +19,13 @@ pub record IsOfDeclarations (declarations : List Declaration) (program : Program
   pub declared : CanBeDeclared (program_by program)
   pub means : program_of declarations ≡ Ok (program_by program)
 
--- so it is of tokens
+-- the tokens give declarations, and these give the program, as above
 pub record IsOfTokens (tokens : List Token) (program : Program) : Type 0 where
   pub declarations : List Declaration
   pub read : file_of tokens ≡ Ok declarations
   pub of : IsOfDeclarations declarations program
 
--- and of bytes
+-- the bytes give tokens, and these give the program, as above
 pub record IsOfBytes (bytes : List ℕ) (program : Program) : Type 0 where
   pub tokens : List Token
   pub cut : tokens_of bytes ≡ Ok tokens
