@@ -5,7 +5,7 @@ ghost use Rattle.nk_sets.specs.PacketSets.{is_in};
 
 use nk_store::{Id, Store};
 
-/// Whether no packet is in the set. Any diagram will do: its set is that of the packets with an out.
+/// Whether no packet is in the set. Any diagram will do: its set has the packets with an out.
 pub fn is_empty(st: &Store, s: Id) -> bool
     requires { IsId st.now s }
     ensures yes { result ≡ true → (pk : Items ℕ) → IsWhole pk → is_in st.now s pk ≡ false }

@@ -8,7 +8,7 @@ use nk_store::{Id, Node, Store};
 use std::alloc::AllocError;
 
 /// The least packet of a set, by the first field where packets differ; none exactly for the empty set. Any diagram will
-/// do: its set is that of the packets with an out. It takes no memory and never fails.
+/// do: its set has the packets with an out. It takes no memory and never fails.
 pub fn least(st: &Store, s: Id) -> Result<Option<Packet>, AllocError>
     requires { IsId st.now s }
     ensures { IsOkAnd result (λ o. MatchOption o

@@ -231,7 +231,7 @@ fn is_none(st: &Store, c: Id) -> bool
     st.drops(c)
 }
 
-/// Whether a set is that of all packets.
+/// Whether a set's diagram is a leaf with an out, so that the set has all packets.
 fn is_all(st: &Store, c: Id) -> bool
     requires { IsId st.now c }
     ensures { result ≡ is_full_set (set_tree st.now c) }
