@@ -13,10 +13,10 @@ use Rattle.nk_sets.specs.PacketSets.{has_some_out, is_in, IsImage}
 use Rattle.nk_outs.specs.declared.outs.OutPackets.{OutPackets}
 use Rattle.nk_outs.specs.Outs.{entry}
 use Rattle.nk_outs.proofs.Kept.{packet_on, has_on, get_or_same}
-use Rattle.nk_outs.proofs.Givens.{entry_at}
+use Rattle.nk_outs.proofs.OutEntries.{entry_at}
 use Rattle.nk_steps.proofs.Locals.{acts_in_range}
 use Rattle.nk_backward.specs.declared.transitions.Transitions.{Transitions}
-use Rattle.nk_backward.specs.Transitions.{transitions_at, AreAllGiven}
+use Rattle.nk_backward.specs.Transitions.{transitions_at, OutsSuitStore}
 use Rattle.nk_backward.specs.Predecessors.{out_at, ArePlacesBelow, place_at, transition_out, packet_made, diagram_at, HaveDiagrams, ShowsBelow, IsMarked, AreMarked}
 use Rattle.nk_backward.proofs.Tracing.{at_place}
 
@@ -209,9 +209,9 @@ marked_start st ts places = record {
 }
 
 -- one transition more
-pub marked_push : (a st new : StoreState) (ts : List Transitions) (places : List (ℕ × ℕ)) (k : ℕ) (q : OutPackets) (ds all : List (ℕ × ℕ)) → Grows a st → AreAllGiven a ts → ArePlacesBelow ts (length ts) places → k < length places → q ≡ out_at ts (place_at places k) → AreMarked a ts places k st ds →
+pub marked_push : (a st new : StoreState) (ts : List Transitions) (places : List (ℕ × ℕ)) (k : ℕ) (q : OutPackets) (ds all : List (ℕ × ℕ)) → Grows a st → OutsSuitStore a ts → ArePlacesBelow ts (length ts) places → k < length places → q ≡ out_at ts (place_at places k) → AreMarked a ts places k st ds →
     IsMarked st q k ds new all → AreMarked a ts places (k + 1) new all
-marked_push a st new ts places k q ds all g given are l is was one = record {
+marked_push a st new ts places k q ds all g suits_store are l is was one = record {
   ids = one.ids;
   goes = λ t y o w s. elim (one.from t y o (packet_on a st y g w) s) [
     | inl old ↦ was.goes t y o w old
@@ -222,7 +222,7 @@ marked_push a st new ts places k q ds all g given are l is was one = record {
     | inl same ↦
         let e : q ≡ out_at ts (place_at places n) = is ∙ ap (λ (j : ℕ). out_at ts (place_at places j)) (sym same.1) in
         let at = place_is ts places n are i.0 in
-        let has : is_in st (out_at ts (place_at places n)).packets z ≡ true = has_on a st (out_at ts (place_at places n)).packets z g (given (place_at places n).0 at.0 (place_at places n).1 at.1).packets.id h in
+        let has : is_in st (out_at ts (place_at places n)).packets z ≡ true = has_on a st (out_at ts (place_at places n)).packets z g (suits_store (place_at places n).0 at.0 (place_at places n).1 at.1).packets.id h in
         let shown = one.comes t z (packet_on a st z g w) (subst (λ (p : OutPackets). p.out.target ≡ t + 1) (sym e) i.1) (subst (λ (p : OutPackets). is_in st p.packets z ≡ true) (sym e) has) in
         subst (λ (j : ℕ). ShowsBelow new all (length all) t (packet_made ts places n z) (transition_out j)) (sym same.1)
         (subst (λ (p : OutPackets). ShowsBelow new all (length all) t (applied p.out.act z) (transition_out k)) e shown)

@@ -22,7 +22,7 @@ use Rattle.nk_goal.proofs.Growing.{sets_known, sets_same, under_on, under_back, 
 use Rattle.nk_goal.proofs.Adding.{not_found, found_under, under_found}
 use Rattle.nk_witness.proofs.Pulling.{empty_not}
 use Rattle.nk_backward.specs.declared.transitions.Transitions.{Transitions}
-use Rattle.nk_backward.specs.Transitions.{explored_entries, AreAllGiven, LeadsInto, AreTransitions}
+use Rattle.nk_backward.specs.Transitions.{explored_entries, OutsSuitStore, LeadsInto, AreTransitions}
 use Rattle.nk_backward.specs.Closures.{IsClosure}
 use Rattle.nk_backward.specs.CounterexampleStarts.{StartsCounterexample, AreCounterexampleStarts, of_side, IsSideViolation, LeadToSide, StandUnder}
 use Rattle.nk_backward.proofs.Listing.{under_entries, each_entry}
@@ -51,16 +51,16 @@ under_none st new back s x r none h pred = record {
 }
 
 -- from violations by their closure
-pub lead_to_side_of : (st s1 s2 new : StoreState) (ss : List (List ℕ)) (ts : List Transitions) (entries : List (ℕ × ℕ)) (bad : List ℕ → List ℕ → List Out) (side : Side) (s x : ℕ) (goal back : List (ℕ × ℕ)) (r : ℕ) → Grows st s1 → Grows s1 s2 → IsId st x → AreAllGiven st ts →
+pub lead_to_side_of : (st s1 s2 new : StoreState) (ss : List (List ℕ)) (ts : List Transitions) (entries : List (ℕ × ℕ)) (bad : List ℕ → List ℕ → List Out) (side : Side) (s x : ℕ) (goal back : List (ℕ × ℕ)) (r : ℕ) → Grows st s1 → Grows s1 s2 → IsId st x → OutsSuitStore st ts →
     AreViolationsSoFar st ss (λ set pk. of_side side (bad set pk)) entries s1 goal → IsClosure s1 ts goal s2 back → StandUnder s2 back s x new r → LeadToSide st ss ts entries bad side s x new r
-lead_to_side_of st s1 s2 new ss ts entries bad side s x goal back r g1 g2 id given so close un = record {
+lead_to_side_of st s1 s2 new ss ts entries bad side s x goal back r g1 g2 id suits_store so close un = record {
   packets = un.packets;
   goes = λ y w m.
       let v = un.goes y (packet_on st s2 y g w) m in
       let l = close.sound s y (packet_on st s1 y g1 w) v.1 in
-      (has_back st s2 x y g id v.0, leads_on st s1 ts (Under s1 goal) (IsSideViolation st ss entries bad side) g1 given (λ i z p u. (0, so.from i z p u)) l.0 s y w l.1);
+      (has_back st s2 x y g id v.0, leads_on st s1 ts (Under s1 goal) (IsSideViolation st ss entries bad side) g1 suits_store (λ i z p u. (0, so.from i z p u)) l.0 s y w l.1);
   comes = λ n y w hx l.
-      let into : LeadsInto s1 ts (Under s1 goal) n s y = leads_grow st s1 ts (IsSideViolation st ss entries bad side) (Under s1 goal) g1 given (λ i z p v. so.every i z p v.0 v.1) n s y w l in
+      let into : LeadsInto s1 ts (Under s1 goal) n s y = leads_grow st s1 ts (IsSideViolation st ss entries bad side) (Under s1 goal) g1 suits_store (λ i z p v. so.every i z p v.0 v.1) n s y w l in
       un.comes y (packet_on st s2 y g w) (has_on st s2 x y g id hx) (close.full n s y (packet_on st s1 y g1 w) into);
 }
   where

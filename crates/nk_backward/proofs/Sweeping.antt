@@ -11,19 +11,19 @@ use Rattle.nk_sets.specs.PacketSets.{is_in, IsSet, IsPacketSetOf}
 use Rattle.nk_sets.proofs.SetLemmas.{both_pass, pass_both}
 use Rattle.nk_determ.specs.Pairs.{Under, Named, Once}
 use Rattle.nk_outs.specs.declared.outs.OutPackets.{OutPackets}
-use Rattle.nk_outs.specs.Outs.{AreGiven, IsGiven, sent_to}
+use Rattle.nk_outs.specs.Outs.{AllSuitStore, SuitsStore, sent_to}
 use Rattle.nk_outs.proofs.Kept.{Has, packet_on, has_on, has_back}
-use Rattle.nk_outs.proofs.Givens.{is_given_at, gives_on, gives_back, gives_more, gives_less, gives_last}
+use Rattle.nk_outs.proofs.OutEntries.{suits_at, gives_on, gives_back, gives_more, gives_less, gives_last}
 use Rattle.nk_goal.specs.Entries.{HaveSets}
 use Rattle.nk_goal.proofs.Growing.{under_on, under_back, under_named}
 use Rattle.nk_goal.proofs.Adding.{not_found, found_under, under_found, under_append, under_left, under_right, each_append}
 use Rattle.nk_witness.proofs.Pulling.{out_is}
 use Rattle.nk_backward.specs.declared.transitions.Transitions.{Transitions}
-use Rattle.nk_backward.specs.Transitions.{transitions_at, AreAllGiven, IsLed, LeadsInto}
+use Rattle.nk_backward.specs.Transitions.{transitions_at, OutsSuitStore, IsLed, LeadsInto}
 use Rattle.nk_backward.specs.Places.{AreAllPlaces}
 use Rattle.nk_backward.specs.Closures.{AreFound, IsClosure}
 use Rattle.nk_backward.specs.Sweeps.{IsLedOut, IsLedBy, IsWidened, IsTakenBack, IsSwept}
-use Rattle.nk_backward.proofs.Tracing.{given_in_range, led_in_range, led_on}
+use Rattle.nk_backward.proofs.Tracing.{gives_in_range, led_in_range, led_on}
 use Rattle.nk_backward.proofs.Gaining.{sets_on, found_then}
 use Rattle.nk_backward.proofs.Widening.{widened_before}
 use Rattle.nk_backward.proofs.Taking.{leads_on, leads_grow}
@@ -62,13 +62,13 @@ led_found st s1 s q all t x led found more g sets once here e is put = subst (Ar
         (c.0, is.at z w.0 ∙ pass_both (is_in st x (applied q.out.act z)) (is_in st q.packets z) has c.1)
 
 -- an out more
-pub led_push : (a st new : StoreState) (t : Transitions) (k : ℕ) (q : OutPackets) (all mid more : List (ℕ × ℕ)) → Grows a st → AreGiven a t.outs → HaveSets a all → k < length t.outs → q ≡ get_or t.outs k q →
+pub led_push : (a st new : StoreState) (t : Transitions) (k : ℕ) (q : OutPackets) (all mid more : List (ℕ × ℕ)) → Grows a st → AllSuitStore a t.outs → HaveSets a all → k < length t.outs → q ≡ get_or t.outs k q →
     AreFound a (IsLedBy a t k all) [] st mid → AreFound st (IsLedOut st t.source q all) mid new more → AreFound a (IsLedBy a t (k + 1) all) [] new more
-led_push a st new t k q all mid more g given sets l is first second =
+led_push a st new t k q all mid more g suits_store sets l is first second =
     found_then a st new (IsLedBy a t k all) (IsLedOut st t.source q all) (IsLedBy a t (k + 1) all) [] mid more g first second parts left right
   where
-    kept : IsGiven a q
-    kept = is_given_at a t.outs k q given l is
+    kept : SuitsStore a q
+    kept = suits_at a t.outs k q suits_store l is
 
     parts : (i : ℕ) (z : List ℕ) → IsStorePacket a z → IsLedBy a t (k + 1) all i z → IsLedBy a t k all i z ⊎ IsLedOut st t.source q all i z
     parts i z w c = elim (gives_less a t.outs k q z (sent_to c.1.1 (c.1.0 + 1)) l is c.1.2) [
@@ -126,16 +126,16 @@ swept_start a ts order goal g sets once = record {
 }
 
 -- a place more
-pub swept_next : (a st new : StoreState) (ts : List Transitions) (order : List ((ℕ × ℕ) × ℕ)) (goal back all : List (ℕ × ℕ)) (k j : ℕ) (closed none : Bool) → AreAllGiven a ts → j < length ts → place_in order k ≡ j →
+pub swept_next : (a st new : StoreState) (ts : List Transitions) (order : List ((ℕ × ℕ) × ℕ)) (goal back all : List (ℕ × ℕ)) (k j : ℕ) (closed none : Bool) → OutsSuitStore a ts → j < length ts → place_in order k ≡ j →
     IsSweptSoFar a ts order goal st back k closed → Grows st new → IsTakenBack st (transitions_at ts j) back new all none → IsSweptSoFar a ts order goal new all (k + 1) (closed && none)
-swept_next a st new ts order goal back all k j closed none given lj is was g m = record {
+swept_next a st new ts order goal back all k j closed none suits_store lj is was g m = record {
   grows = grows_on a st new was.grows g;
   sound = λ i z w u. elim (m.from i z (on z w) u) [
     | inl old ↦ was.sound i z w old
     | inr came ↦
         let y : List ℕ = applied came.1.1 z in
-        let led : IsLed a ts i z came.1.0 y = (j, came.1.1, lj, sym came.0, gives_back a st t.outs 0 (length t.outs) z (sent_to came.1.1 (came.1.0 + 1)) was.grows (given j lj) (omega arith) came.1.2, refl) in
-        let rest = was.sound came.1.0 y (led_in_range a ts i z came.1.0 y given w led) came.1.3 in
+        let led : IsLed a ts i z came.1.0 y = (j, came.1.1, lj, sym came.0, gives_back a st t.outs 0 (length t.outs) z (sent_to came.1.1 (came.1.0 + 1)) was.grows (suits_store j lj) (omega arith) came.1.2, refl) in
+        let rest = was.sound came.1.0 y (led_in_range a ts i z came.1.0 y suits_store w led) came.1.3 in
         (suc rest.0, (came.1.0, y, led, rest.1))
   ];
   kept = λ i z w u. m.kept i z (on z w) (was.kept i z w u);
@@ -164,12 +164,12 @@ swept_next a st new ts order goal back all k j closed none given lj is was g m =
 
     led_now : (i : ℕ) (z : List ℕ) → IsStorePacket a z → IsLedBy a t (length t.outs) goal i z → IsLedBy st t (length t.outs) back i z
     led_now i z w c =
-        let good : IsStorePacket a (applied c.1.1 z) = given_in_range a t.outs z c.1.1 c.1.0 (given j lj) w c.1.2 in
-        (c.0, (c.1.0, c.1.1, gives_on a st t.outs 0 (length t.outs) z (sent_to c.1.1 (c.1.0 + 1)) was.grows (given j lj) (omega arith) c.1.2, was.kept c.1.0 (applied c.1.1 z) good c.1.3))
+        let good : IsStorePacket a (applied c.1.1 z) = gives_in_range a t.outs z c.1.1 c.1.0 (suits_store j lj) w c.1.2 in
+        (c.0, (c.1.0, c.1.1, gives_on a st t.outs 0 (length t.outs) z (sent_to c.1.1 (c.1.0 + 1)) was.grows (suits_store j lj) (omega arith) c.1.2, was.kept c.1.0 (applied c.1.1 z) good c.1.3))
 
 -- after the last place
-pub swept_whole : (a st : StoreState) (ts : List Transitions) (order : List ((ℕ × ℕ) × ℕ)) (goal back : List (ℕ × ℕ)) (k : ℕ) (closed : Bool) → AreAllGiven a ts → AreAllPlaces (length ts) order → length order ≤ k → IsSweptSoFar a ts order goal st back k closed → IsSwept a ts goal st back closed
-swept_whole a st ts order goal back k closed given places l was = record {
+pub swept_whole : (a st : StoreState) (ts : List Transitions) (order : List ((ℕ × ℕ) × ℕ)) (goal back : List (ℕ × ℕ)) (k : ℕ) (closed : Bool) → OutsSuitStore a ts → AreAllPlaces (length ts) order → length order ≤ k → IsSweptSoFar a ts order goal st back k closed → IsSwept a ts goal st back closed
+swept_whole a st ts order goal back k closed suits_store places l was = record {
   sound = was.sound;
   kept = was.kept;
   packets = was.packets;
@@ -177,7 +177,7 @@ swept_whole a st ts order goal back k closed given places l was = record {
   shut = λ e i z t y w led u.
       let c = places.every led.0 led.2 in
       let at : place_in order c.1.0 ≡ led.0 = place_of order c.1.0 (c.0, led.0) c.1.1 c.1.2 in
-      let there : Under a goal t (applied led.1 z) = subst (λ (x : List ℕ). Under a goal t x) (sym led.5) (was.same e t y (led_in_range a ts i z t y given w led) u) in
+      let there : Under a goal t (applied led.1 z) = subst (λ (x : List ℕ). Under a goal t x) (sym led.5) (was.same e t y (led_in_range a ts i z t y suits_store w led) u) in
       let by : IsLedBy a (transitions_at ts led.0) (length (transitions_at ts led.0).outs) goal i z = (sym led.3, (t, led.1, led.4, there)) in
       was.kept i z w (was.done e c.1.0 (let n = c.1.1 in omega (arith, l, n)) i z w (subst (λ r. IsLedBy a (transitions_at ts r) (length (transitions_at ts r).outs) goal i z) (sym at) by));
 }
@@ -193,20 +193,20 @@ swept_none a ts goal sets once = record {
 }
 
 -- a sweep more
-pub swept_again : (a st new : StoreState) (ts : List Transitions) (goal back all : List (ℕ × ℕ)) (before closed : Bool) → Grows a st → AreAllGiven a ts → IsSwept a ts goal st back before → IsSwept st ts back new all closed → IsSwept a ts goal new all closed
-swept_again a st new ts goal back all before closed g given first second = record {
+pub swept_again : (a st new : StoreState) (ts : List Transitions) (goal back all : List (ℕ × ℕ)) (before closed : Bool) → Grows a st → OutsSuitStore a ts → IsSwept a ts goal st back before → IsSwept st ts back new all closed → IsSwept a ts goal new all closed
+swept_again a st new ts goal back all before closed g suits_store first second = record {
   sound = λ i z w u.
       let l = second.sound i z (packet_on a st z g w) u in
-      leads_on a st ts (Under st back) (Under a goal) g given first.sound l.0 i z w l.1;
+      leads_on a st ts (Under st back) (Under a goal) g suits_store first.sound l.0 i z w l.1;
   kept = λ i z w u. second.kept i z (packet_on a st z g w) (first.kept i z w u);
   packets = second.packets;
   once = second.once;
-  shut = λ e i z t y w led u. second.shut e i z t y (packet_on a st z g w) (led_on a st ts i z t y g given led) u;
+  shut = λ e i z t y w led u. second.shut e i z t y (packet_on a st z g w) (led_on a st ts i z t y g suits_store led) u;
 }
 
 -- entries that are closed are the closure
-pub swept_closed : (a st : StoreState) (ts : List Transitions) (goal back : List (ℕ × ℕ)) → AreAllGiven a ts → IsSwept a ts goal st back true → IsClosure a ts goal st back
-swept_closed a st ts goal back given was = record {
+pub swept_closed : (a st : StoreState) (ts : List Transitions) (goal back : List (ℕ × ℕ)) → OutsSuitStore a ts → IsSwept a ts goal st back true → IsClosure a ts goal st back
+swept_closed a st ts goal back suits_store was = record {
   sound = was.sound;
   full = full;
   packets = was.packets;
@@ -215,15 +215,15 @@ swept_closed a st ts goal back given was = record {
   where
     full : (n i : ℕ) (z : List ℕ) → IsStorePacket a z → LeadsInto a ts (Under a goal) n i z → Under st back i z
     full zero i z w l = was.kept i z w l
-    full (suc n) i z w l = was.shut refl i z l.0 l.1 w l.2 (full n l.0 l.1 (led_in_range a ts i z l.0 l.1 given w l.2) l.3)
+    full (suc n) i z w l = was.shut refl i z l.0 l.1 w l.2 (full n l.0 l.1 (led_in_range a ts i z l.0 l.1 suits_store w l.2) l.3)
 
 -- the closure of swept entries is the goal's
-pub closure_swept : (a st new : StoreState) (ts : List Transitions) (goal back all : List (ℕ × ℕ)) (closed : Bool) → Grows a st → AreAllGiven a ts → IsSwept a ts goal st back closed → IsClosure st ts back new all → IsClosure a ts goal new all
-closure_swept a st new ts goal back all closed g given was c = record {
+pub closure_swept : (a st new : StoreState) (ts : List Transitions) (goal back all : List (ℕ × ℕ)) (closed : Bool) → Grows a st → OutsSuitStore a ts → IsSwept a ts goal st back closed → IsClosure st ts back new all → IsClosure a ts goal new all
+closure_swept a st new ts goal back all closed g suits_store was c = record {
   sound = λ i z w u.
       let l = c.sound i z (packet_on a st z g w) u in
-      leads_on a st ts (Under st back) (Under a goal) g given was.sound l.0 i z w l.1;
-  full = λ n i z w l. c.full n i z (packet_on a st z g w) (leads_grow a st ts (Under a goal) (Under st back) g given was.kept n i z w l);
+      leads_on a st ts (Under st back) (Under a goal) g suits_store was.sound l.0 i z w l.1;
+  full = λ n i z w l. c.full n i z (packet_on a st z g w) (leads_grow a st ts (Under a goal) (Under st back) g suits_store was.kept n i z w l);
   packets = c.packets;
   once = c.once;
 }

@@ -7,7 +7,7 @@ use Rattle.nk_store.specs.declared.node.Out.{Out}
 use Rattle.nk_store.specs.StoreState.{StoreState, IsId, IsWhole, IsStorePacket, look}
 use Rattle.nk_sets.specs.PacketSets.{is_in}
 use Rattle.nk_outs.specs.declared.outs.OutPackets.{OutPackets}
-use Rattle.nk_outs.specs.Outs.{entry, AreGiven, GivesAny, sent_to}
+use Rattle.nk_outs.specs.Outs.{entry, AllSuitStore, GivesAny, sent_to}
 use Rattle.nk_backward.specs.declared.transitions.Transitions.{Transitions}
 use Rattle.nk_backward.specs.Transitions.{transitions_at}
 
@@ -109,6 +109,6 @@ pub record ArePredecessors (st : StoreState) (ts : List Transitions) (places int
 
 -- what the set's diagram has at the packets of x
 pub record AreShownAt (st : StoreState) (into : List (ℕ × ℕ)) (t x : ℕ) (new : StoreState) (es : List OutPackets) : Type 0 where
-  pub given : AreGiven new es
+  pub suits_store : AllSuitStore new es
   pub goes : (y : List ℕ) (o : Out) → IsStorePacket st y → GivesAny new es y o → (is_in st x y ≡ true) × Shows st into t y o
   pub comes : (y : List ℕ) (o : Out) → IsStorePacket st y → is_in st x y ≡ true → Shows st into t y o → GivesAny new es y o

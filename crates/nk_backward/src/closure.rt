@@ -4,9 +4,9 @@ ghost use Rattle.nk_field.specs.Act.{applied};
 ghost use Rattle.nk_store.specs.StoreState.{Grows};
 ghost use Rattle.nk_sets.specs.PacketSets.{is_in, IsSet, IsPacketSetOf};
 ghost use Rattle.nk_determ.specs.Pairs.{Under, Once};
-ghost use Rattle.nk_outs.specs.Outs.{AreGiven};
+ghost use Rattle.nk_outs.specs.Outs.{AllSuitStore};
 ghost use Rattle.nk_goal.specs.Entries.{HaveSets};
-ghost use Rattle.nk_backward.specs.Transitions.{AreAllGiven};
+ghost use Rattle.nk_backward.specs.Transitions.{OutsSuitStore};
 ghost use Rattle.nk_backward.specs.Predecessors.{ArePlacesBelow, ArePredecessors};
 ghost use Rattle.nk_backward.specs.Closures.{IsTakenOut, IsTakenBelow, LeadsToSet, IsLedInto, AreFound, IsGained, IsClosure, IsWholeFrontier};
 
@@ -34,7 +34,7 @@ pub(crate) fn close_back(
     pre: &mut Option<Predecessors>,
     goal: List<(SetId, Id)>,
 ) -> Result<Entries, AllocError>
-    requires given { AreAllGiven st.old ts.now }
+    requires suits_store { OutsSuitStore st.old ts.now }
     requires pre { IfSome pre.old (λ p. ArePredecessors st.old ts.now p.places p.into.entries) }
     requires goal { HaveSets st.old goal }
     ensures grows { Grows st.old st.new }
@@ -55,7 +55,7 @@ fn close_all(
     pre: &mut Option<Predecessors>,
     back: &mut IndexMap<SetId, Id>,
 ) -> Result<(), AllocError>
-    requires given { AreAllGiven st.old ts.now }
+    requires suits_store { OutsSuitStore st.old ts.now }
     requires pre { IfSome pre.old (λ p. ArePredecessors st.old ts.now p.places p.into.entries) }
     requires back { HaveSets st.old back.old.entries }
     requires once { Once back.old.entries }
@@ -80,7 +80,7 @@ fn close_rest(
     pre: &mut Option<Predecessors>,
     back: &mut IndexMap<SetId, Id>,
 ) -> Result<(), AllocError>
-    requires given { AreAllGiven st.old ts.now }
+    requires suits_store { OutsSuitStore st.old ts.now }
     requires pre { IfSome pre.old (λ p. ArePredecessors st.old ts.now p.places p.into.entries) }
     requires back { HaveSets st.old back.old.entries }
     requires once { Once back.old.entries }
@@ -106,7 +106,7 @@ fn close_by(
     pre: &Predecessors,
     back: &mut IndexMap<SetId, Id>,
 ) -> Result<(), AllocError>
-    requires given { AreAllGiven st.old ts.now }
+    requires suits_store { OutsSuitStore st.old ts.now }
     requires pre { ArePredecessors st.old ts.now pre.now.places pre.now.into.entries }
     requires back { HaveSets st.old back.old.entries }
     requires once { Once back.old.entries }
@@ -137,7 +137,7 @@ fn take_all_back(
     all: List<(SetId, Id)>,
     back: &mut IndexMap<SetId, Id>,
 ) -> Result<(), AllocError>
-    requires given { AreAllGiven st.old ts.now }
+    requires suits_store { OutsSuitStore st.old ts.now }
     requires pre { ArePredecessors st.old ts.now pre.now.places pre.now.into.entries }
     requires frontier { IsWholeFrontier st.old all back.old.entries }
     requires back { HaveSets st.old back.old.entries }
@@ -163,7 +163,7 @@ fn pass_back(
     frontier: &List<(SetId, Id)>,
     back: &mut IndexMap<SetId, Id>,
 ) -> Result<List<(SetId, Id)>, AllocError>
-    requires given { AreAllGiven st.old ts.now }
+    requires suits_store { OutsSuitStore st.old ts.now }
     requires pre { ArePredecessors st.old ts.now pre.now.places pre.now.into.entries }
     requires frontier { HaveSets st.old frontier.now }
     requires back { HaveSets st.old back.old.entries }
@@ -186,7 +186,7 @@ fn led_into(
     pre: &Predecessors,
     frontier: &List<(SetId, Id)>,
 ) -> Result<List<(SetId, Id)>, AllocError>
-    requires given { AreAllGiven st.old ts.now }
+    requires suits_store { OutsSuitStore st.old ts.now }
     requires pre { ArePredecessors st.old ts.now pre.now.places pre.now.into.entries }
     requires frontier { HaveSets st.old frontier.now }
     ensures grows { Grows st.old st.new }
@@ -211,7 +211,7 @@ fn take_back(
     x: Id,
     found: &mut List<(SetId, Id)>,
 ) -> Result<(), AllocError>
-    requires given { AreAllGiven st.old ts.now }
+    requires suits_store { OutsSuitStore st.old ts.now }
     requires pre { ArePredecessors st.old ts.now pre.now.places pre.now.into.entries }
     requires packets { IsSet st.old x }
     requires found { HaveSets st.old found.old }
@@ -232,9 +232,9 @@ fn take_outs(
     outs: &List<OutPackets>,
     found: &mut List<(SetId, Id)>,
 ) -> Result<(), AllocError>
-    requires given { AreAllGiven st.old ts.now }
+    requires suits_store { OutsSuitStore st.old ts.now }
     requires places { ArePlacesBelow ts.now (length ts.now) places.now }
-    requires outs { AreGiven st.old outs.now }
+    requires outs { AllSuitStore st.old outs.now }
     requires found { HaveSets st.old found.old }
     ensures grows { Grows st.old st.new }
     ensures ok { OnOk result
@@ -255,7 +255,7 @@ fn take_out(
     q: &OutPackets,
     found: &mut List<(SetId, Id)>,
 ) -> Result<(), AllocError>
-    requires given { AreAllGiven st.old ts.now }
+    requires suits_store { OutsSuitStore st.old ts.now }
     requires places { ArePlacesBelow ts.now (length ts.now) places.now }
     requires packets { IsSet st.old q.now.packets }
     requires found { HaveSets st.old found.old }

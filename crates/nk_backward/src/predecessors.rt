@@ -3,8 +3,8 @@ ghost use Rattle.std.specs.Prelude.{◌≡◌, ◌+◌, ◌<◌, ◌⊎◌, ◌�
 ghost use Rattle.std.specs.Map.{lookup};
 ghost use Rattle.nk_store.specs.StoreState.{IsId, Grows, HasLeaves};
 ghost use Rattle.nk_sets.specs.PacketSets.{IsSet};
-ghost use Rattle.nk_outs.specs.Outs.{IsGiven};
-ghost use Rattle.nk_backward.specs.Transitions.{AreAllGiven};
+ghost use Rattle.nk_outs.specs.Outs.{SuitsStore};
+ghost use Rattle.nk_backward.specs.Transitions.{OutsSuitStore};
 ghost use Rattle.nk_backward.specs.Predecessors.{ArePlacesBelow, place_at, transition_out, diagram_at, HaveDiagrams, FindDiagrams, IsMarked, AreMarked, IsRunOfSet, IsWithFound, IsSetJoined, AreSetsJoined, ArePredecessors, AreShownAt};
 
 use crate::transitions::Transitions;
@@ -36,7 +36,7 @@ pub(crate) fn predecessors_of(
     st: &mut Store,
     ts: &List<Transitions>,
 ) -> Result<Predecessors, AllocError>
-    requires given { AreAllGiven st.old ts.now }
+    requires suits_store { OutsSuitStore st.old ts.now }
     ensures grows { Grows st.old st.new }
     ensures ok { IfOk result (λ pre. ArePredecessors st.new ts.now pre.places pre.into.entries) }
 {
@@ -75,7 +75,7 @@ fn marked_all(
     ts: &List<Transitions>,
     places: &List<(usize, usize)>,
 ) -> Result<List<(SetId, Id)>, AllocError>
-    requires given { AreAllGiven st.old ts.now }
+    requires suits_store { OutsSuitStore st.old ts.now }
     requires places { ArePlacesBelow ts.now (length ts.now) places.now }
     ensures grows { Grows st.old st.new }
     ensures ok { IfOk result
@@ -98,7 +98,7 @@ fn push_marked(
     n: usize,
     all: &mut List<(SetId, Id)>,
 ) -> Result<(), AllocError>
-    requires given { IsGiven st.old q.now }
+    requires suits_store { SuitsStore st.old q.now }
     requires number { n + 1 < 2 ^ 64 }
     requires ids { HaveDiagrams st.old all.old }
     ensures grows { Grows st.old st.new }

@@ -7,7 +7,7 @@ ghost use Rattle.nk_determ.specs.Pairs.{AreStates, EachPair, IsPair, Once};
 ghost use Rattle.nk_determ.specs.Levels.{AreLevels};
 ghost use Rattle.nk_goal.specs.Entries.{HaveSets};
 ghost use Rattle.nk_witness.specs.Finds.{first_set, first_packets};
-ghost use Rattle.nk_backward.specs.Transitions.{AreAllGiven};
+ghost use Rattle.nk_backward.specs.Transitions.{OutsSuitStore};
 ghost use Rattle.nk_backward.specs.Predecessors.{ArePredecessors};
 ghost use Rattle.nk_backward.specs.CounterexampleStarts.{AreCounterexampleStarts, LeadToSide, StandUnder};
 
@@ -87,7 +87,7 @@ fn starts_of<G: Goal>(
 ) -> Result<Id, AllocError>
     requires fits { G.fits g.old st.old }
     requires entries { EachPair (IsPair st.old ss.now (G.labels g.old)) graph.now.entries }
-    requires given { AreAllGiven st.old graph.now.transitions }
+    requires suits_store { OutsSuitStore st.old graph.now.transitions }
     requires pre { IfSome pre.old
         (λ p. ArePredecessors st.old graph.now.transitions p.places p.into.entries) }
     requires packets { IsSet st.old x }

@@ -3,9 +3,9 @@ ghost use Rattle.std.specs.Prelude.{◌≡◌, ◌&&◌, ℕ, [], true, Some, If
 ghost use Rattle.nk_store.specs.StoreState.{Grows};
 ghost use Rattle.nk_sets.specs.PacketSets.{is_in, IsSet};
 ghost use Rattle.nk_determ.specs.Pairs.{Under, Once};
-ghost use Rattle.nk_outs.specs.Outs.{AreGiven};
+ghost use Rattle.nk_outs.specs.Outs.{AllSuitStore};
 ghost use Rattle.nk_goal.specs.Entries.{HaveSets};
-ghost use Rattle.nk_backward.specs.Transitions.{AreAllGiven};
+ghost use Rattle.nk_backward.specs.Transitions.{OutsSuitStore};
 ghost use Rattle.nk_backward.specs.Places.{AreAllPlaces};
 ghost use Rattle.nk_backward.specs.Closures.{AreFound};
 ghost use Rattle.nk_backward.specs.Sweeps.{IsLedOut, IsLedBy, IsWidened, IsTakenBack, IsSwept};
@@ -34,7 +34,7 @@ pub(crate) fn sweep_some(
     ts: &List<Transitions>,
     back: &mut IndexMap<SetId, Id>,
 ) -> Result<bool, AllocError>
-    requires given { AreAllGiven st.old ts.now }
+    requires suits_store { OutsSuitStore st.old ts.now }
     requires back { HaveSets st.old back.old.entries }
     requires once { Once back.old.entries }
     ensures grows { Grows st.old st.new }
@@ -58,7 +58,7 @@ fn sweep(
     order: &List<(Rank, usize)>,
     back: &mut IndexMap<SetId, Id>,
 ) -> Result<bool, AllocError>
-    requires given { AreAllGiven st.old ts.now }
+    requires suits_store { OutsSuitStore st.old ts.now }
     requires order { AreAllPlaces (length ts.now) order.now }
     requires back { HaveSets st.old back.old.entries }
     requires once { Once back.old.entries }
@@ -89,7 +89,7 @@ fn sweep_one(
     t: &Transitions,
     back: &mut IndexMap<SetId, Id>,
 ) -> Result<bool, AllocError>
-    requires given { AreGiven st.old t.now.outs }
+    requires suits_store { AllSuitStore st.old t.now.outs }
     requires back { HaveSets st.old back.old.entries }
     requires once { Once back.old.entries }
     ensures grows { Grows st.old st.new }
@@ -161,7 +161,7 @@ fn led_from(
     t: &Transitions,
     back: &IndexMap<SetId, Id>,
 ) -> Result<List<(SetId, Id)>, AllocError>
-    requires given { AreGiven st.old t.now.outs }
+    requires suits_store { AllSuitStore st.old t.now.outs }
     requires back { HaveSets st.old back.now.entries }
     requires once { Once back.now.entries }
     ensures grows { Grows st.old st.new }

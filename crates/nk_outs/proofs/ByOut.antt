@@ -15,19 +15,19 @@ use Rattle.nk_apply.proofs.Built.{part_old}
 use Rattle.nk_sets.specs.PacketSets.{has_some_out, is_in}
 use Rattle.nk_outs.specs.declared.groups.Stretch.{Stretch}
 use Rattle.nk_outs.specs.declared.outs.OutPackets.{OutPackets}
-use Rattle.nk_outs.specs.Outs.{given, entry, IsGiven, AreLater, IsByOut, AreByOut, stretch, IsUpTo, AreOfDiagram}
+use Rattle.nk_outs.specs.Outs.{out_with_packets, entry, SuitsStore, AreLater, IsByOut, AreByOut, stretch, IsUpTo, AreOfDiagram}
 use Rattle.nk_outs.proofs.Kept.{packet_on, packet_back}
-use Rattle.nk_outs.proofs.Givens.{given_on, later_on, gives_on, gives_back}
+use Rattle.nk_outs.proofs.OutEntries.{all_suit_on, later_on, gives_on, gives_back}
 use Rattle.nk_outs.proofs.Stretches.{stretches_on, has_at_on, has_at_back, stretches_append, any_left, any_right, any_split, map_stretches, map_gives, gives_map}
 
 -- the entries of a diagram stay so as the store grows
 pub by_out_on : (a b : StoreState) (d : ℕ) (es : List OutPackets) → Grows a b → IsByOut a d es → IsByOut b d es
 by_out_on a b d es g k = record {
   id = g.ids d k.id;
-  given = given_on a b es g k.given;
-  later = subst (λ t. AreLater b t es) (sym (g.root_fields d k.id)) (later_on a b (root_field a d) es g k.given k.later);
-  goes = λ x o p w. subst (λ (os : List Out). Contains os o) (sym (g.leaves d x k.id)) (k.goes x o (packet_back a b x g p) (gives_back a b es 0 (length es) x o g k.given (omega arith) w));
-  comes = λ x o p c. gives_on a b es 0 (length es) x o g k.given (omega arith) (k.comes x o (packet_back a b x g p) (subst (λ (os : List Out). Contains os o) (g.leaves d x k.id) c));
+  suits_store = all_suit_on a b es g k.suits_store;
+  later = subst (λ t. AreLater b t es) (sym (g.root_fields d k.id)) (later_on a b (root_field a d) es g k.suits_store k.later);
+  goes = λ x o p w. subst (λ (os : List Out). Contains os o) (sym (g.leaves d x k.id)) (k.goes x o (packet_back a b x g p) (gives_back a b es 0 (length es) x o g k.suits_store (omega arith) w));
+  comes = λ x o p c. gives_on a b es 0 (length es) x o g k.suits_store (omega arith) (k.comes x o (packet_back a b x g p) (subst (λ (os : List Out). Contains os o) (g.leaves d x k.id) c));
 }
 
 -- and so does a table of them
@@ -51,23 +51,23 @@ kept_put st d es old new are one put q fs e =
     value_or es (Some fs) = fs
 
 -- the entry made of an out at a place
-entry_map : (packets : ℕ) (outs : List Out) (k : ℕ) → k < length outs → entry (map (given packets) outs) k ≡ given packets (get_or outs k no_out)
+entry_map : (packets : ℕ) (outs : List Out) (k : ℕ) → k < length outs → entry (map (out_with_packets packets) outs) k ≡ out_with_packets packets (get_or outs k no_out)
 entry_map packets [] k l = absurd (omega (arith, l))
 entry_map packets (o ∷ os) zero l = refl
 entry_map packets (o ∷ os) (suc k) l = entry_map packets os k (omega (arith, l))
 
 -- as many entries as outs
-count_map : (packets : ℕ) (outs : List Out) → length (map (given packets) outs) ≡ length outs
+count_map : (packets : ℕ) (outs : List Out) → length (map (out_with_packets packets) outs) ≡ length outs
 count_map packets [] = refl
 count_map packets (o ∷ os) = ap suc (count_map packets os)
 
 -- the outs of a leaf, each for all packets
-pub leaf_by_out : (st : StoreState) (d : ℕ) (outs : List Out) (all : ℕ) (es : List OutPackets) → IsId st d → IsLeaf st d outs → HasLeaves st all (λ pk. no_out ∷ []) → root_field st all ≡ 18 → IsPredicate st all → es ≡ map (given all) outs → IsByOut st d es
+pub leaf_by_out : (st : StoreState) (d : ℕ) (outs : List Out) (all : ℕ) (es : List OutPackets) → IsId st d → IsLeaf st d outs → HasLeaves st all (λ pk. no_out ∷ []) → root_field st all ≡ 18 → IsPredicate st all → es ≡ map (out_with_packets all) outs → IsByOut st d es
 leaf_by_out st d outs all es id leaf h past p is = subst (IsByOut st d) (sym is) (record {
   id = id;
-  given = λ k l.
+  suits_store = λ k l.
       let m : k < length outs = omega (arith, l, count_map all outs) in
-      subst (IsGiven st) (sym (entry_map all outs k m)) (record {
+      subst (SuitsStore st) (sym (entry_map all outs k m)) (record {
         suits = every_member (Suits st.maxes) outs (get_or outs k no_out) leaf.suits (k, m, get_or_default outs k (get_or outs k no_out) no_out m);
         packets = record { id = h.id; predicate = p };
       });
@@ -100,9 +100,9 @@ up_to_push a st new d f from p es all id split ga part g by_one m =
     let past : f < root_field new p.1 = let e : root_field new p.1 ≡ root_field st p.1 = g.root_fields p.1 part.child.id in omega (arith, e, part.child.later) in
     let within : p.0 ≤ get_or new.maxes f 0 = subst (λ (ms : List ℕ). p.0 ≤ get_or ms f 0) (sym g.maxes) part.within in
     record {
-      given = stretches_append new f all more (stretches_on st new f all g m.given) (map_stretches new f (root_field new p.1) from p.0 es by_one.given by_one.later past part.from within);
+      stretches = stretches_append new f all more (stretches_on st new f all g m.stretches) (map_stretches new f (root_field new p.1) from p.0 es by_one.suits_store by_one.later past part.from within);
       goes = λ x o w u. elim (any_split new f all more x o u) [
-        | inl was ↦ m.goes x o w (has_at_back st new f all 0 (length all) (get_or x f 0) x o g m.given (omega arith) was)
+        | inl was ↦ m.goes x o w (has_at_back st new f all 0 (length all) (get_or x f 0) x o g m.stretches (omega arith) was)
         | inr now ↦
             let z = map_gives new f from p.0 es x o now in
             subst (λ (os : List Out). Contains os o) (same x z.0 z.1) (by_one.goes x o (packet_on a new x gt w) z.2)
@@ -111,7 +111,7 @@ up_to_push a st new d f from p es all id split ga part g by_one m =
         | inl following ↦
             let h : get_or x f 0 ≤ p.0 = omega (arith, l) in
             any_right new f all more x o (gives_map new f from p.0 es x o following.1 h (by_one.comes x o (packet_on a new x gt w) (subst (λ (os : List Out). Contains os o) (sym (same x following.1 h)) c)))
-        | inr before ↦ any_left new f all more x o (has_at_on st new f all 0 (length all) (get_or x f 0) x o g m.given (omega arith) (m.comes x o w before.1 c))
+        | inr before ↦ any_left new f all more x o (has_at_on st new f all 0 (length all) (get_or x f 0) x o g m.stretches (omega arith) (m.comes x o w before.1 c))
       ];
     }
 
@@ -120,7 +120,7 @@ pub up_to_all : (a new : StoreState) (d f bound : ℕ) (ss : List Stretch) → I
 up_to_all a new d f bound ss id first g l m = record {
   id = g.ids d id;
   first = g.root_fields d id ∙ first;
-  given = m.given;
+  stretches = m.stretches;
   goes = λ x o w u. subst (λ (os : List Out). Contains os o) (sym (g.leaves d x id)) (m.goes x o (packet_back a new x g w) u);
   comes = λ x o w c.
       let p : IsStorePacket a x = packet_back a new x g w in

@@ -1,6 +1,6 @@
 pub mod Kept
 pub mod Rising
-pub mod Givens
+pub mod OutEntries
 pub mod Stretches
 pub mod ByOut
 pub mod Running

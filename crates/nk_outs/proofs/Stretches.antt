@@ -12,7 +12,7 @@ use Rattle.nk_apply.proofs.Built.{child_grows}
 use Rattle.nk_sets.proofs.SetLemmas.{predicate_grows}
 use Rattle.nk_outs.specs.declared.groups.Stretch.{Stretch}
 use Rattle.nk_outs.specs.declared.outs.OutPackets.{OutPackets}
-use Rattle.nk_outs.specs.Outs.{given, entry, AreGiven, AreLater, GivesAny, stretch, piece, IsStretch, AreStretches, HasAt, HasAny}
+use Rattle.nk_outs.specs.Outs.{out_with_packets, entry, AllSuitStore, AreLater, GivesAny, stretch, piece, IsStretch, AreStretches, HasAt, HasAny}
 use Rattle.nk_outs.proofs.Kept.{Has, has_on, has_back}
 
 -- one stays so as the store grows
@@ -51,11 +51,11 @@ has_moved st ss ts from to v x o w k m l at = (
 
 -- the one at a place of the first
 piece_old : (ss ts : List Stretch) (k : ℕ) → k < length ss → piece (ss ++ ts) k ≡ piece ss k
-piece_old ss ts k l = get_or_append_left ss ts (stretch 0 0 (given 0 no_out)) k l
+piece_old ss ts k l = get_or_append_left ss ts (stretch 0 0 (out_with_packets 0 no_out)) k l
 
 -- the one at a place of those after
 piece_new : (ss ts : List Stretch) (k : ℕ) → length ss ≤ k → piece (ss ++ ts) k ≡ piece ts (k - length ss)
-piece_new ss ts k l = get_or-append_right ss ts (length ss) k (stretch 0 0 (given 0 no_out)) refl l
+piece_new ss ts k l = get_or-append_right ss ts (length ss) k (stretch 0 0 (out_with_packets 0 no_out)) refl l
 
 -- those and those after them
 pub stretches_append : (st : StoreState) (f : ℕ) (ss ts : List Stretch) → AreStretches st f ss → AreStretches st f ts → AreStretches st f (ss ++ ts)
@@ -85,10 +85,10 @@ any_split st f ss ts x o w = elim (leb_tells (length ss) w.0) [
 
 -- the one of an entry
 piece_map : (from end : ℕ) (es : List OutPackets) (k : ℕ) → k < length es → piece (map (stretch from end) es) k ≡ stretch from end (entry es k)
-piece_map from end es k l = get_or-map (stretch from end) es k (given 0 no_out) (stretch 0 0 (given 0 no_out)) l
+piece_map from end es k l = get_or-map (stretch from end) es k (out_with_packets 0 no_out) (stretch 0 0 (out_with_packets 0 no_out)) l
 
 -- entries of fields after f for the values of an interval
-pub map_stretches : (st : StoreState) (f t from end : ℕ) (es : List OutPackets) → AreGiven st es → AreLater st t es → f < t → from ≤ end → end ≤ get_or st.maxes f 0 → AreStretches st f (map (stretch from end) es)
+pub map_stretches : (st : StoreState) (f t from end : ℕ) (es : List OutPackets) → AllSuitStore st es → AreLater st t es → f < t → from ≤ end → end ≤ get_or st.maxes f 0 → AreStretches st f (map (stretch from end) es)
 map_stretches st f t from end es k later l order within i m =
     let j : i < length es = omega (arith, m, length-map es (stretch from end)) in
     subst (IsStretch st f) (sym (piece_map from end es i j)) (record {
@@ -125,12 +125,12 @@ gives_map st f from end es x o a b w =
 -- those in another order are so
 pub stretches_moved : (st : StoreState) (f : ℕ) (ss ts : List Stretch) → IsPermutation ss ts → AreStretches st f ss → AreStretches st f ts
 stretches_moved st f ss ts p k i l =
-    let c = Contains-permutation ts ss (piece ts i) (IsPermutation-sym ss ts p) (i, l, get_or_default ts i (piece ts i) (stretch 0 0 (given 0 no_out)) l) in
-    subst (IsStretch st f) (get_or_default ss c.0 (stretch 0 0 (given 0 no_out)) (piece ts i) c.1 ∙ c.2) (k c.0 c.1)
+    let c = Contains-permutation ts ss (piece ts i) (IsPermutation-sym ss ts p) (i, l, get_or_default ts i (piece ts i) (stretch 0 0 (out_with_packets 0 no_out)) l) in
+    subst (IsStretch st f) (get_or_default ss c.0 (stretch 0 0 (out_with_packets 0 no_out)) (piece ts i) c.1 ∙ c.2) (k c.0 c.1)
 
 -- those in another order have the same
 pub any_moved : (st : StoreState) (f : ℕ) (ss ts : List Stretch) (x : List ℕ) (o : Out) → IsPermutation ss ts → HasAny st f ss x o → HasAny st f ts x o
 any_moved st f ss ts x o p w =
     let s : Stretch = piece ss w.0 in
-    let c = Contains-permutation ss ts s p (w.0, w.2, get_or_default ss w.0 s (stretch 0 0 (given 0 no_out)) w.2) in
-    has_moved st ss ts 0 (length ss) (get_or x f 0) x o w c.0 (length ts) c.1 (sym (get_or_default ts c.0 (stretch 0 0 (given 0 no_out)) s c.1 ∙ c.2))
+    let c = Contains-permutation ss ts s p (w.0, w.2, get_or_default ss w.0 s (stretch 0 0 (out_with_packets 0 no_out)) w.2) in
+    has_moved st ss ts 0 (length ss) (get_or x f 0) x o w c.0 (length ts) c.1 (sym (get_or_default ts c.0 (stretch 0 0 (out_with_packets 0 no_out)) s c.1 ∙ c.2))

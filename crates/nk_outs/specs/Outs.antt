@@ -15,22 +15,22 @@ use Rattle.nk_outs.specs.declared.outs.OutPackets.{OutPackets}
 abbrev pub sent_to : List (ℕ × ℕ) → ℕ → Out
 sent_to g t = record { act = g; target = t }
 
--- the out for these packets
-abbrev pub given : ℕ → Out → OutPackets
-given packets o = record { out = o; packets = packets }
+-- the out, with these packets
+abbrev pub out_with_packets : ℕ → Out → OutPackets
+out_with_packets packets o = record { out = o; packets = packets }
 
 -- what stands at a place, or nothing
 abbrev pub entry : List OutPackets → ℕ → OutPackets
-entry es k = slice_index_or es k (given 0 no_out)
+entry es k = slice_index_or es k (out_with_packets 0 no_out)
 
 -- the out suits the store, and the packets are a set
-pub record IsGiven (st : StoreState) (e : OutPackets) : Type 0 where
+pub record SuitsStore (st : StoreState) (e : OutPackets) : Type 0 where
   pub suits : Suits st.maxes e.out
   pub packets : IsSet st e.packets
 
 -- each entry is so
-abbrev pub AreGiven : StoreState → List OutPackets → Type 0
-AreGiven st es = (k : ℕ) → k < length es → IsGiven st (entry es k)
+abbrev pub AllSuitStore : StoreState → List OutPackets → Type 0
+AllSuitStore st es = (k : ℕ) → k < length es → SuitsStore st (entry es k)
 
 -- no entry's set tests a field before f
 abbrev pub AreLater : StoreState → ℕ → List OutPackets → Type 0
@@ -47,7 +47,7 @@ GivesAny st es x o = GivesOut st es 0 (length es) x o
 -- the entries have for each out of the diagram exactly the packets with that out
 pub record IsByOut (st : StoreState) (d : ℕ) (es : List OutPackets) : Type 0 where
   pub id : IsId st d
-  pub given : AreGiven st es
+  pub suits_store : AllSuitStore st es
   pub later : AreLater st (root_field st d) es
   pub goes : (x : List ℕ) (o : Out) → IsStorePacket st x → GivesAny st es x o → Contains (look st d x) o
   pub comes : (x : List ℕ) (o : Out) → IsStorePacket st x → Contains (look st d x) o → GivesAny st es x o
@@ -67,7 +67,7 @@ stretches from end (Some es) = map (stretch from end) es
 
 -- what stands at a place, or nothing
 abbrev pub piece : List Stretch → ℕ → Stretch
-piece ss k = slice_index_or ss k (stretch 0 0 (given 0 no_out))
+piece ss k = slice_index_or ss k (stretch 0 0 (out_with_packets 0 no_out))
 
 -- the out suits the store, the packets are a set of fields after f, and the interval has values of f
 pub record IsStretch (st : StoreState) (f : ℕ) (s : Stretch) : Type 0 where
@@ -91,7 +91,7 @@ HasAny st f ss x o = HasAt st ss 0 (length ss) (slice_index x f) x o
 
 -- they are those of the diagram at the packets whose value of the field is below a bound
 pub record IsUpTo (old : StoreState) (d f bound : ℕ) (new : StoreState) (ss : List Stretch) : Type 0 where
-  pub given : AreStretches new f ss
+  pub stretches : AreStretches new f ss
   pub goes : (x : List ℕ) (o : Out) → IsStorePacket old x → HasAny new f ss x o → Contains (look old d x) o
   pub comes : (x : List ℕ) (o : Out) → IsStorePacket old x → slice_index x f < bound → Contains (look old d x) o → HasAny new f ss x o
 
@@ -99,13 +99,13 @@ pub record IsUpTo (old : StoreState) (d f bound : ℕ) (new : StoreState) (ss : 
 pub record AreOfDiagram (st : StoreState) (f d : ℕ) (ss : List Stretch) : Type 0 where
   pub id : IsId st d
   pub first : root_field st d ≡ f
-  pub given : AreStretches st f ss
+  pub stretches : AreStretches st f ss
   pub goes : (x : List ℕ) (o : Out) → IsStorePacket st x → HasAny st f ss x o → Contains (look st d x) o
   pub comes : (x : List ℕ) (o : Out) → IsStorePacket st x → Contains (look st d x) o → HasAny st f ss x o
 
 -- the first n of them and the entries made of them have the same packets for each out
 pub record AreUnited (old : StoreState) (f : ℕ) (ss : List Stretch) (n : ℕ) (new : StoreState) (made : List OutPackets) : Type 0 where
-  pub given : AreGiven new made
+  pub suits_store : AllSuitStore new made
   pub later : AreLater new f made
   pub from : (x : List ℕ) (o : Out) → IsStorePacket old x → GivesAny new made x o → HasAt old ss 0 n (slice_index x f) x o
   pub more : (x : List ℕ) (o : Out) → IsStorePacket old x → HasAt old ss 0 n (slice_index x f) x o → GivesAny new made x o

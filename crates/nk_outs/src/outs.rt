@@ -3,7 +3,7 @@ ghost use Rattle.std.specs.Prelude.{◌≡◌, ◌++◌, ◌<◌, true, eqb, map
 ghost use Rattle.std.specs.Map.{lookup};
 ghost use Rattle.nk_store.specs.StoreState.{IsId, Grows, root_field};
 ghost use Rattle.nk_apply.specs.Cofactors.{IsSplit};
-ghost use Rattle.nk_outs.specs.Outs.{IsByOut, AreByOut, AreOfDiagram, given, stretch, stretches};
+ghost use Rattle.nk_outs.specs.Outs.{IsByOut, AreByOut, AreOfDiagram, out_with_packets, stretch, stretches};
 
 use crate::groups::{Stretch, grouped};
 use nk_apply::{identity, part_near, tested};
@@ -97,7 +97,7 @@ fn outs_of_leaf(st: &mut Store, d: Id) -> Result<List<OutPackets>, AllocError>
 
 /// Each of the outs for the same packets.
 fn each_for(alloc: Global, outs: &[Out], packets: Id) -> Result<List<OutPackets>, AllocError>
-    ensures { IfOk result (λ es. es ≡ map (given packets) outs.now) }
+    ensures { IfOk result (λ es. es ≡ map (out_with_packets packets) outs.now) }
 {
     let mut all = List::with_capacity(alloc, outs.len())?;
     for o in outs {
@@ -220,7 +220,7 @@ fn put_each(
     all: &mut List<Stretch>,
 ) -> Result<(), AllocError>
     ensures { OnOk result (all.new
-        ≡ all.old ++ map (stretch from end) (map (given packets) outs.now)) }
+        ≡ all.old ++ map (stretch from end) (map (out_with_packets packets) outs.now)) }
 {
     for o in outs {
         all.push(Stretch {

@@ -8,13 +8,13 @@ use Rattle.nk_sets.specs.PacketSets.{is_in, IsSet, IsImage}
 use Rattle.nk_sets.proofs.SetLemmas.{set_grows}
 use Rattle.nk_outs.specs.declared.outs.OutPackets.{OutPackets}
 use Rattle.nk_determ.specs.Pairs.{Node, Under, Once, Within, AreStates, AreLabelsBelow, IsStep}
-use Rattle.nk_outs.specs.Outs.{AreGiven, GivesAny, IsByOut, sent_to}
+use Rattle.nk_outs.specs.Outs.{AllSuitStore, GivesAny, IsByOut, sent_to}
 use Rattle.nk_steps.specs.Local.{IsStateAt}
 use Rattle.nk_goal.specs.Entries.{HaveSets, IsAdded}
 use Rattle.nk_reach.specs.Rounds.{IsFollowed, IsSent, IsAllSent}
 use Rattle.nk_outs.proofs.Kept.{Has, packet_on, packet_back, has_on, has_back}
 use Rattle.nk_goal.proofs.Growing.{under_on, under_back, each_weaker, step_places}
-use Rattle.nk_outs.proofs.Givens.{given_at, gives_more, gives_less, gives_last}
+use Rattle.nk_outs.proofs.OutEntries.{is_set_at, gives_more, gives_less, gives_last}
 
 -- an image without packets sends nothing
 pub sent_empty : (st mid : StoreState) (o : Out) (p r : ℕ) (ps : List (ℕ × ℕ)) → HaveSets st ps → Once ps → Grows st mid → IsImage st o.act p mid r → ((pk : List ℕ) → IsWhole pk → is_in mid r pk ≡ false) → IsSent st o p ps mid ps
@@ -50,9 +50,9 @@ sent_add st mid new o p r t ps qs e g im fill is a = record {
 }
 
 -- one out more
-pub all_sent_push : (a st new : StoreState) (es : List OutPackets) (n : ℕ) (q : OutPackets) (ps qs rs : List (ℕ × ℕ)) → AreGiven a es → n < length es → q ≡ get_or es n q → IsAllSent a es n ps st qs → Grows a st → IsSent st q.out q.packets qs new rs → IsAllSent a es (n + 1) ps new rs
+pub all_sent_push : (a st new : StoreState) (es : List OutPackets) (n : ℕ) (q : OutPackets) (ps qs rs : List (ℕ × ℕ)) → AllSuitStore a es → n < length es → q ≡ get_or es n q → IsAllSent a es n ps st qs → Grows a st → IsSent st q.out q.packets qs new rs → IsAllSent a es (n + 1) ps new rs
 all_sent_push a st new es n q ps qs rs ok l is m g s =
-    let k : IsSet a q.packets = given_at a es n q ok l is in
+    let k : IsSet a q.packets = is_set_at a es n q ok l is in
     let same : (i : ℕ) → i + 1 ≡ q.out.target → q.out ≡ sent_to q.out.act (i + 1) = λ i e. ap (λ t. sent_to q.out.act t) (sym e) in
     record {
       from = λ i y w u. elim (s.from i y (packet_on a st y g w) u) [

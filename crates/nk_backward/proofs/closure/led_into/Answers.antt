@@ -5,7 +5,7 @@ use Rattle.nk_sets.proofs.SetLemmas.{set_grows}
 use Rattle.nk_goal.proofs.Places.{each_at}
 use Rattle.nk_goal.proofs.Adding.{take_more, take_whole}
 use Rattle.nk_backward.specs.Closures.{IsLedInto, AreFound}
-use Rattle.nk_backward.proofs.Tracing.{all_given_on}
+use Rattle.nk_backward.proofs.Tracing.{outs_suit_on}
 use Rattle.nk_backward.proofs.Gaining.{found_nothing}
 use Rattle.nk_backward.proofs.Preceding.{predecessors_on}
 use Rattle.nk_backward.proofs.Taking.{frontier_push}
@@ -18,11 +18,11 @@ loop-k-init c = record {
       (found_nothing c.args.st.now c.args.st.now (IsLedInto c.args.st.now c.args.ts.now []) [] (grows_same c.args.st.now) tt (λ i z w m. absurd m.3));
 }
 
-pub take_back-requires-clause-given : goal.take_back-requires-clause-given
-take_back-requires-clause-given c = all_given_on c.args.st.now c.loop-k.st c.args.ts.now c.loop-k.invariant.grows c.requires.given
+pub take_back-requires-clause-suits_store : goal.take_back-requires-clause-suits_store
+take_back-requires-clause-suits_store c = outs_suit_on c.args.st.now c.loop-k.st c.args.ts.now c.loop-k.invariant.grows c.requires.suits_store
 
 pub take_back-requires-clause-pre : goal.take_back-requires-clause-pre
-take_back-requires-clause-pre c = predecessors_on c.args.st.now c.loop-k.st c.args.ts.now c.args.pre.now.places c.args.pre.now.into.entries c.loop-k.invariant.grows c.requires.given c.requires.pre
+take_back-requires-clause-pre c = predecessors_on c.args.st.now c.loop-k.st c.args.ts.now c.args.pre.now.places c.args.pre.now.into.entries c.loop-k.invariant.grows c.requires.suits_store c.requires.pre
 
 pub take_back-requires-clause-packets : goal.take_back-requires-clause-packets
 take_back-requires-clause-packets c =
@@ -37,7 +37,7 @@ loop-k-preserved c =
       grows = grows_on _ _ _ c.loop-k.invariant.grows c.take_back.ensures.grows;
       made = subst (λ ps. AreFound c.args.st.now (IsLedInto c.args.st.now c.args.ts.now ps) [] c.take_back.new.st c.take_back.new.found) (sym (take_more c.args.frontier.now c.loop-k.k c.at.result.now l c.at.ensures))
           (frontier_push c.args.st.now c.loop-k.st c.take_back.new.st c.args.ts.now (take c.loop-k.k c.args.frontier.now) c.at.result.now [] c.loop-k.found c.take_back.new.found
-          c.loop-k.invariant.grows c.requires.given set c.loop-k.invariant.made c.in_ok-take_back.ensures.ok);
+          c.loop-k.invariant.grows c.requires.suits_store set c.loop-k.invariant.made c.in_ok-take_back.ensures.ok);
     }
 
 pub returns-clause-ok : goal.returns-clause-ok

@@ -1,7 +1,7 @@
 use Rattle.std.proofs.Common.{◌<◌, length, sym, subst}
 use Rattle.nk_store.proofs.Stores.{grows_same}
-use Rattle.nk_outs.proofs.Givens.{entry_at, given_at}
-use Rattle.nk_outs.specs.Outs.{AreGiven}
+use Rattle.nk_outs.proofs.OutEntries.{entry_at, is_set_at}
+use Rattle.nk_outs.specs.Outs.{AllSuitStore}
 use Rattle.nk_backward.specs.declared.transitions.Transitions.{Transitions}
 use Rattle.nk_backward.specs.Closures.{IsTakenOut}
 use Rattle.nk_backward.proofs.Tracing.{at_place}
@@ -27,7 +27,7 @@ preimage_by_out-requires-clause-from c =
     let w = place_within c.args.ts.now c.args.places.now c.args.q.now c.in-Some.place c.requires.places c.in-Some.ensures.some in
     let t_is = at_place c.args.ts.now c.in-Some.place.0 c.at-t.result.now w.0 c.at-t.ensures in
     let l : c.in-Some.place.1 < length c.at-t.result.now.outs = subst (λ (t : Transitions). c.in-Some.place.1 < length t.outs) (sym t_is) w.1 in
-    given_at c.args.st.now c.at-t.result.now.outs c.in-Some.place.1 c.at-o.result.now (subst (λ (t : Transitions). AreGiven c.args.st.now t.outs) (sym t_is) (c.requires.given c.in-Some.place.0 w.0)) l c.at-o.ensures
+    is_set_at c.args.st.now c.at-t.result.now.outs c.in-Some.place.1 c.at-o.result.now (subst (λ (t : Transitions). AllSuitStore c.args.st.now t.outs) (sym t_is) (c.requires.suits_store c.in-Some.place.0 w.0)) l c.at-o.ensures
 
 pub returns-clause-ok : goal.returns-clause-ok
 returns-clause-ok c =

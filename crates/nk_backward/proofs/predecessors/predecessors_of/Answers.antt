@@ -11,5 +11,5 @@ joined_all-requires c = record {
 
 pub returns-clause-ok : goal.returns-clause-ok
 returns-clause-ok c =
-    predecessors_made c.args.st.now c.marked_all.new.st c.joined_all.new.st c.args.ts.now c.in_ok-places.places c.in_ok-marked.marked c.as_slice.result.now c.in_ok-into.into.entries c.marked_all.ensures.grows c.joined_all.ensures.grows c.requires.given c.in_ok-places.ensures
+    predecessors_made c.args.st.now c.marked_all.new.st c.joined_all.new.st c.args.ts.now c.in_ok-places.places c.in_ok-marked.marked c.as_slice.result.now c.in_ok-into.into.entries c.marked_all.ensures.grows c.joined_all.ensures.grows c.requires.suits_store c.in_ok-places.ensures
     c.in_ok-marked.ensures.ok (subst (λ ds. IsPermutation c.in_ok-marked.marked ds) (sym c.as_slice.ensures) c.in_order-ordered.ensures) c.in_ok-into.ensures.ok

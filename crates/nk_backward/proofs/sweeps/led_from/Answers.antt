@@ -1,7 +1,7 @@
 use Rattle.std.proofs.Common.{◌≡◌, ◌<◌, [], length, sym, subst, arith}
 use Rattle.nk_store.proofs.Stores.{grows_on, grows_same}
 use Rattle.nk_sets.proofs.SetLemmas.{set_grows}
-use Rattle.nk_outs.proofs.Givens.{given_at}
+use Rattle.nk_outs.proofs.OutEntries.{is_set_at}
 use Rattle.nk_backward.specs.Closures.{AreFound}
 use Rattle.nk_backward.specs.Sweeps.{IsLedBy}
 use Rattle.nk_backward.proofs.Gaining.{sets_on, found_nothing}
@@ -18,7 +18,7 @@ loop-i-init c = record {
 pub push_led-requires-clause-from : goal.push_led-requires-clause-from
 push_led-requires-clause-from c =
     let l : c.loop-i.i < length c.args.t.now.outs = omega (arith, c.loop-i-test.true, c.len-i-end.ensures) in
-    set_grows c.args.st.now c.loop-i.st c.at.result.now.packets c.loop-i.invariant.grows (given_at c.args.st.now c.args.t.now.outs c.loop-i.i c.at.result.now c.requires.given l c.at.ensures)
+    set_grows c.args.st.now c.loop-i.st c.at.result.now.packets c.loop-i.invariant.grows (is_set_at c.args.st.now c.args.t.now.outs c.loop-i.i c.at.result.now c.requires.suits_store l c.at.ensures)
 
 pub push_led-requires-clause-back : goal.push_led-requires-clause-back
 push_led-requires-clause-back c = sets_on c.args.st.now c.loop-i.st c.args.back.now.entries c.loop-i.invariant.grows c.requires.back
@@ -32,7 +32,7 @@ loop-i-preserved c =
     record {
       grows = grows_on _ _ _ c.loop-i.invariant.grows c.push_led.ensures.grows;
       made = led_push c.args.st.now c.loop-i.st c.push_led.new.st c.args.t.now c.loop-i.i c.at.result.now c.args.back.now.entries c.loop-i.found c.push_led.new.found
-          c.loop-i.invariant.grows c.requires.given c.requires.back l c.at.ensures c.loop-i.invariant.made c.in_ok-push_led.ensures.ok;
+          c.loop-i.invariant.grows c.requires.suits_store c.requires.back l c.at.ensures c.loop-i.invariant.made c.in_ok-push_led.ensures.ok;
     }
 
 pub returns-clause-ok : goal.returns-clause-ok

@@ -1,7 +1,7 @@
 use Rattle.std.proofs.Common.{false, subst}
 use Rattle.nk_store.proofs.Stores.{grows_on, grows_same}
 use Rattle.nk_backward.specs.Sweeps.{IsSwept}
-use Rattle.nk_backward.proofs.Tracing.{all_given_on}
+use Rattle.nk_backward.proofs.Tracing.{outs_suit_on}
 use Rattle.nk_backward.proofs.Sweeping.{swept_none, swept_again}
 use Rattle.nk_backward.proofs.sweeps.sweep_some.Goals as goal
 
@@ -11,17 +11,17 @@ sweeps-init c = record {
   made = swept_none c.args.st.now c.args.ts.now c.args.back.now.entries c.requires.back c.requires.once;
 }
 
-pub sweep-requires-clause-given : goal.sweep-requires-clause-given
-sweep-requires-clause-given c = all_given_on c.args.st.now c.sweeps.st c.args.ts.now c.sweeps.invariant.grows c.requires.given
+pub sweep-requires-clause-suits_store : goal.sweep-requires-clause-suits_store
+sweep-requires-clause-suits_store c = outs_suit_on c.args.st.now c.sweeps.st c.args.ts.now c.sweeps.invariant.grows c.requires.suits_store
 
 pub returns-then-closed-clause-ok : goal.returns-then-closed-clause-ok
 returns-then-closed-clause-ok c =
     subst (λ b. IsSwept c.args.st.now c.args.ts.now c.args.back.now.entries c.sweep.new.st c.sweep.new.back.entries b) c.if-closed.true
-    (swept_again c.args.st.now c.sweeps.st c.sweep.new.st c.args.ts.now c.args.back.now.entries c.sweeps.back.entries c.sweep.new.back.entries false c.in_ok-closed.closed c.sweeps.invariant.grows c.requires.given c.sweeps.invariant.made c.in_ok-closed.ensures.ok)
+    (swept_again c.args.st.now c.sweeps.st c.sweep.new.st c.args.ts.now c.args.back.now.entries c.sweeps.back.entries c.sweep.new.back.entries false c.in_ok-closed.closed c.sweeps.invariant.grows c.requires.suits_store c.sweeps.invariant.made c.in_ok-closed.ensures.ok)
 
 pub sweeps-preserved : goal.sweeps-preserved
 sweeps-preserved c = record {
   grows = grows_on _ _ _ c.sweeps.invariant.grows c.sweep.ensures.grows;
   made = subst (λ b. IsSwept c.args.st.now c.args.ts.now c.args.back.now.entries c.sweep.new.st c.sweep.new.back.entries b) c.if-closed.false
-      (swept_again c.args.st.now c.sweeps.st c.sweep.new.st c.args.ts.now c.args.back.now.entries c.sweeps.back.entries c.sweep.new.back.entries false c.in_ok-closed.closed c.sweeps.invariant.grows c.requires.given c.sweeps.invariant.made c.in_ok-closed.ensures.ok);
+      (swept_again c.args.st.now c.sweeps.st c.sweep.new.st c.args.ts.now c.args.back.now.entries c.sweeps.back.entries c.sweep.new.back.entries false c.in_ok-closed.closed c.sweeps.invariant.grows c.requires.suits_store c.sweeps.invariant.made c.in_ok-closed.ensures.ok);
 }

@@ -7,7 +7,7 @@ use Rattle.nk_outs.proofs.groups.grouped.Goals as goal
 
 pub united-requires-clause-stretches : goal.united-requires-clause-stretches
 united-requires-clause-stretches c =
-    stretches_moved c.args.st.now c.args.f c.args.ss c.as_slice.result.now (subst (IsPermutation c.args.ss) (sym c.as_slice.ensures) c.in_order-ordered.ensures) c.requires.stretches.given
+    stretches_moved c.args.st.now c.args.f c.args.ss c.as_slice.result.now (subst (IsPermutation c.args.ss) (sym c.as_slice.ensures) c.in_order-ordered.ensures) c.requires.stretches.stretches
 
 pub returns-clause-ok : goal.returns-clause-ok
 returns-clause-ok c =

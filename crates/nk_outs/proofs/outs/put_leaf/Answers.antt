@@ -1,14 +1,14 @@
 use Rattle.std.proofs.Common.{sym, subst, refl, map}
 use Rattle.std.proofs.lemmas.Result.{on_ok_weaker}
 use Rattle.nk_store.specs.StoreState.{IsNodeOf, IsLeaf}
-use Rattle.nk_outs.specs.Outs.{given}
+use Rattle.nk_outs.specs.Outs.{out_with_packets}
 use Rattle.nk_outs.proofs.ByOut.{leaf_by_out}
 use Rattle.nk_outs.proofs.outs.put_leaf.Goals as goal
 
 pub returns-clause-ok : goal.returns-clause-ok
 returns-clause-ok c =
     let outs = c.as_slice.result.now in
-    let es = map (given c.in_ok-packets.packets) outs in
+    let es = map (out_with_packets c.in_ok-packets.packets) outs in
     on_ok_weaker c.put_each.result
     (λ h. (
       es,

@@ -3,7 +3,7 @@ use Rattle.nk_store.proofs.Stores.{grows_on}
 use Rattle.nk_sets.specs.PacketSets.{IsSet}
 use Rattle.nk_sets.proofs.SetLemmas.{set_grows}
 use Rattle.nk_goal.proofs.Growing.{each_weaker}
-use Rattle.nk_outs.proofs.Givens.{is_given_on, is_given_at}
+use Rattle.nk_outs.proofs.OutEntries.{suits_on, suits_at}
 use Rattle.nk_witness.proofs.Pulling.{all_pulled_none, all_pulled_push}
 use Rattle.nk_witness.proofs.pull.preimage_of_outs.Goals as goal
 
@@ -16,7 +16,7 @@ loop-i-init c = record {
 pub pull-requires-clause-packets : goal.pull-requires-clause-packets
 pull-requires-clause-packets c =
     let l : c.loop-i.i < length c.args.outs.now = omega (arith, c.loop-i-test.true, c.len-i-end.ensures) in
-    (is_given_on c.args.st.now c.loop-i.st c.at-q.result.now c.loop-i.invariant.grows (is_given_at c.args.st.now c.args.outs.now c.loop-i.i c.at-q.result.now c.requires.outs l c.at-q.ensures)).packets
+    (suits_on c.args.st.now c.loop-i.st c.at-q.result.now c.loop-i.invariant.grows (suits_at c.args.st.now c.args.outs.now c.loop-i.i c.at-q.result.now c.requires.outs l c.at-q.ensures)).packets
 
 pub pull-requires-clause-next : goal.pull-requires-clause-next
 pull-requires-clause-next c =

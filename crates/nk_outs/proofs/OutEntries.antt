@@ -9,35 +9,35 @@ use Rattle.nk_apply.specs.Seqs.{no_out}
 use Rattle.nk_sets.specs.PacketSets.{IsSet}
 use Rattle.nk_sets.proofs.SetLemmas.{set_grows}
 use Rattle.nk_outs.specs.declared.outs.OutPackets.{OutPackets}
-use Rattle.nk_outs.specs.Outs.{given, entry, IsGiven, AreGiven, AreLater, GivesOut, GivesAny}
+use Rattle.nk_outs.specs.Outs.{out_with_packets, entry, SuitsStore, AllSuitStore, AreLater, GivesOut, GivesAny}
 use Rattle.nk_outs.proofs.Kept.{Has, has_on, has_back}
 
 -- an entry stays one as the store grows
-pub is_given_on : (a b : StoreState) (e : OutPackets) → Grows a b → IsGiven a e → IsGiven b e
-is_given_on a b e g k = record { suits = subst (λ (m : List ℕ). Suits m e.out) (sym g.maxes) k.suits; packets = set_grows a b e.packets g k.packets }
+pub suits_on : (a b : StoreState) (e : OutPackets) → Grows a b → SuitsStore a e → SuitsStore b e
+suits_on a b e g k = record { suits = subst (λ (m : List ℕ). Suits m e.out) (sym g.maxes) k.suits; packets = set_grows a b e.packets g k.packets }
 
 -- entries stay entries as the store grows
-pub given_on : (a b : StoreState) (es : List OutPackets) → Grows a b → AreGiven a es → AreGiven b es
-given_on a b es g k i l = is_given_on a b (entry es i) g (k i l)
+pub all_suit_on : (a b : StoreState) (es : List OutPackets) → Grows a b → AllSuitStore a es → AllSuitStore b es
+all_suit_on a b es g k i l = suits_on a b (entry es i) g (k i l)
 
 -- an entry by its place
 pub entry_at : (es : List OutPackets) (n : ℕ) (q : OutPackets) → n < length es → q ≡ get_or es n q → q ≡ entry es n
-entry_at es n q l is = is ∙ get_or_default es n q (given 0 no_out) l
+entry_at es n q l is = is ∙ get_or_default es n q (out_with_packets 0 no_out) l
 
 -- what is known of an entry by its place
-pub is_given_at : (st : StoreState) (es : List OutPackets) (n : ℕ) (q : OutPackets) → AreGiven st es → n < length es → q ≡ get_or es n q → IsGiven st q
-is_given_at st es n q k l is = subst (IsGiven st) (sym (entry_at es n q l is)) (k n l)
+pub suits_at : (st : StoreState) (es : List OutPackets) (n : ℕ) (q : OutPackets) → AllSuitStore st es → n < length es → q ≡ get_or es n q → SuitsStore st q
+suits_at st es n q k l is = subst (SuitsStore st) (sym (entry_at es n q l is)) (k n l)
 
 -- an entry's packets are a set
-pub given_at : (st : StoreState) (es : List OutPackets) (n : ℕ) (q : OutPackets) → AreGiven st es → n < length es → q ≡ get_or es n q → IsSet st q.packets
-given_at st es n q k l is = (is_given_at st es n q k l is).packets
+pub is_set_at : (st : StoreState) (es : List OutPackets) (n : ℕ) (q : OutPackets) → AllSuitStore st es → n < length es → q ≡ get_or es n q → IsSet st q.packets
+is_set_at st es n q k l is = (suits_at st es n q k l is).packets
 
 -- what entries give they give in a grown store
-pub gives_on : (a b : StoreState) (es : List OutPackets) (from to : ℕ) (x : List ℕ) (o : Out) → Grows a b → AreGiven a es → to ≤ length es → GivesOut a es from to x o → GivesOut b es from to x o
+pub gives_on : (a b : StoreState) (es : List OutPackets) (from to : ℕ) (x : List ℕ) (o : Out) → Grows a b → AllSuitStore a es → to ≤ length es → GivesOut a es from to x o → GivesOut b es from to x o
 gives_on a b es from to x o g k l w = (w.0, w.1, w.2, w.3, has_on a b (entry es w.0).packets x g (k w.0 (omega (arith, l, w.2))).packets.id w.4)
 
 -- what entries give in a grown store they gave before
-pub gives_back : (a b : StoreState) (es : List OutPackets) (from to : ℕ) (x : List ℕ) (o : Out) → Grows a b → AreGiven a es → to ≤ length es → GivesOut b es from to x o → GivesOut a es from to x o
+pub gives_back : (a b : StoreState) (es : List OutPackets) (from to : ℕ) (x : List ℕ) (o : Out) → Grows a b → AllSuitStore a es → to ≤ length es → GivesOut b es from to x o → GivesOut a es from to x o
 gives_back a b es from to x o g k l w = (w.0, w.1, w.2, w.3, has_back a b (entry es w.0).packets x g (k w.0 (omega (arith, l, w.2))).packets.id w.4)
 
 -- what the first entries give, one more gives too
@@ -61,20 +61,20 @@ gives_less st es n q x o l is w = elim (eqb_tells w.0 n) [
 
 -- the entry at a place before one that was put after
 pub push_old : (es : List OutPackets) (e : OutPackets) (k : ℕ) → k < length es → entry (es ++ e ∷ []) k ≡ entry es k
-push_old es e k l = get_or_append_left es (e ∷ []) (given 0 no_out) k l
+push_old es e k l = get_or_append_left es (e ∷ []) (out_with_packets 0 no_out) k l
 
 -- the entry that was put after
 pub push_new : (es : List OutPackets) (e : OutPackets) → entry (es ++ e ∷ []) (length es) ≡ e
-push_new es e = get_or-append_right es (e ∷ []) (length es) (length es) (given 0 no_out) refl (omega arith)
-    ∙ (let z : length es - length es ≡ 0 = omega arith in ap (λ k. get_or (e ∷ []) k (given 0 no_out)) z)
+push_new es e = get_or-append_right es (e ∷ []) (length es) (length es) (out_with_packets 0 no_out) refl (omega arith)
+    ∙ (let z : length es - length es ≡ 0 = omega arith in ap (λ k. get_or (e ∷ []) k (out_with_packets 0 no_out)) z)
 
 -- one entry more
-pub given_push : (st : StoreState) (es : List OutPackets) (e : OutPackets) → AreGiven st es → IsGiven st e → AreGiven st (es ++ e ∷ [])
-given_push st es e k h i l = elim (eqb_tells i (length es)) [
-  | inl same ↦ subst (IsGiven st) (sym (ap (λ j. entry (es ++ e ∷ []) j) same.1 ∙ push_new es e)) h
+pub suits_push : (st : StoreState) (es : List OutPackets) (e : OutPackets) → AllSuitStore st es → SuitsStore st e → AllSuitStore st (es ++ e ∷ [])
+suits_push st es e k h i l = elim (eqb_tells i (length es)) [
+  | inl same ↦ subst (SuitsStore st) (sym (ap (λ j. entry (es ++ e ∷ []) j) same.1 ∙ push_new es e)) h
   | inr other ↦
       let m : i < length es = omega (arith, l, length-append es (e ∷ []), other.1) in
-      subst (IsGiven st) (sym (push_old es e i m)) (k i m)
+      subst (SuitsStore st) (sym (push_old es e i m)) (k i m)
 ]
 
 -- what entries gave they give with one more
@@ -102,7 +102,7 @@ any_back st es e x o w = elim (eqb_tells w.0 (length es)) [
 ]
 
 -- what no set tests it doesn't test in a grown store
-pub later_on : (a b : StoreState) (f : ℕ) (es : List OutPackets) → Grows a b → AreGiven a es → AreLater a f es → AreLater b f es
+pub later_on : (a b : StoreState) (f : ℕ) (es : List OutPackets) → Grows a b → AllSuitStore a es → AreLater a f es → AreLater b f es
 later_on a b f es g k later i l = let e : root_field b (entry es i).packets ≡ root_field a (entry es i).packets = g.root_fields (entry es i).packets (k i l).packets.id in omega (arith, e, later i l)
 
 -- one entry more, whose set doesn't test it
