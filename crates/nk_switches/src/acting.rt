@@ -1,5 +1,5 @@
 //! The diagrams of the classes of all switches.
-ghost use Rattle.std.specs.Prelude.{◌<◌, ℕ, cond, All, IfOk, length};
+ghost use Rattle.std.specs.Prelude.{◌<◌, ℕ, if◌then◌else◌, All, IfOk, length};
 ghost use Rattle.nk_store.specs.StoreState.{IsId, Grows, HasLeaves, look};
 ghost use Rattle.nk_apply.specs.PacketSets.{is_in};
 ghost use Rattle.nk_apply.specs.Unions.{AreIds};
@@ -25,7 +25,7 @@ fn either(st: &mut Store, s: Id, first: Id, second: Id) -> Result<Id, AllocError
     ensures grows { Grows st.old st.new }
     ensures ok { IfOk result
         (λ r. HasLeaves st.new r
-        (λ pk. cond (is_in st.old s pk) (look st.old first pk) (look st.old second pk))) }
+        (λ pk. if is_in st.old s pk then look st.old first pk else look st.old second pk)) }
 {
     let others = negate(st, s)?;
     let inside = both(st, s, first)?;
