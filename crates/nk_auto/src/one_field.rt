@@ -1,5 +1,5 @@
 //! The diagrams of a test, of a range and of an assignment, of a value past the field's highest too.
-ghost use Rattle.std.specs.Prelude.{◌∷◌, [], cond, leb, eqb, min, slice_index, IfOk};
+ghost use Rattle.std.specs.Prelude.{◌==◌, ◌∷◌, [], if◌then◌else◌, nat_le, min, slice_index, IfOk};
 ghost use Rattle.nk_store.specs.StoreState.{Grows, HasLeaves};
 ghost use Rattle.nk_apply.specs.Predicates.{IsPredicate};
 ghost use Rattle.nk_apply.specs.Seqs.{in_span};
@@ -14,8 +14,8 @@ use std::alloc::AllocError;
 pub(crate) fn test_where(st: &mut Store, f: Fid, n: u64) -> Result<Id, AllocError>
     ensures grows { Grows st.old st.new }
     ensures ok { IfOk result (λ d. HasLeaves st.new d
-        (λ pk. cond (eqb (min (slice_index pk f) (slice_index st.old.maxes f)) n)
-        (record { act = []; target = 0 } ∷ []) [])) }
+        (λ pk. if min (slice_index pk f) (slice_index st.old.maxes f) == n
+        then record { act = []; target = 0 } ∷ [] else [])) }
     ensures predicate { IfOk result (λ d. IsPredicate st.new d) }
 {
     let _place = f.place();
@@ -41,7 +41,7 @@ pub(crate) fn range_where(st: &mut Store, f: Fid, lo: u64, hi: u64) -> Result<Id
 pub(crate) fn set_where(st: &mut Store, f: Fid, n: u64) -> Result<Id, AllocError>
     ensures grows { Grows st.old st.new }
     ensures ok { IfOk result (λ d. HasLeaves st.new d
-        (λ pk. cond (leb n (slice_index st.old.maxes f)) (one_out f n ∷ []) [])) }
+        (λ pk. if nat_le n (slice_index st.old.maxes f) then one_out f n ∷ [] else [])) }
 {
     let _place = f.place();
     if n <= st.max(f) {
