@@ -1,5 +1,5 @@
 //! Whether it can be told by the acts alone what the packets of a diagram are sent to.
-ghost use Rattle.std.specs.Prelude.{◌≡◌, ℕ, ◌<◌, ◌||◌, true, eqb, List as Items, IfOk, OnOk};
+ghost use Rattle.std.specs.Prelude.{◌≡◌, ◌==◌, ℕ, ◌<◌, ◌||◌, true, List as Items, IfOk, OnOk};
 ghost use Rattle.std.specs.List.{Contains, list_all};
 ghost use Rattle.nk_store.specs.declared.node.Out.{Out};
 ghost use Rattle.nk_store.specs.StoreState.{IsId, look};
@@ -96,7 +96,7 @@ fn leaf_is_plain(outs: &[Out]) -> bool
 
 /// Whether each out is a final or has that label.
 pub(crate) fn have_label(outs: &[Out], label: u64) -> bool
-    ensures { result ≡ list_all (λ o. eqb o.target 0 || eqb o.target label) outs.now }
+    ensures { result ≡ list_all (λ o. (o.target == 0) || (o.target == label)) outs.now }
 {
     outs.iter().all(|o| o.target == 0 || o.target == label)
 }
