@@ -1,4 +1,4 @@
-//! All set states and packets that are met.
+//! All set states and packets that are visited.
 ghost use Rattle.std.specs.Prelude.{◌≡◌, ◌<◌, ◌≤◌, [], refl, false, IfOk, length, slice_index_or};
 ghost use Rattle.nk_store.specs.StoreState.{Grows};
 ghost use Rattle.nk_apply.proofs.Members.{contains_has};
@@ -39,7 +39,7 @@ impl Goal for NoViolation {
     }
 }
 
-/// All levels of an automaton's states, from a set state at some packets until a level meets nothing new. The only error is
+/// All levels of an automaton's states, from a set state at some packets until a level visits nothing new. The only error is
 /// that memory ran out; then the store and the sets have only grown.
 pub fn explored(
     st: &mut Store,

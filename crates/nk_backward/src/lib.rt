@@ -1,5 +1,5 @@
 //! Backward reachability over set states: the packets that start a history which ends at a violation, all of them. A least
-//! fixed point of preimages over the transitions between all set states and packets that are met.
+//! fixed point of preimages over the transitions between all set states and packets that are visited.
 #![tactic(auto)]
 
 mod closure;

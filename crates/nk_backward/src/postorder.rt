@@ -9,13 +9,13 @@ use nk_field::List;
 use std::alloc::{AllocError, Global};
 use std::collections::HashMap;
 
-/// When a search left a place: the place that the search began at, and 1 + its turn, or 0 where no search met the place.
+/// When a search left a place: the place that the search began at, and 1 + its turn, or 0 where no search visited the place.
 pub(crate) type Rank = (usize, usize);
 
 /// The places of all transitions with their ranks, in post-order. Depth-first searches, each from the first place that no search
-/// before it met, go from a place to where its transitions lead, and leave that first where they haven't met it before. So most
-/// transitions lead to earlier places. That every place is there, and no other, is promised; the order isn't. The only error is
-/// that memory ran out.
+/// before it visited, go from a place to where its transitions lead, and leave that first where they haven't visited it before.
+/// So most transitions lead to earlier places. That every place is there, and no other, is promised; the order isn't. The only
+/// error is that memory ran out.
 pub(crate) fn in_postorder(
     alloc: Global,
     ts: &List<Transitions>,
@@ -81,8 +81,8 @@ impl SetPlaces {
     }
 }
 
-/// Gives the places that a search meets their ranks. The path has the places that the search has met and not left, each with how many
-/// of its outs are done.
+/// Gives the places that a search visits their ranks. The path has the places that the search has visited and not left, each with
+/// how many of its outs are done.
 fn search_from(
     alloc: Global,
     ts: &List<Transitions>,

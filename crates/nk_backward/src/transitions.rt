@@ -28,9 +28,9 @@ impl Drop for Transitions {
     }
 }
 
-/// The set states at packets that are met, with all transitions from them.
+/// The set states at packets that are visited, with all transitions from them.
 pub(crate) struct Graph {
-    /// Sets of labels with packets at which they are met.
+    /// Sets of labels with packets at which they are visited.
     pub(crate) entries: List<(SetId, Id)>,
     /// The transitions from these packets.
     pub(crate) transitions: List<Transitions>,

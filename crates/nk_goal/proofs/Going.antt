@@ -23,9 +23,9 @@ pub record Going (old : StoreState) (oss : List (List ℕ)) (st : StoreState) (s
   pub pairs : (i : ℕ) → i < h + 1 → ArePairs st ss (length states) (get_or ls i [])
   pub shape : (i : ℕ) → 1 ≤ i → i < h + 1 → IsLaterLevel st (get_or ls i [])
   pub goal : (i : ℕ) (n : Node) → i < h → IsGood old n → InLevel st ss ls i n → IsViolation bad n → ⊥
-  pub met_pairs : ArePairs st ss (length states) visited
-  pub met_in : (n : Node) → IsGood old n → Within st ss visited n → (j : ℕ) × (j < h + 1) × InLevel st ss ls j n
-  pub in_met : (j : ℕ) (n : Node) → IsGood old n → j < h + 1 → InLevel st ss ls j n → Within st ss visited n
+  pub visited_pairs : ArePairs st ss (length states) visited
+  pub visited_in : (n : Node) → IsGood old n → Within st ss visited n → (j : ℕ) × (j < h + 1) × InLevel st ss ls j n
+  pub in_visited : (j : ℕ) (n : Node) → IsGood old n → j < h + 1 → InLevel st ss ls j n → Within st ss visited n
   pub seen : List Node
   pub seen_count : length seen ≡ h
   pub seen_no_dup : NoDup seen
@@ -83,9 +83,9 @@ going_on old oss st new ss nss states set start bad visited ls h g s go =
         filled = filled_on st new (get_or ls i []) g (packets_of st ss (length states) (get_or ls i []) (go.pairs i l).each) (go.shape i a l).filled;
       };
       goal = λ i n l p v. go.goal i n l p (back i n (omega (arith, l)) v);
-      met_pairs = pairs_on st new ss nss (length states) visited g s go.met_pairs;
-      met_in = λ n p w. let q = go.met_in n p (within_back st new ss nss (length states) visited n g s go.met_pairs w) in (q.0, q.1, on q.0 n q.1 q.2);
-      in_met = λ j n p l v. within_on st new ss nss (length states) visited n g s go.met_pairs (go.in_met j n p l (back j n l v));
+      visited_pairs = pairs_on st new ss nss (length states) visited g s go.visited_pairs;
+      visited_in = λ n p w. let q = go.visited_in n p (within_back st new ss nss (length states) visited n g s go.visited_pairs w) in (q.0, q.1, on q.0 n q.1 q.2);
+      in_visited = λ j n p l v. within_on st new ss nss (length states) visited n g s go.visited_pairs (go.in_visited j n p l (back j n l v));
       seen = go.seen;
       seen_count = go.seen_count;
       seen_no_dup = go.seen_no_dup;

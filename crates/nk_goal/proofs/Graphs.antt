@@ -77,7 +77,7 @@ some_before Good Lev k n g dec (suc b) l =
       ]
     ]
 
--- where nothing new follows the last level, all that is reached was met
+-- where nothing new follows the last level, all that is reached was visited
 pub complete : {N : Type 0} (Start : N → Type 0) (Step : N → N → Type 0) (Good : N → Type 0) (Lev : ℕ → N → Type 0) (h : ℕ) → ((n : N) → Start n → Good n) → ((m n : N) → Step m n → Good n) → Exact Start Step Good Lev (h + 1) → ((j : ℕ) (n : N) → j < h + 1 → Good n → Lev j n ⊎ (Lev j n → ⊥)) → ((m n : N) → Good m → Lev h m → Step m n → ((j : ℕ) → j < h + 1 → Lev j n → ⊥) → ⊥) → (i : ℕ) (n : N) → Reach Start Step i n → (j : ℕ) × (j ≤ i) × (j < h + 1) × Lev j n
 complete Start Step Good Lev h gs gt e dec closed zero n r = (0, omega arith, omega arith, e.full 0 n (omega arith) r (λ j l q. absurd (omega (arith, l))))
 complete Start Step Good Lev h gs gt e dec closed (suc i) n r =

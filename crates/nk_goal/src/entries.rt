@@ -57,7 +57,7 @@ fn joined(st: &mut Store, pairs: &IndexMap<SetId, Id>, t: SetId, y: Id) -> Resul
     }
 }
 
-/// Adds the packets of one more level to those met so far. The only error is that memory ran out; then the store has only grown,
+/// Adds the packets of one more level to the visited ones. The only error is that memory ran out; then the store has only grown,
 /// and the packets of the level's first entries are added, and of the others none.
 pub fn add_level(
     st: &mut Store,

@@ -65,7 +65,7 @@ levels_ended old oss st new ss nss states set start bad visited ls [] h known st
     let was : Within st ss (get_or ls h []) m = level_back old oss st new ss nss states set start bad visited ls h h m go g s h_in lev in
     let places : AreLabelsBelow r m.0 = within_places st ss r (get_or ls h []) m (go.pairs h h_in) was in
     let made = next.every m n (packet_on old st m.1 go.grows p) was (step_on old st states m n go.grows states_ok places step)
-    (λ w. let q = go.met_in n step.packet w in not q.0 q.1 (level_on old oss st new ss nss states set start bad visited ls h q.0 n go g s q.1 q.2)) in
+    (λ w. let q = go.visited_in n step.packet w in not q.0 q.1 (level_on old oss st new ss nss states set start bad visited ls h q.0 n go g s q.1 q.2)) in
     made.2))
 levels_ended old oss st new ss nss states set start bad visited ls (p ∷ ps) h known states_ok go none next g s empty = absurd (omega (arith, empty))
 

@@ -1,4 +1,4 @@
--- What is left of a level without what was met.
+-- What is left of a level without what was visited.
 use Rattle.std.proofs.Common.{◌≡◌, ℕ, ◌+◌, true, false, inl, inr, sym, ◌∙◌, subst, List, [], ◌∷◌, ◌++◌}
 use Rattle.nk_store.specs.StoreState.{StoreState, IsWhole, Grows}
 use Rattle.nk_sets.specs.PacketSets.{is_in, IsSet}

@@ -7,7 +7,7 @@ use Rattle.nk_reach.specs.Rounds.{IsNextLevel, IsRaw, IsFresh}
 use Rattle.nk_outs.proofs.Kept.{packet_on}
 use Rattle.nk_goal.proofs.Growing.{sets_known, sets_same, named_known, under_named, under_on, under_back, pairs_of, packets_of}
 
--- what a level leads to, without what was met, is the next level
+-- what a level leads to, without what was visited, is the next level
 pub next_of_raw : (st mid new : StoreState) (ss nss : List (List ℕ)) (states : List ℕ) (visited last raw level : List (ℕ × ℕ)) → IsRaw st ss states last mid nss raw → IsFresh mid visited raw new level → Grows st mid → SetsGrow ss nss → ArePairs st ss (length states) visited → IsNextLevel st ss states visited last new nss level
 next_of_raw st mid new ss nss states visited last raw level r f g s mp =
     let known : (i : ℕ) → Named visited i → (i < length ss) = λ i n. (named_known st ss (length states) visited i mp.each n).0 in

@@ -37,12 +37,12 @@ round_next old oss st mid new ss nss states set start bad visited ls level h sta
           let places : AreLabelsBelow r m.0 = within_places st ss r last m (go.pairs h h_in) w.2 in
           (m, packet_back old st m.1 go.grows w.1, level_on old oss st new ss nss states set start bad visited ls h h m go g s1 h_in w.2, step_back old st states m n go.grows states_ok places w.3);
       fresh = λ n p v j l lev.
-          next.fresh n (packet_on old st n.1 go.grows p) (to_mid n v) (go.in_met j n p l (level_back old oss st new ss nss states set start bad visited ls h j n go g s1 l lev));
+          next.fresh n (packet_on old st n.1 go.grows p) (to_mid n v) (go.in_visited j n p l (level_back old oss st new ss nss states set start bad visited ls h j n go g s1 l lev));
       every = λ m n p lev step none.
           let was : Within st ss last m = level_back old oss st new ss nss states set start bad visited ls h h m go g s1 h_in lev in
           let places : AreLabelsBelow r m.0 = within_places st ss r last m (go.pairs h h_in) was in
           let made = next.every m n (packet_on old st m.1 go.grows p) was (step_on old st states m n go.grows states_ok places step)
-          (λ w. let q = go.met_in n step.packet w in none q.0 q.1 (level_on old oss st new ss nss states set start bad visited ls h q.0 n go g s1 q.1 q.2)) in
+          (λ w. let q = go.visited_in n step.packet w in none q.0 q.1 (level_on old oss st new ss nss states set start bad visited ls h q.0 n go g s1 q.1 q.2)) in
           within_on mid new nss nss r level n g2 (sets_refl nss) next.pairs made;
     }
 
@@ -90,26 +90,26 @@ going_next old oss st mid new ss nss states set start bad visited all ls level h
         | inl same ↦ none n p (level_back old oss st new ss nss states set start bad visited ls h h n go g s1 (omega arith) (subst (λ j. InLevel new nss ls j n) same.1 (back i n l v))) b
         | inr other ↦ gn.goal i n (omega (arith, l, other.1)) p (back i n l v) b
       ];
-      met_pairs = record {
+      visited_pairs = record {
         each = pairs_of new nss r all (λ i q. elim (merged.named i q) [
-          | inl was ↦ named_known new nss r visited i gn.met_pairs.each was
+          | inl was ↦ named_known new nss r visited i gn.visited_pairs.each was
           | inr now ↦ named_known mid nss r level i next.pairs.each now
         ]) merged.packets;
         once = merged.once;
       };
-      met_in = λ n p w. elim (merged.either w.0 n.1 (packet_on old mid n.1 gm.grows p) w.2) [
+      visited_in = λ n p w. elim (merged.either w.0 n.1 (packet_on old mid n.1 gm.grows p) w.2) [
         | inl was ↦
-            let q = gm.met_in n p (w.0, w.1, was) in
+            let q = gm.visited_in n p (w.0, w.1, was) in
             (q.0, omega (arith, q.1), on q.0 n q.1 (level_on old oss mid new nss nss states set start bad visited ls h q.0 n gm g2 s2 q.1 q.2))
         | inr now ↦ (h + 1, omega arith, last_on (h + 1) n refl (within_on mid new nss nss r level n g2 s2 next.pairs (w.0, w.1, now)))
       ];
-      in_met = λ j n p l v. elim (eqb_tells j (h + 1)) [
+      in_visited = λ j n p l v. elim (eqb_tells j (h + 1)) [
         | inl same ↦
             let w : Within mid nss level n = within_back mid new nss nss r level n g2 s2 next.pairs (last_back j n same.1 v) in
             (w.0, w.1, merged.more w.0 n.1 (packet_on old mid n.1 gm.grows p) w.2)
         | inr other ↦
             let b : j < h + 1 = omega (arith, l, other.1) in
-            let w : Within mid nss visited n = gm.in_met j n p b (level_back old oss mid new nss nss states set start bad visited ls h j n gm g2 s2 b (back j n b v)) in
+            let w : Within mid nss visited n = gm.in_visited j n p b (level_back old oss mid new nss nss states set start bad visited ls h j n gm g2 s2 b (back j n b v)) in
             (w.0, w.1, merged.old w.0 n.1 (packet_on old mid n.1 gm.grows p) w.2)
       ];
       seen = n0 ∷ gn.seen;
@@ -145,9 +145,9 @@ going_start old oss states set start bad k p q =
       pairs = λ i l. let z : i ≡ 0 = omega (arith, l) in subst (λ j. ArePairs old oss (length states) (get_or ls j [])) (sym z) one;
       shape = λ i a l. absurd (omega (arith, a, l));
       goal = λ i n l. absurd (omega (arith, l));
-      met_pairs = one;
-      met_in = λ n g w. (0, omega arith, w);
-      in_met = λ j n g l v. let z : j ≡ 0 = omega (arith, l) in subst (λ j. InLevel old oss ls j n) z v;
+      visited_pairs = one;
+      visited_in = λ n g w. (0, omega arith, w);
+      in_visited = λ j n g l v. let z : j ≡ 0 = omega (arith, l) in subst (λ j. InLevel old oss ls j n) z v;
       seen = [];
       seen_count = refl;
       seen_no_dup = tt;

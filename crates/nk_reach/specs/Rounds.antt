@@ -11,7 +11,7 @@ use Rattle.nk_goal.specs.Entries.{HaveSets}
 use Rattle.nk_outs.specs.Outs.{GivesOut, sent_to}
 use Rattle.nk_outs.specs.declared.outs.OutPackets.{OutPackets}
 
--- the level has exactly what the last level leads to and was not met
+-- the level has exactly what the last level leads to and was not visited
 pub record IsNextLevel (st : StoreState) (ss : List (List ℕ)) (states : List ℕ) (visited last : List (ℕ × ℕ)) (new : StoreState) (nss : List (List ℕ)) (level : List (ℕ × ℕ)) : Type 0 where
   pub from : (n : Node) → IsStorePacket st n.1 → Within new nss level n → (m : Node) × IsStorePacket st m.1 × Within st ss last m × IsStep st states m n
   pub fresh : (n : Node) → IsStorePacket st n.1 → Within new nss level n → Within st ss visited n → ⊥
@@ -26,7 +26,7 @@ pub record IsRaw (st : StoreState) (ss : List (List ℕ)) (states : List ℕ) (l
   pub pairs : ArePairs new nss (length states) raw
   pub differ : HasEachSetOnce nss
 
--- the level has the entries of raw without what was met, where there are any
+-- the level has the entries of raw without what was visited, where there are any
 pub record IsFresh (st : StoreState) (visited raw : List (ℕ × ℕ)) (new : StoreState) (level : List (ℕ × ℕ)) : Type 0 where
   pub from : (i : ℕ) (x : List ℕ) → IsStorePacket st x → Under new level i x → Under st raw i x
   pub unvisited : (i : ℕ) (x : List ℕ) → IsStorePacket st x → Under new level i x → Under st visited i x → ⊥

@@ -1,4 +1,4 @@
-//! Levels over set states: every set of labels at every packet that is met, by the least number of records, up to a goal.
+//! Levels over set states: every set of labels at every packet that is visited, by the least number of records, up to a goal.
 #![tactic(auto)]
 
 mod follow;

@@ -15,7 +15,7 @@ use nk_sets::is_empty;
 use nk_store::{Id, Store};
 use std::alloc::{AllocError, Global};
 
-/// The next level: what the last one leads to and no level has met. The only error is that memory
+/// The next level: what the last one leads to and no level has visited. The only error is that memory
 /// ran out.
 pub fn next_level(
     st: &mut Store,
@@ -39,7 +39,7 @@ pub fn next_level(
     Ok(level)
 }
 
-/// The packets of a level that were not met, where there are any.
+/// The packets of a level that were not visited, where there are any.
 fn fresh(
     st: &mut Store,
     visited: &IndexMap<SetId, Id>,

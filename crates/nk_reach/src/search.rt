@@ -15,7 +15,7 @@ use nk_store::{Id, Store};
 use std::alloc::{AllocError, Global};
 
 /// The levels of an automaton's states, from the set state `s` at the packets `start`, up to the
-/// first level with a violation of the goal, or until a level meets nothing new. The only error is
+/// first level with a violation of the goal, or until a level visits nothing new. The only error is
 /// that memory ran out; then the store and the sets have only grown, and nothing is said of the goal.
 pub fn levels<G: Goal>(
     st: &mut Store,
@@ -48,7 +48,7 @@ pub fn levels<G: Goal>(
     Ok(Levels::new(all, broken))
 }
 
-/// Puts the levels into `all`, and what they meet into `visited`, both without an entry before. Whether the last level has a
+/// Puts the levels into `all`, and what they visit into `visited`, both without an entry before. Whether the last level has a
 /// violation.
 fn put_levels<G: Goal>(
     st: &mut Store,
@@ -66,7 +66,7 @@ fn put_levels<G: Goal>(
     requires set { s < length ss.old }
     requires places { AreLabelsBelow (length states.now) (slice_index_or ss.old s []) }
     requires packets { IsSet st.old start }
-    requires none_met { visited.old.entries ≡ [] }
+    requires none_visited { visited.old.entries ≡ [] }
     requires no_level { all.old ≡ [] }
     ensures grows { Grows st.old st.new }
     ensures sets { SetsGrow ss.old ss.new }

@@ -16,7 +16,7 @@ loop-st-init g c =
     let bad = g.G.Goal.violations_of c.args.g.now c.args.st.now in
     let first = going_start c.args.st.now c.args.ss.now c.args.states.now c.args.s c.args.start bad c.requires.set c.requires.places c.requires.packets in
     let all : c.push.new.self ≡ ((c.args.s, c.args.start) ∷ []) ∷ [] = c.in_ok-push.ensures.ok ∙ ap (λ l. l ++ c.in_ok-first_level.field-0 ∷ []) c.requires.no_level ∙ ap (λ l. l ∷ []) c.in_ok-first_level.ensures in
-    let visited : c.insert.new.self.entries ≡ (c.args.s, c.args.start) ∷ [] = c.in_ok-insert.ensures.entries ∙ ap (λ m. insert_entry eqb m c.args.s c.args.start) c.requires.none_met in
+    let visited : c.insert.new.self.entries ≡ (c.args.s, c.args.start) ∷ [] = c.in_ok-insert.ensures.entries ∙ ap (λ m. insert_entry eqb m c.args.s c.args.start) c.requires.none_visited in
     record {
       fits = c.requires.fits;
       labels = refl;
@@ -50,7 +50,7 @@ returns-then-branch-clause-ok g c =
 
 pub next_level-requires-clause-visited : goal.next_level-requires-clause-visited
 next_level-requires-clause-visited g c =
-    pairs_on c.loop-st.st c.any_violation.new.st c.loop-st.ss c.loop-st.ss (length c.args.states.now) c.loop-st.visited.entries c.any_violation.ensures.grows (sets_refl c.loop-st.ss) c.loop-st.invariant.going.1.met_pairs
+    pairs_on c.loop-st.st c.any_violation.new.st c.loop-st.ss c.loop-st.ss (length c.args.states.now) c.loop-st.visited.entries c.any_violation.ensures.grows (sets_refl c.loop-st.ss) c.loop-st.invariant.going.1.visited_pairs
 
 pub next_level-requires-clause-states : goal.next_level-requires-clause-states
 next_level-requires-clause-states g c =
@@ -91,7 +91,7 @@ returns-then-len-eq0-clause-ok g c =
 
 pub add_level-requires-clause-visited : goal.add_level-requires-clause-visited
 add_level-requires-clause-visited g c =
-    let a = pairs_on c.loop-st.st c.any_violation.new.st c.loop-st.ss c.loop-st.ss (length c.args.states.now) c.loop-st.visited.entries c.any_violation.ensures.grows (sets_refl c.loop-st.ss) c.loop-st.invariant.going.1.met_pairs in
+    let a = pairs_on c.loop-st.st c.any_violation.new.st c.loop-st.ss c.loop-st.ss (length c.args.states.now) c.loop-st.visited.entries c.any_violation.ensures.grows (sets_refl c.loop-st.ss) c.loop-st.invariant.going.1.visited_pairs in
     let b = pairs_on c.any_violation.new.st c.next_level.new.st c.loop-st.ss c.next_level.new.ss (length c.args.states.now) c.loop-st.visited.entries c.next_level.ensures.grows c.next_level.ensures.sets a in
     packets_of c.next_level.new.st c.next_level.new.ss (length c.args.states.now) c.loop-st.visited.entries b.each
 
