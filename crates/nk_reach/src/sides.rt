@@ -1,5 +1,5 @@
 //! The goal of one side alone.
-ghost use Rattle.std.specs.Prelude.{◌≡◌, ℕ, ◌<◌, ◌++◌, [], cond, eqb, IfOk, OnOk, flat_map, map, length, slice_index, List as Items};
+ghost use Rattle.std.specs.Prelude.{◌≡◌, ◌==◌, ℕ, ◌<◌, ◌++◌, [], if◌then◌else◌, eqb, IfOk, OnOk, flat_map, map, length, slice_index, List as Items};
 ghost use Rattle.std.specs.Map.{lookup};
 ghost use Rattle.std.proofs.Common.{ap};
 ghost use Rattle.nk_store.specs.StoreState.{IsId, IsStorePacket, look, Grows, HasLeaves};
@@ -296,7 +296,7 @@ fn twin_of(o: &Out) -> Result<Out, AllocError>
 
 /// The number of the side that a mark tells: 0 for the left, 1 for the right.
 fn side(mark: u64) -> u64
-    ensures { result ≡ cond (eqb mark 1) 0 1 }
+    ensures { result ≡ (if mark == 1 then 0 else 1) }
 {
     if mark == 1 { 0 } else { 1 }
 }
