@@ -13,7 +13,7 @@ use Rattle.nk_sets.specs.PacketSets.{is_in}
 use Rattle.nk_outs.specs.declared.outs.OutPackets.{OutPackets}
 use Rattle.nk_outs.specs.Outs.{IsByOut, sent_to}
 use Rattle.nk_outs.proofs.Kept.{packet_on, packet_back, has_back}
-use Rattle.nk_witness.proofs.Pulling.{out_is}
+use Rattle.nk_witness.proofs.PreimageSteps.{out_is}
 use Rattle.nk_backward.specs.declared.transitions.Transitions.{Transitions}
 use Rattle.nk_backward.specs.declared.predecessors.Predecessors.{Predecessors}
 use Rattle.nk_backward.specs.Transitions.{transitions_at, OutsSuitStore, IsLed}

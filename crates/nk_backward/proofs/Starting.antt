@@ -20,7 +20,7 @@ use Rattle.nk_witness.specs.declared.found.Side.{Side}
 use Rattle.nk_outs.proofs.Kept.{Has, packet_on, has_on, has_back}
 use Rattle.nk_goal.proofs.Growing.{sets_known, sets_same, under_on, under_back, under_named, named_known, packets_of, pair_on, each_weaker}
 use Rattle.nk_goal.proofs.Adding.{not_found, found_under, under_found}
-use Rattle.nk_witness.proofs.Pulling.{empty_not}
+use Rattle.nk_witness.proofs.PreimageSteps.{empty_not}
 use Rattle.nk_backward.specs.declared.transitions.Transitions.{Transitions}
 use Rattle.nk_backward.specs.Transitions.{explored_entries, OutsSuitStore, LeadsInto, AreTransitions}
 use Rattle.nk_backward.specs.Closures.{IsClosure}

@@ -17,7 +17,7 @@ use Rattle.nk_outs.proofs.OutEntries.{suits_at, gives_on, gives_back, gives_more
 use Rattle.nk_goal.specs.Entries.{HaveSets}
 use Rattle.nk_goal.proofs.Growing.{under_on, under_back, under_named}
 use Rattle.nk_goal.proofs.Adding.{not_found, found_under, under_found, under_append, under_left, under_right, each_append}
-use Rattle.nk_witness.proofs.Pulling.{out_is}
+use Rattle.nk_witness.proofs.PreimageSteps.{out_is}
 use Rattle.nk_backward.specs.declared.transitions.Transitions.{Transitions}
 use Rattle.nk_backward.specs.Transitions.{transitions_at, OutsSuitStore, IsLed, LeadsInto}
 use Rattle.nk_backward.specs.Places.{AreAllPlaces}

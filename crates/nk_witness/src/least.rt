@@ -12,7 +12,7 @@ ghost use Rattle.nk_witness.specs.Finds.{first_set, first_packets, target_of, fo
 use crate::back::violation_level;
 use crate::forward::{last_packet, least_under, next_packet};
 use crate::found::{Found, Side};
-use crate::pull::pull_level;
+use crate::preimages::preimage_in_level;
 use nk_determ::{Levels, SetId, Sets};
 use nk_field::{History, List};
 use nk_goal::{Entries, Goal};
@@ -183,7 +183,7 @@ fn backs_of<G: Goal>(
     for k in 0..last {
         let before = l.levels.at(last - 1 - k);
         let next = backs.at(k);
-        let back = pull_level(st, ss, states, before, next)?;
+        let back = preimage_in_level(st, ss, states, before, next)?;
         backs.push(back)?;
     }
     ss.differ();

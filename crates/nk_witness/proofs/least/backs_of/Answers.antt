@@ -38,11 +38,11 @@ loop-k-init g c =
           (subst (ArePairs c.args.st.now c.args.ss.now (length c.args.states.now)) at (c.requires.levels.pairs h l)) c.violation_level.ensures.grows);
     }
 
-pub pull_level-requires-clause-states : goal.pull_level-requires-clause-states
-pull_level-requires-clause-states g c = states_grow c.args.st.now c.loop-k.st c.args.states.now c.loop-k.invariant.grows c.requires.states
+pub preimage_in_level-requires-clause-states : goal.preimage_in_level-requires-clause-states
+preimage_in_level-requires-clause-states g c = states_grow c.args.st.now c.loop-k.st c.args.states.now c.loop-k.invariant.grows c.requires.states
 
-pub pull_level-requires-clause-level : goal.pull_level-requires-clause-level
-pull_level-requires-clause-level g c =
+pub preimage_in_level-requires-clause-level : goal.preimage_in_level-requires-clause-level
+preimage_in_level-requires-clause-level g c =
     let i : ℕ = c.len-last.result - 1 - 1 - c.loop-k.k in
     let some = c.requires.levels.some in
     let li : i < length c.args.l.now.levels = omega (arith, some, c.len-last.ensures, c.loop-k-test.true) in
@@ -50,7 +50,7 @@ pull_level-requires-clause-level g c =
     (pairs_on c.args.st.now c.loop-k.st c.args.ss.now c.loop-k.ss (length c.args.states.now) (get_or c.args.l.now.levels i []) c.loop-k.invariant.grows c.loop-k.invariant.sets (c.requires.levels.pairs i li))
 
 pub returns-in_err-push-2-clause-sets : goal.returns-in_err-push-2-clause-sets
-returns-in_err-push-2-clause-sets g c = sets_on c.args.ss.now c.loop-k.ss c.pull_level.new.ss c.loop-k.invariant.sets c.pull_level.ensures.sets
+returns-in_err-push-2-clause-sets g c = sets_on c.args.ss.now c.loop-k.ss c.preimage_in_level.new.ss c.loop-k.invariant.sets c.preimage_in_level.ensures.sets
 
 pub loop-k-preserved : goal.loop-k-preserved
 loop-k-preserved g c =
@@ -63,12 +63,12 @@ loop-k-preserved g c =
     let lk : c.loop-k.k < length c.loop-k.backs = let q = c.loop-k.invariant.count in omega (arith, q) in
     let pushed : c.push-in-loop-k.new.self ≡ c.loop-k.backs ++ c.in_ok-back.back ∷ [] = c.in_ok-push-2.ensures.ok in
     record {
-      grows = grows_on _ _ _ c.loop-k.invariant.grows c.pull_level.ensures.grows;
-      sets = sets_on c.args.ss.now c.loop-k.ss c.pull_level.new.ss c.loop-k.invariant.sets c.pull_level.ensures.sets;
-      fits = g.met.G.Goal.fits_on c.violation_level.new.g c.loop-k.st c.pull_level.new.st c.loop-k.invariant.fits c.pull_level.ensures.grows;
+      grows = grows_on _ _ _ c.loop-k.invariant.grows c.preimage_in_level.ensures.grows;
+      sets = sets_on c.args.ss.now c.loop-k.ss c.preimage_in_level.new.ss c.loop-k.invariant.sets c.preimage_in_level.ensures.sets;
+      fits = g.met.G.Goal.fits_on c.violation_level.new.g c.loop-k.st c.preimage_in_level.new.st c.loop-k.invariant.fits c.preimage_in_level.ensures.grows;
       count = let q = c.loop-k.invariant.count in let len : length c.push-in-loop-k.new.self ≡ length (c.loop-k.backs ++ c.in_ok-back.back ∷ []) = ap (λ (v : List (List (ℕ × ℕ))). length v) pushed in omega (arith, q, len, length-append c.loop-k.backs (c.in_ok-back.back ∷ []));
-      backs = subst (λ (v : List (List (ℕ × ℕ))). AreBacks c.args.st.now c.pull_level.new.st c.args.ss.now c.pull_level.new.ss c.args.states.now (g.G.Goal.violations_of c.args.g.now c.args.st.now) c.args.l.now.levels (length c.args.l.now.levels - 1) (c.loop-k.k + 1 + 1) v) (sym pushed)
-          (backs_round c.args.st.now c.loop-k.st c.pull_level.new.st c.args.ss.now c.loop-k.ss c.pull_level.new.ss c.args.states.now (first_set c.args.l.now.levels) (first_packets c.args.l.now.levels) (g.G.Goal.violations_of c.args.g.now c.args.st.now) c.args.l.now.levels c.args.l.now.broken
-          (length c.args.l.now.levels - 1) c.loop-k.k i c.at-before.result.now c.at-next.result.now c.in_ok-back.back c.loop-k.backs c.requires.states c.requires.levels count e c.loop-k.invariant.grows c.loop-k.invariant.sets c.pull_level.ensures.grows c.pull_level.ensures.sets
+      backs = subst (λ (v : List (List (ℕ × ℕ))). AreBacks c.args.st.now c.preimage_in_level.new.st c.args.ss.now c.preimage_in_level.new.ss c.args.states.now (g.G.Goal.violations_of c.args.g.now c.args.st.now) c.args.l.now.levels (length c.args.l.now.levels - 1) (c.loop-k.k + 1 + 1) v) (sym pushed)
+          (backs_round c.args.st.now c.loop-k.st c.preimage_in_level.new.st c.args.ss.now c.loop-k.ss c.preimage_in_level.new.ss c.args.states.now (first_set c.args.l.now.levels) (first_packets c.args.l.now.levels) (g.G.Goal.violations_of c.args.g.now c.args.st.now) c.args.l.now.levels c.args.l.now.broken
+          (length c.args.l.now.levels - 1) c.loop-k.k i c.at-before.result.now c.at-next.result.now c.in_ok-back.back c.loop-k.backs c.requires.states c.requires.levels count e c.loop-k.invariant.grows c.loop-k.invariant.sets c.preimage_in_level.ensures.grows c.preimage_in_level.ensures.sets
           c.loop-k.invariant.count c.loop-k.invariant.backs (level_at c.loop-k.backs c.loop-k.k c.at-next.result.now c.at-next.ensures lk) (level_at c.args.l.now.levels i c.at-before.result.now c.at-before.ensures li) c.in_ok-back.ensures.ok);
     }

@@ -1,9 +1,0 @@
-use Rattle.nk_store.specs.StoreState.{Grows}
-use Rattle.nk_witness.specs.Pulls.{AreAllPulled}
-use Rattle.nk_witness.proofs.pull.preimage_of_outs.Given as goal
-
-abbrev pub invariant-loop-i : goal.invariant-loop-i
-invariant-loop-i l = record {
-  grows : Grows l.fn.st l.st;
-  made : AreAllPulled l.fn.st l.outs l.i l.next l.st l.all;
-}
