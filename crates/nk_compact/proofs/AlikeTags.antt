@@ -32,7 +32,7 @@ use Rattle.nk_compile.specs.Ready.{sets_of}
 use Rattle.nk_compile.specs.Refusals.{found_from}
 use Rattle.nk_compile.proofs.Results.{set_there}
 use Rattle.nk_compact.specs.declared.compact.DistinguishingHistory.{DistinguishingHistory}
-use Rattle.nk_compact.specs.Compacted.{IsOfFirstSetAlone, IsLeastAlone, IsClass, IsFirstSet, IsApartIn, classes_apart, AreAparts}
+use Rattle.nk_compact.specs.Compacted.{IsOfFirstSetAlone, IsLeastAlone, IsClass, IsFirstSet, IsDistinguishingHistory, classes_distinguished, AreDistinguishingHistories}
 use Rattle.nk_compact.specs.MergedTable.{GivesAfter, AreSetsAlike, AreTagClasses, IsOfClass}
 use Rattle.nk_compact.specs.Told.{number_on_side, IsDistinguished, pairs_after, first_pairs, AreDistinguished}
 use Rattle.nk_compact.proofs.Merging.{get_index, index_get}
@@ -137,7 +137,7 @@ module _ (fields : FieldTable) (p : Policy) (distinct : HasDistinct p) (st : Sto
           )
 
       -- what is told of two classes tells them apart
-      told_is : (i j : ℕ) → i < length firsts → j < length firsts → (a : DistinguishingHistory) → IsDistinguished st states ss tags firsts i j a → IsApartIn fields p (sets_of ss tags) classes a
+      told_is : (i j : ℕ) → i < length firsts → j < length firsts → (a : DistinguishingHistory) → IsDistinguished st states ss tags firsts i j a → IsDistinguishingHistory fields p (sets_of ss tags) classes a
       told_is i j li lj a k =
           let inside : (c : ℕ) → c < length firsts → slice_index firsts c < length tags = λ c lt. subst (λ n. slice_index firsts c < n) count (fm.member c lt).0 in
           record {
@@ -290,11 +290,11 @@ module _ (fields : FieldTable) (p : Policy) (distinct : HasDistinct p) (st : Sto
     (ss : List (List ℕ)) (tags classes firsts : List ℕ) (dups : (i : ℕ) → i < length tags → AreDups p (set_of_tag ss tags i))
     (count : length classes ≡ length tags) (from_one : (i : ℕ) → i < length tags → 1 ≤ slice_index classes i) (fm : AreFirsts classes firsts) where
   -- what is told of any two classes in turn tells any two apart
-  pub told_all : (aparts : List DistinguishingHistory) → AreDistinguished st states ss tags firsts (first_pairs (length firsts) (length firsts)) aparts → AreAparts fields p (sets_of ss tags) classes aparts
+  pub told_all : (aparts : List DistinguishingHistory) → AreDistinguished st states ss tags firsts (first_pairs (length firsts) (length firsts)) aparts → AreDistinguishingHistories fields p (sets_of ss tags) classes aparts
   told_all aparts k =
       let n = length firsts in
-      let numbers : map classes_apart aparts ≡ map raised (first_pairs n n) =
-      matched_maps (λ (q : ℕ × ℕ) (a : DistinguishingHistory). IsDistinguished st states ss tags firsts q.0 q.1 a) raised classes_apart (λ q a t. ap (λ x. (x, a.second)) t.first_is ∙ ap (λ y. (suc q.0, y)) t.second_is) (first_pairs n n) aparts k in
+      let numbers : map classes_distinguished aparts ≡ map raised (first_pairs n n) =
+      matched_maps (λ (q : ℕ × ℕ) (a : DistinguishingHistory). IsDistinguished st states ss tags firsts q.0 q.1 a) raised classes_distinguished (λ q a t. ap (λ x. (x, a.second)) t.first_is ∙ ap (λ y. (suc q.0, y)) t.second_is) (first_pairs n n) aparts k in
       record {
         exactly = λ i j. (
           λ c.
@@ -316,7 +316,7 @@ module _ (fields : FieldTable) (p : Policy) (distinct : HasDistinct p) (st : Sto
               subst (λ (l : List (ℕ × ℕ)). Contains l (i, j)) (sym numbers) (contains_from_in (map raised (first_pairs n n)) (i, j) (subst (λ (q : ℕ × ℕ). In (map raised (first_pairs n n)) q) same there)),
         );
         in_order = told_turn (λ (q : ℕ × ℕ) (a : DistinguishingHistory). IsDistinguished st states ss tags firsts q.0 q.1 a) (λ q a t. (t.first_is, t.second_is)) (first_pairs n n) aparts (rows_turn n n) k;
-        each = all_from_members (IsApartIn fields p (sets_of ss tags) classes) aparts (λ a i.
+        each = all_from_members (IsDistinguishingHistory fields p (sets_of ss tags) classes) aparts (λ a i.
             let s = of_second (λ (q : ℕ × ℕ) (a : DistinguishingHistory). IsDistinguished st states ss tags firsts q.0 q.1 a) (first_pairs n n) aparts a k i in
             let r = rows_from n n s.0 s.1 in
             told_is fields p distinct st states over auto tidy ss tags classes firsts dups count from_one fm s.0.0 s.0.1 r.0 r.2 a s.2);

@@ -303,9 +303,9 @@ module _ (fields : FieldTable) (topo : Topology) (tag : ℕ) (p : Policy) (st : 
         at t le = tag_at 0 fields topo tag p st ss states tags m.clear m.ready tagged_here s.switch t le
 
   -- so it is with each switch
-  pub class_stops_are : (by_switch : List SwitchTags) (all : List SwitchClasses) → All (HasComing ends ss tags (length tags)) by_switch → all ≡ map (switch_classes_of classes met firsts) by_switch →
+  pub classes_at_switches_are : (by_switch : List SwitchTags) (all : List SwitchClasses) → All (HasComing ends ss tags (length tags)) by_switch → all ≡ map (switch_classes_of classes met firsts) by_switch →
       All (AreSwitchClasses st ss states tags tag) all
-  class_stops_are by_switch all coming is =
+  classes_at_switches_are by_switch all coming is =
       subst (All (AreSwitchClasses st ss states tags tag)) (sym is)
       (all_from_members (AreSwitchClasses st ss states tags tag) (map (switch_classes_of classes met firsts) by_switch) (λ q i.
       let f = from_mapped (switch_classes_of classes met firsts) by_switch q i in

@@ -38,7 +38,7 @@ abbrev pub IsFirstSet : List (List ℕ) → List ℕ → ℕ → List ℕ → Ty
 IsFirstSet tags classes c s = (i : ℕ) × IsFirstPlace (IsOfClass classes c) i × (slice_get tags i ≡ Some s)
 
 -- what tells two classes apart: the least history that the state of one of both gives alone, and which of both
-pub record IsApartIn (fields : FieldTable) (p : Policy) (tags : List (List ℕ)) (classes : List ℕ) (a : DistinguishingHistory) : Type 0 where
+pub record IsDistinguishingHistory (fields : FieldTable) (p : Policy) (tags : List (List ℕ)) (classes : List ℕ) (a : DistinguishingHistory) : Type 0 where
   pub s : List ℕ
   pub t : List ℕ
   pub of_first : IsFirstSet tags classes a.first s
@@ -46,14 +46,14 @@ pub record IsApartIn (fields : FieldTable) (p : Policy) (tags : List (List ℕ))
   pub least : ((a.alone ≡ a.first) × IsLeastAlone fields p s t (found_from a.start a.history)) ⊎ ((a.alone ≡ a.second) × IsLeastAlone fields p t s (found_from a.start a.history))
 
 -- the two classes
-abbrev pub classes_apart : DistinguishingHistory → ℕ × ℕ
-classes_apart a = (a.first, a.second)
+abbrev pub classes_distinguished : DistinguishingHistory → ℕ × ℕ
+classes_distinguished a = (a.first, a.second)
 
 -- exactly one for each two classes, the first below the second, by the first and then by the second
-pub record AreAparts (fields : FieldTable) (p : Policy) (tags : List (List ℕ)) (classes : List ℕ) (aparts : List DistinguishingHistory) : Type 0 where
-  pub exactly : (i j : ℕ) → Contains {X = ℕ × ℕ} (map classes_apart aparts) (i, j) ↔ ((i < j) × IsClass classes i × IsClass classes j)
+pub record AreDistinguishingHistories (fields : FieldTable) (p : Policy) (tags : List (List ℕ)) (classes : List ℕ) (aparts : List DistinguishingHistory) : Type 0 where
+  pub exactly : (i j : ℕ) → Contains {X = ℕ × ℕ} (map classes_distinguished aparts) (i, j) ↔ ((i < j) × IsClass classes i × IsClass classes j)
   pub in_order : AllPairs (λ (a b : DistinguishingHistory). (a.first < b.first) ⊎ ((a.first ≡ b.first) × (a.second < b.second))) aparts
-  pub each : All (IsApartIn fields p tags classes) aparts
+  pub each : All (IsDistinguishingHistory fields p tags classes) aparts
 
 -- the merged tables of a compilable policy, by its tag sets and their classes, which are no more than the tag has values above 0,
 -- and what tells any two of these apart
@@ -63,7 +63,7 @@ pub record IsCompactOf (fields : FieldTable) (topo : Topology) (p : Policy) (c :
   pub compilable : IsCompilable fields topo p
   pub merged : IsMergedTable fields topo (IsStartPacket fields topo) p tags classes c.tables
   pub few : (i : ℕ) → slice_index classes i ≤ most_tags fields fields.tag
-  pub apart : AreAparts fields p tags classes c.aparts
+  pub apart : AreDistinguishingHistories fields p tags classes c.aparts
 
 -- the tag sets have so many classes, or more
 abbrev pub HaveTagClasses : FieldTable → Topology → Policy → ℕ → Type 0

@@ -9,7 +9,7 @@ ghost use Rattle.nk_tag.specs.Numbers.{AreNumbers};
 ghost use Rattle.nk_compile.specs.Preparing.{IsPrepared};
 ghost use Rattle.nk_compact.specs.Compacted.{IsCompactOf, IsCompactError, AnswersCompact};
 
-use crate::aparts::aparts;
+use crate::histories::distinguishing_histories;
 use crate::merged::merged_tables;
 use crate::met::met_packets;
 use nk_compile::{CompileError, Prepared, Refusal, prepare};
@@ -162,7 +162,7 @@ fn compact_tables(
         return Err(CompileError::Refused(Refusal::TooManyTags { found: max + 1 }));
     }
     st.laws();
-    let aparts = aparts(
+    let aparts = distinguishing_histories(
         st,
         ss,
         states,

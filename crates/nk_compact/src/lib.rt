@@ -1,8 +1,8 @@
 //! Compilation with few tags: the tables of a named policy where alike tag sets share a tag, and what tells these tags apart.
 #![tactic(auto)]
 
-mod aparts;
 mod compact;
+mod histories;
 pub mod laws;
 mod merged;
 mod met;

@@ -25,10 +25,10 @@ use Rattle.nk_tabtext.specs.ReadBack.{ReadsPrintedTables}
 use Rattle.nk_tabtext.specs.Values.{tables_of}
 use Rattle.nk_compact.specs.declared.compact.DistinguishingHistory.{DistinguishingHistory}
 use Rattle.nk_compact.specs.declared.compact.Compact.{Compact}
-use Rattle.nk_compact.specs.Compacted.{IsFirstSet, IsApartIn, IsCompacted}
+use Rattle.nk_compact.specs.Compacted.{IsFirstSet, IsDistinguishingHistory, IsCompacted}
 use Rattle.nk_compact.proofs.Merging.{index_get}
 use Rattle.nk_compact_command.specs.CommentLines.{IsCommentLine}
-use Rattle.nk_compact_command.specs.Compacting.{apart_words, apart_line, compact_bytes, IsCompactPrinted}
+use Rattle.nk_compact_command.specs.Compacting.{distinguishing_words, distinguishing_line, compact_bytes, IsCompactPrinted}
 use Rattle.nk_input.specs.Declarable.{CanBeDeclared}
 use Rattle.nk_compact_command.specs.TextTables.{CompactsPrintable}
 use Rattle.nk_compact_command.proofs.Comments.{comments_change_nothing}
@@ -56,7 +56,7 @@ module _ (fields : FieldTable) (writable : IsWritable fields) (p : Policy) (dist
       let le : c ≤ most_tags fields fields.tag = subst (λ n. n ≤ most_tags fields fields.tag) (index_get classes f.0 c f.1.0) (few f.0) in
       omega (arith, le, small)
 
-  words_plain : (a : DistinguishingHistory) → IsApartIn fields p tags classes a → IsPlain (apart_words fields a)
+  words_plain : (a : DistinguishingHistory) → IsDistinguishingHistory fields p tags classes a → IsPlain (distinguishing_words fields a)
   words_plain a h =
       let one = number_small a.first h.s h.of_first in
       let two = number_small a.second h.t h.of_second in
@@ -83,12 +83,12 @@ module _ (fields : FieldTable) (writable : IsWritable fields) (p : Policy) (dist
       (plain_after head (packet_bytes fields true a.start) numbers (packet_plain fields writable.names writable.maxima true a.start start)) refl)
       (history_plain fields writable.names writable.maxima true a.history gives.0 gives.1)
 
-  is_comment : (a : DistinguishingHistory) → IsApartIn fields p tags classes a → IsCommentLine (apart_line fields a)
-  is_comment a h = record { body = apart_words fields a; plain = words_plain a h; is = refl }
+  is_comment : (a : DistinguishingHistory) → IsDistinguishingHistory fields p tags classes a → IsCommentLine (distinguishing_line fields a)
+  is_comment a h = record { body = distinguishing_words fields a; plain = words_plain a h; is = refl }
 
-  are_comments : (aparts : List DistinguishingHistory) → All (IsApartIn fields p tags classes) aparts → All (λ a. IsCommentLine (apart_line fields a)) aparts
+  are_comments : (aparts : List DistinguishingHistory) → All (IsDistinguishingHistory fields p tags classes) aparts → All (λ a. IsCommentLine (distinguishing_line fields a)) aparts
   are_comments aparts h =
-      all_from_members (λ (a : DistinguishingHistory). IsCommentLine (apart_line fields a)) aparts (λ a i. is_comment a (members_from_all (IsApartIn fields p tags classes) aparts h a i))
+      all_from_members (λ (a : DistinguishingHistory). IsCommentLine (distinguishing_line fields a)) aparts (λ a i. is_comment a (members_from_all (IsDistinguishingHistory fields p tags classes) aparts h a i))
 
 -- ---- what is printed
 
@@ -114,6 +114,6 @@ is_compact_printed printable reads program name text c ok declared made printed 
       printed = printed;
       read = λ few.
           ap tables_of printed
-          ∙ comments_change_nothing (apart_line fields) c.aparts comments c.tables
+          ∙ comments_change_nothing (distinguishing_line fields) c.aparts comments c.tables
           ∙ (reads c.tables (printable program name c ok declared.fields declared.topology made few)).read;
     }

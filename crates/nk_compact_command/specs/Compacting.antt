@@ -20,18 +20,18 @@ use Rattle.nk_compile_commands.specs.TextTables.{HasFewGroups}
 
 -- what a comment says of two tags: the one that alone gives the history, the packet that it starts at, and the history, with every
 -- field
-abbrev pub apart_words : FieldTable → DistinguishingHistory → List ℕ
-apart_words fields a =
+abbrev pub distinguishing_words : FieldTable → DistinguishingHistory → List ℕ
+distinguishing_words fields a =
     codes " apart " ++ decimal a.first ++ codes " " ++ decimal a.second ++ codes " : " ++ decimal a.alone ++ codes " alone : start "
     ++ packet_bytes fields true a.start ++ codes " : history " ++ history_bytes fields true a.history
 
 -- the line of it
-abbrev pub apart_line : FieldTable → DistinguishingHistory → List ℕ
-apart_line fields a = codes "#" ++ apart_words fields a ++ codes "\n"
+abbrev pub distinguishing_line : FieldTable → DistinguishingHistory → List ℕ
+distinguishing_line fields a = codes "#" ++ distinguishing_words fields a ++ codes "\n"
 
 -- the tables' text, and after it the comment lines
 abbrev pub compact_bytes : FieldTable → Compact → List ℕ
-compact_bytes fields c = table_bytes c.tables ++ flat_map (apart_line fields) c.aparts
+compact_bytes fields c = table_bytes c.tables ++ flat_map (distinguishing_line fields) c.aparts
 
 -- The text is that of the merged tables of the program's policy of this name, which carry it, and of what tells any two of their
 -- tags apart. Read again it is these tables, unless a switch has more groups than a text has numbers.

@@ -5,7 +5,7 @@ ghost use Rattle.nk_field.specs.Texts.{history_bytes, packet_bytes};
 ghost use Rattle.nk_names.specs.ProgramOf.{program_by};
 ghost use Rattle.nk_names.specs.ProgramValue.{IsProgram};
 ghost use Rattle.nk_tabtext.specs.InOrder.{AreInOrder};
-ghost use Rattle.nk_compact_command.specs.Compacting.{IsCompactAnswer, ToCompacted, apart_line, compact_bytes};
+ghost use Rattle.nk_compact_command.specs.Compacting.{IsCompactAnswer, ToCompacted, distinguishing_line, compact_bytes};
 ghost use Rattle.nk_input.specs.Declarable.{CanBeDeclared};
 ghost use Rattle.nk_reply.specs.Reply.{outcome_of};
 
@@ -64,34 +64,35 @@ fn compact_text(alloc: Global, fields: &Fields, compact: &Compact) -> Result<Vec
     ensures { IfOk result (λ text. text.items ≡ compact_bytes fields.now compact.now) }
 {
     let mut out = table_text(alloc, &compact.tables)?;
-    push_aparts(alloc, &mut out, fields, compact.aparts.as_slice())?;
+    push_distinguishing_lines(alloc, &mut out, fields, compact.aparts.as_slice())?;
     Ok(out)
 }
 
 /// Appends a comment line for each two tags.
-fn push_aparts(
+fn push_distinguishing_lines(
     alloc: Global,
     out: &mut Vec<u8>,
     fields: &Fields,
     aparts: &[DistinguishingHistory],
 ) -> Result<(), AllocError>
     ensures { OnOk result (out.new.items
-        ≡ out.old.items ++ flat_map (apart_line fields.now) aparts.now) }
+        ≡ out.old.items ++ flat_map (distinguishing_line fields.now) aparts.now) }
 {
     for apart in aparts {
-        push_apart(alloc, out, fields, apart)?;
+        push_distinguishing_line(alloc, out, fields, apart)?;
     }
     Ok(())
 }
 
 /// Appends the comment line of what tells two tags apart.
-fn push_apart(
+fn push_distinguishing_line(
     alloc: Global,
     out: &mut Vec<u8>,
     fields: &Fields,
     apart: &DistinguishingHistory,
 ) -> Result<(), AllocError>
-    ensures { OnOk result (out.new.items ≡ out.old.items ++ apart_line fields.now apart.now) }
+    ensures { OnOk result
+        (out.new.items ≡ out.old.items ++ distinguishing_line fields.now apart.now) }
 {
     out.extend_from_slice(b"# apart ")?;
     push_tags(out, apart)?;

@@ -4,7 +4,7 @@ use Rattle.std.proofs.lemmas.List.Elements.{All-nil, All-cons, All-head, All-tai
 use Rattle.std.specs.Prelude.{All}
 use Rattle.std.specs.List.{flat_map, list_all}
 use Rattle.nk_compact.specs.declared.compact.DistinguishingHistory.{DistinguishingHistory}
-use Rattle.nk_compact_command.specs.Compacting.{apart_line, apart_words}
+use Rattle.nk_compact_command.specs.Compacting.{distinguishing_line, distinguishing_words}
 use Rattle.nk_compact_command.proofs.PlainLines.{IsPlain, history_plain, packet_plain, plain_after, plain_number}
 use Rattle.nk_declare.specs.Kept.{IsWritable}
 use Rattle.nk_field.specs.Packet.{FieldTable, IsPacket}
@@ -13,7 +13,7 @@ use Rattle.nk_lex.specs.Classes.{not_line_feed}
 use Rattle.nk_lex.proofs.Digits.{both_pass}
 use Rattle.nk_tabtext.specs.Text.{table_bytes}
 use Rattle.nk_notation.proofs.WrittenForms.{un_not}
-use Rattle.nk_notation_laws.specs.Laws.{CompactsAreLeft, IsApartOver}
+use Rattle.nk_notation_laws.specs.Laws.{CompactsAreLeft, IsDistinguishingOver}
 use Rattle.nk_notation_laws.proofs.PlainTexts.{Bare, Left, bare_byte}
 use Rattle.nk_notation_laws.proofs.PrintedHistories.{whole_left}
 use Rattle.nk_notation_laws.proofs.PrintedTables.{Free, free_each, free_free, tables_free}
@@ -37,7 +37,7 @@ before_last P (x ∷ xs) y h =
     let rest = before_last P xs y (All-tail P x (xs ++ y ∷ []) h) in
     (All-cons P x xs (All-head P x (xs ++ y ∷ []) h) rest.0, rest.1)
 
-words_plain : (fields : FieldTable) → IsWritable fields → (a : DistinguishingHistory) → IsApartOver fields a → IsPlain (apart_words fields a)
+words_plain : (fields : FieldTable) → IsWritable fields → (a : DistinguishingHistory) → IsDistinguishingOver fields a → IsPlain (distinguishing_words fields a)
 words_plain fields w a h =
     let packets = before_last (IsPacket fields) a.history.records a.history.last h.history in
     let one = codes " apart " ++ decimal a.first in
@@ -60,7 +60,7 @@ words_plain fields w a h =
 
 pub compacts_left : CompactsAreLeft
 compacts_left = λ fields w c tables aparts.
-    let lines = flat_map (apart_line fields) c.aparts in
+    let lines = flat_map (distinguishing_line fields) c.aparts in
     whole_left (table_bytes c.tables ++ lines)
     (free_free (table_bytes c.tables) lines (tables_free c.tables tables)
-    (free_each (IsApartOver fields) (apart_line fields) (λ a h. comment_free (apart_words fields a) (words_plain fields w a h)) c.aparts aparts))
+    (free_each (IsDistinguishingOver fields) (distinguishing_line fields) (λ a h. comment_free (distinguishing_words fields a) (words_plain fields w a h)) c.aparts aparts))

@@ -145,7 +145,7 @@ ImpactsAreLeft = (fields : FieldTable) → IsWritable fields → (left right : P
     → IsLeftByIn (impact_lines fields left right)
 
 -- the numbers are counts, and the start packet and the history have values in range
-pub record IsApartOver (fields : FieldTable) (a : DistinguishingHistory) : Type 0 where
+pub record IsDistinguishingOver (fields : FieldTable) (a : DistinguishingHistory) : Type 0 where
   pub first : IsCount a.first
   pub second : IsCount a.second
   pub alone : IsCount a.alone
@@ -154,7 +154,7 @@ pub record IsApartOver (fields : FieldTable) (a : DistinguishingHistory) : Type 
 
 -- so is the text of merged tables and of what tells their tags apart
 abbrev pub CompactsAreLeft : Type 0
-CompactsAreLeft = (fields : FieldTable) → IsWritable fields → (c : Compact) → ArePrintableTables c.tables → All (IsApartOver fields) c.aparts
+CompactsAreLeft = (fields : FieldTable) → IsWritable fields → (c : Compact) → ArePrintableTables c.tables → All (IsDistinguishingOver fields) c.aparts
     → IsLeftByIn (compact_bytes fields c)
 
 -- the packets that a refusal tells have values in range, and its number is a count

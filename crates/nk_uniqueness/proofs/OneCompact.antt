@@ -27,7 +27,7 @@ use Rattle.nk_compile.proofs.Orders.{one_least, same_sorted}
 use Rattle.nk_compile.proofs.ReasonByName.{alike}
 use Rattle.nk_compact.specs.declared.compact.DistinguishingHistory.{DistinguishingHistory}
 use Rattle.nk_compact.specs.declared.compact.Compact.{Compact}
-use Rattle.nk_compact.specs.Compacted.{IsOfFirstSetAlone, IsLeastAlone, IsFirstSet, IsApartIn, classes_apart, AreAparts, IsCompactOf, IsCompacted}
+use Rattle.nk_compact.specs.Compacted.{IsOfFirstSetAlone, IsLeastAlone, IsFirstSet, IsDistinguishingHistory, classes_distinguished, AreDistinguishingHistories, IsCompactOf, IsCompacted}
 use Rattle.nk_compact.specs.MergedTable.{GivesAfter, IsOfClass, IsMetMember, IsFirstPlace, IsActingMember, ActsFor, IsClassTree, HasClassRowsAt, IsClassTable, IsMergedTable}
 use Rattle.nk_compact.proofs.CompactReasons.{one_classes}
 use Rattle.nk_uniqueness.specs.Packets.{HavePackets}
@@ -154,8 +154,8 @@ module _ (fields : FieldTable) (p : Policy) where
     one_first_set : (c : ℕ) (s t : List ℕ) → IsFirstSet tags classes c s → IsFirstSet tags classes c t → s ≡ t
     one_first_set c s t h k = set_is s t (sym h.2 ∙ ap (λ i. slice_get tags i) (one_first (IsOfClass classes c) h.0 k.0 h.1 k.1) ∙ k.2)
 
-    one_apart : (a b : DistinguishingHistory) → IsApartIn fields p tags classes a → IsApartIn fields p tags classes b → a.first ≡ b.first → a.second ≡ b.second → a ≡ b
-    one_apart a b h k e f =
+    one_distinguishing_history : (a b : DistinguishingHistory) → IsDistinguishingHistory fields p tags classes a → IsDistinguishingHistory fields p tags classes b → a.first ≡ b.first → a.second ≡ b.second → a ≡ b
+    one_distinguishing_history a b h k e f =
         let s = one_first_set b.first h.s k.s (subst (λ c. IsFirstSet tags classes c h.s) e h.of_first) k.of_first in
         let t = one_first_set b.second h.t k.t (subst (λ c. IsFirstSet tags classes c h.t) f h.of_second) k.of_second in
         let mine : Sided k.s k.t b.first b.second a.alone (found_from a.start a.history) =
@@ -179,18 +179,18 @@ module _ (fields : FieldTable) (p : Policy) where
     before_once a b (inr h) (inr k) = omega (arith, h.1, k.1)
 
     -- what tells two classes apart in one list does in the other
-    there : (xs ys : List DistinguishingHistory) → AreAparts fields p tags classes xs → AreAparts fields p tags classes ys → (a : DistinguishingHistory) → In xs a → In ys a
+    there : (xs ys : List DistinguishingHistory) → AreDistinguishingHistories fields p tags classes xs → AreDistinguishingHistories fields p tags classes ys → (a : DistinguishingHistory) → In xs a → In ys a
     there xs ys h k a i =
-        let here = contains_from_in (map classes_apart xs) (classes_apart a) (in_mapped classes_apart xs a i) in
-        let b = from_mapped classes_apart ys (classes_apart a) (in_from_contains (map classes_apart ys) (classes_apart a) ((k.exactly a.first a.second).1 ((h.exactly a.first a.second).0 here))) in
-        let same = one_apart a b.0
-        (members_from_all (IsApartIn fields p tags classes) xs h.each a i)
-        (members_from_all (IsApartIn fields p tags classes) ys k.each b.0 b.1)
+        let here = contains_from_in (map classes_distinguished xs) (classes_distinguished a) (in_mapped classes_distinguished xs a i) in
+        let b = from_mapped classes_distinguished ys (classes_distinguished a) (in_from_contains (map classes_distinguished ys) (classes_distinguished a) ((k.exactly a.first a.second).1 ((h.exactly a.first a.second).0 here))) in
+        let same = one_distinguishing_history a b.0
+        (members_from_all (IsDistinguishingHistory fields p tags classes) xs h.each a i)
+        (members_from_all (IsDistinguishingHistory fields p tags classes) ys k.each b.0 b.1)
         (ap (λ (q : ℕ × ℕ). q.0) b.2) (ap (λ (q : ℕ × ℕ). q.1) b.2) in
         subst (In ys) (sym same) b.1
 
-    one_aparts : (xs ys : List DistinguishingHistory) → AreAparts fields p tags classes xs → AreAparts fields p tags classes ys → xs ≡ ys
-    one_aparts xs ys h k = same_sorted IsBefore before_once xs ys h.in_order k.in_order (there xs ys h k) (there ys xs k h)
+    one_distinguishing_histories : (xs ys : List DistinguishingHistory) → AreDistinguishingHistories fields p tags classes xs → AreDistinguishingHistories fields p tags classes ys → xs ≡ ys
+    one_distinguishing_histories xs ys h k = same_sorted IsBefore before_once xs ys h.in_order k.in_order (there xs ys h k) (there ys xs k h)
 
 -- ---- both
 
@@ -203,8 +203,8 @@ one_compact fields topo p c d have h k =
     one_merged p (IsStartPacket fields topo) k.tags k.classes fields topo c.tables d.tables have
     (subst (λ cs. IsMergedTable fields topo (IsStartPacket fields topo) p k.tags cs c.tables) classes (subst (λ ts. IsMergedTable fields topo (IsStartPacket fields topo) p ts h.classes c.tables) tags h.merged)) k.merged in
     let aparts =
-    one_aparts fields p k.tags k.classes c.aparts d.aparts
-    (subst (λ cs. AreAparts fields p k.tags cs c.aparts) classes (subst (λ ts. AreAparts fields p ts h.classes c.aparts) tags h.apart)) k.apart in
+    one_distinguishing_histories fields p k.tags k.classes c.aparts d.aparts
+    (subst (λ cs. AreDistinguishingHistories fields p k.tags cs c.aparts) classes (subst (λ ts. AreDistinguishingHistories fields p ts h.classes c.aparts) tags h.apart)) k.apart in
     λ n. record { tables = tables n; aparts = aparts n }
 
 module _ (program other : Program) (same : program_by program ≡ program_by other) (name : List ℕ) where

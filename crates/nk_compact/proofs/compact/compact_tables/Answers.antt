@@ -9,7 +9,7 @@ use Rattle.nk_merge.specs.Classes.{AreFirsts}
 use Rattle.nk_compile.specs.Ready.{sets_of}
 use Rattle.nk_compile.proofs.Levelled.{prepared_unopposed, prepared_compilable}
 use Rattle.nk_compact.specs.MergedTable.{IsMergedTable}
-use Rattle.nk_compact.specs.Compacted.{AreAparts}
+use Rattle.nk_compact.specs.Compacted.{AreDistinguishingHistories}
 use Rattle.nk_compact.specs.Mergeable.{IsMetPackets}
 use Rattle.nk_compact.specs.Told.{AreDistinguished, first_pairs}
 use Rattle.nk_compact.proofs.AlikeTags.{told_all}
@@ -87,15 +87,15 @@ within c =
     subst (All (λ i. i < length c.args.tags.now)) (sym c.as_slice.ensures)
     (firsts_in c.in_ok-classes.classes.numbers c.in_ok-classes.classes.firsts (length c.args.tags.now) c.in_ok-classes.ensures.firsts c.in_ok-classes.ensures.classes.one_each)
 
-pub aparts-requires-clause-base : goal.aparts-requires-clause-base
-aparts-requires-clause-base c =
+pub distinguishing_histories-requires-clause-base : goal.distinguishing_histories-requires-clause-base
+distinguishing_histories-requires-clause-base c =
     let r = c.requires.prepared in
     base_there c.args.fields.now c.args.topo.now r.0 (tree_of c.args.p.now) _ r.2 c.requires.held.few_dups c.args.tags.now c.requires.numbers
     c.classes_of.new.st c.classes_of.new.ss (grows_on _ _ _ c.met_packets.ensures.grows (grows_on _ _ _ c.new.ensures.grows c.classes_of.ensures.grows))
     (sets_grow_on c.args.ss.now c.met_packets.new.ss c.classes_of.new.ss c.met_packets.ensures.sets c.classes_of.ensures.sets) c.as_slice.result.now (within c)
 
-pub aparts-requires-clause-different : goal.aparts-requires-clause-different
-aparts-requires-clause-different c =
+pub distinguishing_histories-requires-clause-different : goal.distinguishing_histories-requires-clause-different
+distinguishing_histories-requires-clause-different c =
     let r = c.requires.prepared in
     classes_differ c.new.new.st c.classes_of.new.st c.met_packets.new.ss c.classes_of.new.ss c.args.states.now c.args.tags.now c.in_ok-classes.classes.numbers c.as_slice.result.now
     (base_on c.new.new.st c.met_packets.new.ss c.new.new.st c.met_packets.new.ss c.args.states.now c.args.tags.now c.as_slice.result.now
@@ -107,24 +107,24 @@ aparts-requires-clause-different c =
 pub merged_tables-requires : goal.merged_tables-requires
 merged_tables-requires c =
     let r = c.requires.prepared in
-    let late = grows_on _ _ _ c.new.ensures.grows (grows_on _ _ _ c.classes_of.ensures.grows c.aparts.ensures.grows) in
+    let late = grows_on _ _ _ c.new.ensures.grows (grows_on _ _ _ c.classes_of.ensures.grows c.distinguishing_histories.ensures.grows) in
     let grown = grows_on _ _ _ c.met_packets.ensures.grows late in
-    let sets = sets_grow_on c.args.ss.now c.met_packets.new.ss c.aparts.new.ss c.met_packets.ensures.sets (sets_grow_on c.met_packets.new.ss c.classes_of.new.ss c.aparts.new.ss c.classes_of.ensures.sets c.aparts.ensures.sets) in
+    let sets = sets_grow_on c.args.ss.now c.met_packets.new.ss c.distinguishing_histories.new.ss c.met_packets.ensures.sets (sets_grow_on c.met_packets.new.ss c.classes_of.new.ss c.distinguishing_histories.new.ss c.classes_of.ensures.sets c.distinguishing_histories.ensures.sets) in
     record {
       mergeable = (
         c.args.fields.now,
         r.0,
         mergeable_there c.args.fields.now c.args.topo.now r.0 (tree_of c.args.p.now) _ r.2 c.requires.held.few_dups c.args.tags.now c.requires.numbers
-            c.aparts.new.st c.aparts.new.ss grown sets c.requires.held.in_range c.differ.ensures.ascend c.laws-3.ensures.fields
+            c.distinguishing_histories.new.st c.distinguishing_histories.new.ss grown sets c.requires.held.in_range c.differ.ensures.ascend c.laws-3.ensures.fields
             c.in_ok-classes.classes.numbers c.in_ok-classes.classes.firsts c.as_slice-2.result.now
             (classes_there c.args.fields.now c.args.topo.now r.0 (tree_of c.args.p.now) _ r.2 c.requires.held.few_dups c.args.tags.now c.requires.numbers
             c.new.new.st c.met_packets.new.ss (grows_on _ _ _ c.met_packets.ensures.grows c.new.ensures.grows) c.met_packets.ensures.sets
             c.in_ok-classes.classes.numbers c.laws.ensures.tidy c.in_ok-classes.ensures.classes)
             c.in_ok-classes.ensures.firsts
             (ap (λ (l : List ℕ). length l) c.as_slice-2.ensures ∙ c.in_ok-met.ensures.len)
-            (λ i lt. subst (λ l. IsMetPackets c.args.fields.now c.args.topo.now (tree_of c.args.p.now) (set_of_tag c.aparts.new.ss c.args.tags.now i) c.aparts.new.st (slice_index l i)) (sym c.as_slice-2.ensures)
+            (λ i lt. subst (λ l. IsMetPackets c.args.fields.now c.args.topo.now (tree_of c.args.p.now) (set_of_tag c.distinguishing_histories.new.ss c.args.tags.now i) c.distinguishing_histories.new.st (slice_index l i)) (sym c.as_slice-2.ensures)
             (met_there c.args.fields.now c.args.topo.now r.0 (tree_of c.args.p.now) _ r.2 c.requires.held.few_dups c.args.tags.now c.requires.numbers
-            c.aparts.new.st c.aparts.new.ss grown sets c.met_packets.new.st (slice_index c.in_ok-met.met i) i c.met_packets.ensures.grows late lt (c.in_ok-met.ensures.met i lt))),
+            c.distinguishing_histories.new.st c.distinguishing_histories.new.ss grown sets c.met_packets.new.st (slice_index c.in_ok-met.met i) i c.met_packets.ensures.grows late lt (c.in_ok-met.ensures.met i lt))),
       );
     }
 
@@ -134,9 +134,9 @@ returns-clause-made c =
     let p = tree_of c.args.p.now in
     let fm = c.in_ok-classes.ensures.firsts in
     let k = c.in_ok-classes.ensures.classes in
-    let late = grows_on _ _ _ c.new.ensures.grows (grows_on _ _ _ c.classes_of.ensures.grows c.aparts.ensures.grows) in
+    let late = grows_on _ _ _ c.new.ensures.grows (grows_on _ _ _ c.classes_of.ensures.grows c.distinguishing_histories.ensures.grows) in
     let grown = grows_on _ _ _ c.met_packets.ensures.grows late in
-    let sets = sets_grow_on c.args.ss.now c.met_packets.new.ss c.aparts.new.ss c.met_packets.ensures.sets (sets_grow_on c.met_packets.new.ss c.classes_of.new.ss c.aparts.new.ss c.classes_of.ensures.sets c.aparts.ensures.sets) in
+    let sets = sets_grow_on c.args.ss.now c.met_packets.new.ss c.distinguishing_histories.new.ss c.met_packets.ensures.sets (sets_grow_on c.met_packets.new.ss c.classes_of.new.ss c.distinguishing_histories.new.ss c.classes_of.ensures.sets c.distinguishing_histories.ensures.sets) in
     let early = grows_on _ _ _ c.met_packets.ensures.grows (grows_on _ _ _ c.new.ensures.grows c.classes_of.ensures.grows) in
     let early_sets = sets_grow_on c.args.ss.now c.met_packets.new.ss c.classes_of.new.ss c.met_packets.ensures.sets c.classes_of.ensures.sets in
     let less = c.if-len-max.false in
@@ -148,25 +148,25 @@ returns-clause-made c =
       compilable = prepared_compilable c.args.fields.now c.args.topo.now r.0 p _ r.2;
       merged =
           subst (λ l. IsMergedTable c.args.fields.now c.args.topo.now (IsStartPacket c.args.fields.now c.args.topo.now) p l c.in_ok-classes.classes.numbers (record { fields = c.in_ok-fields.fields; topo = c.in_ok-topo.topo; tables = c.in_ok-tables.tables }))
-          (sets_there c.args.fields.now c.args.topo.now r.0 (tree_of c.args.p.now) _ r.2 c.requires.held.few_dups c.args.tags.now c.requires.numbers c.aparts.new.st c.aparts.new.ss grown sets)
+          (sets_there c.args.fields.now c.args.topo.now r.0 (tree_of c.args.p.now) _ r.2 c.requires.held.few_dups c.args.tags.now c.requires.numbers c.distinguishing_histories.new.st c.distinguishing_histories.new.ss grown sets)
           (c.in_ok-tables.ensures c.args.fields.now r.0
           (mergeable_there c.args.fields.now c.args.topo.now r.0 (tree_of c.args.p.now) _ r.2 c.requires.held.few_dups c.args.tags.now c.requires.numbers
-          c.aparts.new.st c.aparts.new.ss grown sets c.requires.held.in_range c.differ.ensures.ascend c.laws-3.ensures.fields
+          c.distinguishing_histories.new.st c.distinguishing_histories.new.ss grown sets c.requires.held.in_range c.differ.ensures.ascend c.laws-3.ensures.fields
           c.in_ok-classes.classes.numbers c.in_ok-classes.classes.firsts c.as_slice-2.result.now
           (classes_there c.args.fields.now c.args.topo.now r.0 (tree_of c.args.p.now) _ r.2 c.requires.held.few_dups c.args.tags.now c.requires.numbers
           c.new.new.st c.met_packets.new.ss (grows_on _ _ _ c.met_packets.ensures.grows c.new.ensures.grows) c.met_packets.ensures.sets
           c.in_ok-classes.classes.numbers c.laws.ensures.tidy k)
           fm
           (ap (λ (l : List ℕ). length l) c.as_slice-2.ensures ∙ c.in_ok-met.ensures.len)
-          (λ i lt. subst (λ l. IsMetPackets c.args.fields.now c.args.topo.now p (set_of_tag c.aparts.new.ss c.args.tags.now i) c.aparts.new.st (slice_index l i)) (sym c.as_slice-2.ensures)
+          (λ i lt. subst (λ l. IsMetPackets c.args.fields.now c.args.topo.now p (set_of_tag c.distinguishing_histories.new.ss c.args.tags.now i) c.distinguishing_histories.new.st (slice_index l i)) (sym c.as_slice-2.ensures)
           (met_there c.args.fields.now c.args.topo.now r.0 (tree_of c.args.p.now) _ r.2 c.requires.held.few_dups c.args.tags.now c.requires.numbers
-          c.aparts.new.st c.aparts.new.ss grown sets c.met_packets.new.st (slice_index c.in_ok-met.met i) i c.met_packets.ensures.grows late lt (c.in_ok-met.ensures.met i lt))))
+          c.distinguishing_histories.new.st c.distinguishing_histories.new.ss grown sets c.met_packets.new.st (slice_index c.in_ok-met.met i) i c.met_packets.ensures.grows late lt (c.in_ok-met.ensures.met i lt))))
           (record { fields = c.in_ok-fields.fields; topo = c.in_ok-topo.topo; tables = c.in_ok-tables.tables }) c.in_ok-fields.ensures c.in_ok-topo.ensures refl);
       few = λ i.
           subst (λ m. slice_index c.in_ok-classes.classes.numbers i ≤ m) (r.1 ∙ sym (ap (most_tags c.args.fields.now) r.2.begun.clear.tag_is))
           (classes_few c.in_ok-classes.classes.numbers c.in_ok-classes.classes.firsts c.args.max fm few i);
       apart =
-          subst (λ l. AreAparts c.args.fields.now p l c.in_ok-classes.classes.numbers c.in_ok-aparts.aparts)
+          subst (λ l. AreDistinguishingHistories c.args.fields.now p l c.in_ok-classes.classes.numbers c.in_ok-aparts.aparts)
           (sets_there c.args.fields.now c.args.topo.now r.0 (tree_of c.args.p.now) _ r.2 c.requires.held.few_dups c.args.tags.now c.requires.numbers c.classes_of.new.st c.classes_of.new.ss early early_sets)
           (told_all c.args.fields.now p (distinct c.args.fields.now c.args.topo.now r.0 (tree_of c.args.p.now) _ r.2 c.requires.held.few_dups c.args.tags.now c.requires.numbers) c.classes_of.new.st c.args.states.now
           (over_there c.args.fields.now c.args.topo.now r.0 (tree_of c.args.p.now) _ r.2 c.requires.held.few_dups c.args.tags.now c.requires.numbers c.classes_of.new.st c.classes_of.new.ss early early_sets)

@@ -10,7 +10,7 @@ use Rattle.nk_compile.proofs.Reached.{same_some}
 use Rattle.nk_compile.proofs.StatesOfPositions.{state_ids}
 use Rattle.nk_compile.proofs.TagTables.{tags_once}
 use Rattle.nk_compact.specs.ClassesAtSwitches.{switch_classes_of}
-use Rattle.nk_compact.proofs.ClassRows.{class_stops_are, tags_have_classes, firsts_within, merged_are}
+use Rattle.nk_compact.proofs.ClassRows.{classes_at_switches_are, tags_have_classes, firsts_within, merged_are}
 use Rattle.nk_compact.proofs.merged.merged_tables.Goals as goal
 
 -- which tags come to the switches
@@ -52,7 +52,7 @@ class_tables-requires-clause-by_switch c = λ tag is.
     let r = c.requires.mergeable in
     let one = same_some r.1 tag (sym (r.2.ready.over.tag ∙ r.2.clear.tag_is) ∙ is) in
     subst (λ t. All (AreSwitchClasses c.args.st.now c.args.ss.now c.args.states.now c.args.tags.now t) c.as_slice-3.result.now) one
-    (class_stops_are r.0 c.args.topo.now r.1 (tree_of c.args.p.now) c.args.st.now c.args.ss.now c.args.states.now c.args.tags.now c.args.classes.now.numbers c.args.classes.now.firsts c.args.met.now r.2
+    (classes_at_switches_are r.0 c.args.topo.now r.1 (tree_of c.args.p.now) c.args.st.now c.args.ss.now c.args.states.now c.args.tags.now c.args.classes.now.numbers c.args.classes.now.firsts c.args.met.now r.2
     c.as_slice.result.now (λ l lt. ap (λ e. get_or e l None) c.as_slice.ensures ∙ c.in_ok-ends.ensures.each l lt) c.as_slice-2.result.now c.as_slice-3.result.now (subst (All (HasComing c.as_slice.result.now c.args.ss.now c.args.tags.now (length c.args.tags.now))) (sym c.as_slice-2.ensures.value) c.in_ok-by_switch.ensures.coming) (here_is c))
 
 pub returns : goal.returns

@@ -3,7 +3,7 @@ use Rattle.nk_store.specs.StoreState.{StoreState, Grows}
 use Rattle.nk_determ.specs.Sets.{SetsGrow}
 use Rattle.nk_merge.specs.DisjointCopies.{IsDisjointCopy}
 use Rattle.nk_compact.specs.Told.{AreDistinguished, IsBase, pairs_after}
-use Rattle.nk_compact.proofs.aparts.apart_row.Given as goal
+use Rattle.nk_compact.proofs.histories.distinguish_from_later.Given as goal
 
 -- the row so far is told
 abbrev pub invariant-loop-j : goal.invariant-loop-j

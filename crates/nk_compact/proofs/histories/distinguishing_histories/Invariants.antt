@@ -3,7 +3,7 @@ use Rattle.nk_store.specs.StoreState.{Grows}
 use Rattle.nk_determ.specs.Sets.{SetsGrow}
 use Rattle.nk_merge.specs.DisjointCopies.{IsDisjointCopy}
 use Rattle.nk_compact.specs.Told.{AreDistinguished, first_pairs}
-use Rattle.nk_compact.proofs.aparts.aparts.Given as goal
+use Rattle.nk_compact.proofs.histories.distinguishing_histories.Given as goal
 
 -- the rows so far are told
 abbrev pub invariant-loop-i : goal.invariant-loop-i

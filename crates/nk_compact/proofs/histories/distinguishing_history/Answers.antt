@@ -1,5 +1,5 @@
 use Rattle.nk_compact.proofs.Distinguishing.{none_alike, some_told}
-use Rattle.nk_compact.proofs.aparts.apart_of.Goals as goal
+use Rattle.nk_compact.proofs.histories.distinguishing_history.Goals as goal
 
 pub unreachable-requires : goal.unreachable-requires
 unreachable-requires c =

@@ -16,7 +16,7 @@ use std::alloc::AllocError;
 
 /// What tells any two of the classes apart, in the order of the first and then of the second. `firsts` are the places of their
 /// first members among the tags, which are alike to no other. The only error is that memory ran out.
-pub fn aparts(
+pub fn distinguishing_histories(
     st: &mut Store,
     ss: &mut Sets,
     states: &[Id],
@@ -37,13 +37,13 @@ pub fn aparts(
 {
     let mut all = List::new(st.alloc());
     for i in 0..firsts.len() {
-        apart_row(st, ss, states, disjoint, tags, firsts, i, &mut all)?;
+        distinguish_from_later(st, ss, states, disjoint, tags, firsts, i, &mut all)?;
     }
     Ok(all)
 }
 
 /// Appends what tells a class from each after it.
-fn apart_row(
+fn distinguish_from_later(
     st: &mut Store,
     ss: &mut Sets,
     states: &[Id],
@@ -70,14 +70,14 @@ fn apart_row(
         (pairs ++ pairs_after i (length firsts.now)) all.new) }
 {
     for j in i + 1..firsts.len() {
-        let a = apart_of(st, ss, states, disjoint, tags, firsts, i, j)?;
+        let a = distinguishing_history(st, ss, states, disjoint, tags, firsts, i, j)?;
         all.push(a)?;
     }
     Ok(())
 }
 
 /// What tells the classes at two places apart.
-fn apart_of(
+fn distinguishing_history(
     st: &mut Store,
     ss: &mut Sets,
     states: &[Id],

@@ -2,7 +2,7 @@ use Rattle.std.proofs.Common.{arith, sym, append-nil, []}
 use Rattle.nk_store.proofs.Stores.{grows_same, grows_on}
 use Rattle.nk_switches.proofs.Growing.{sets_grow_on}
 use Rattle.nk_compact.proofs.Distinguishing.{base_on, base_here, alike_then, told_more, row_start}
-use Rattle.nk_compact.proofs.aparts.apart_row.Goals as goal
+use Rattle.nk_compact.proofs.histories.distinguish_from_later.Goals as goal
 
 pub loop-j-init : goal.loop-j-init
 loop-j-init c = record {
@@ -13,13 +13,13 @@ loop-j-init c = record {
   told = λ base first pairs b k. row_start base c.args.states.now first c.args.tags.now c.args.firsts.now c.args.i pairs c.args.all.now k;
 }
 
-pub apart_of-requires-clause-base : goal.apart_of-requires-clause-base
-apart_of-requires-clause-base c =
+pub distinguishing_history-requires-clause-base : goal.distinguishing_history-requires-clause-base
+distinguishing_history-requires-clause-base c =
     base_here c.args.st.now c.args.ss.now c.loop-j.st c.loop-j.ss c.args.states.now c.args.tags.now c.args.firsts.now
     (base_on c.args.st.now c.args.ss.now c.args.st.now c.args.ss.now c.args.states.now c.args.tags.now c.args.firsts.now c.requires.base c.loop-j.st c.loop-j.ss c.loop-j.invariant.grows c.loop-j.invariant.sets)
 
-pub apart_of-requires-clause-different : goal.apart_of-requires-clause-different
-apart_of-requires-clause-different c = λ k.
+pub distinguishing_history-requires-clause-different : goal.distinguishing_history-requires-clause-different
+distinguishing_history-requires-clause-different c = λ k.
     c.requires.different c.loop-j.j c.loop-j.invariant.following c.loop-j-test.true
     (alike_then c.args.st.now c.args.ss.now c.loop-j.st c.loop-j.ss c.args.states.now c.args.tags.now c.args.firsts.now
     (base_on c.args.st.now c.args.ss.now c.args.st.now c.args.ss.now c.args.states.now c.args.tags.now c.args.firsts.now c.requires.base c.loop-j.st c.loop-j.ss c.loop-j.invariant.grows c.loop-j.invariant.sets)
@@ -28,8 +28,8 @@ apart_of-requires-clause-different c = λ k.
 pub loop-j-preserved : goal.loop-j-preserved
 loop-j-preserved c = record {
   following = let lt = c.loop-j.invariant.following in omega (arith, lt);
-  grows = grows_on _ _ _ c.loop-j.invariant.grows c.apart_of.ensures.grows;
-  sets = sets_grow_on c.args.ss.now c.loop-j.ss c.apart_of.new.ss c.loop-j.invariant.sets c.apart_of.ensures.sets;
+  grows = grows_on _ _ _ c.loop-j.invariant.grows c.distinguishing_history.ensures.grows;
+  sets = sets_grow_on c.args.ss.now c.loop-j.ss c.distinguishing_history.new.ss c.loop-j.invariant.sets c.distinguishing_history.ensures.sets;
   disjoint = c.in_ok-a.ensures.disjoint;
   told = λ base first pairs b k.
       told_more base first c.loop-j.st c.loop-j.ss c.args.states.now c.args.tags.now c.args.firsts.now
