@@ -1,4 +1,4 @@
--- How many elements policies have, as far as they are counted.
+-- How many elements policies have, counted up to the largest u64.
 use Rattle.std.specs.Prelude.{ℕ, min}
 use Rattle.nk_policy.specs.Policy.{Policy, size_of}
 use Rattle.nk_names.specs.ProgramValue.{VirtualLink}
@@ -7,6 +7,6 @@ use Rattle.nk_names.specs.ProgramValue.{VirtualLink}
 abbrev pub size_within : Policy → ℕ
 size_within p = min (size_of p) 18446744073709551615
 
--- that of a virtual link's fabric
+-- the size of a virtual link's fabric
 abbrev pub fabric_size : VirtualLink → ℕ
 fabric_size k = size_within k.fabric
