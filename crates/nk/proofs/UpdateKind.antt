@@ -113,7 +113,7 @@ module _ (old new : List ℕ) (seed steps : ℕ) (word bytes : List ℕ) where
         (subst (λ f. IsAtPort f d.program.topo word) (fields_alike d.program a.program same) here) in
         done_there the_plan seed steps a.pair.old word o (at_tables_port there) told_by_tables
 
-  -- a refusal of the policies is no refusal of such as are accepted
+  -- policies that are accepted aren't refused
   refused_none : (said : DeclaredProgram) (o : Outcome) → Declares bytes said → AcceptsUpdate old new word bytes → IsPairRefusal said old new o → ⊥
   refused_none said o declared d r =
       let same : program_by d.program ≡ program_by r.program = declares_once bytes (program_by d.program) said d.declared declared ∙ sym r.says in

@@ -97,7 +97,7 @@ fn count_tables(alloc: Global, program: &Program, name: &str) -> Result<Step, Al
     ensures { IfOk result (IsJobStep (ToProgram (program_by program.now) name.now)
         (CountsTables program.now name.now)) }
 {
-    // These two are laws: what is compiled is such as is read back, and that is read back.
+    // These two are laws: the tables that compiling gives can be printed, and printed tables are read back.
     compiled_tables_are_printable();
     printed_tables_are_read();
     match compile_counted(alloc, program, name) {

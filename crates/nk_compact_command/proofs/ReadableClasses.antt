@@ -1,4 +1,4 @@
--- What compacting a name prints is such as is read back from its text.
+-- The tables that compacting a name gives can be read back from their text.
 use Rattle.std.proofs.Common.{◌≡◌, ℕ, zero, suc, ◌≤◌, Some, List, [], ap, subst, arith}
 use Rattle.std.specs.Prelude.{map, slice_index}
 use Rattle.nk_field.specs.declared.packet.Packet.{Packet}

@@ -10,8 +10,8 @@ use Rattle.nk_compact.specs.declared.compact.Compact.{Compact}
 use Rattle.nk_compact.specs.Compacted.{IsCompacted}
 use Rattle.nk_compile_commands.specs.TextTables.{HasFewGroups}
 
--- The merged tables that compacting a name gives are such as are read back from their text, where the program has fields and a
--- topology that a text can declare.
+-- The merged tables that compacting a name gives can be read back from their text, where the program has fields and a topology
+-- that a text can declare, and where no switch has more groups than a text has numbers.
 abbrev pub CompactsPrintable : Type 0
 CompactsPrintable = (program : Program) (name : List ℕ) (c : Compact)
     → IsProgram program.fields program.topo program.lets → IsWritable program.fields → IsDeclarable program.topo

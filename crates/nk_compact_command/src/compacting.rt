@@ -45,7 +45,7 @@ fn answer_to_program(
     requires declared { CanBeDeclared (program_by program.now) }
     ensures { IfOk result (λ s. ToCompacted (program_by program.now) name.now (outcome_of s)) }
 {
-    // These are laws: what is compacted is in order, and such as is read back, and that is read back.
+    // These are laws: the merged tables are in order and can be printed, and printed tables are read back.
     compacted_tables_are_in_order();
     compacted_tables_are_printable();
     printed_tables_are_read();

@@ -1,4 +1,4 @@
--- What compiling a name prints is such as is read back from its text.
+-- The tables that compiling a name gives can be read back from their text.
 use Rattle.std.proofs.Common.{◌≡◌, ℕ, zero, suc, ◌≤◌, Option, Some, List, [], length, sym, ap, subst, ◌∙◌, arith}
 use Rattle.std.specs.Prelude.{All, AllPairs, is_some, map, slice_index}
 use Rattle.std.proofs.lemmas.Option.{slice_get_within}

@@ -16,8 +16,8 @@ use Rattle.nk_compile.specs.Headline.{IsCompiled, IsCompiledPolicy}
 abbrev pub HasFewGroups : Tables → Type 0
 HasFewGroups t = All (λ u. length u.groups ≤ largest) t.tables
 
--- The tables that compiling a name gives are such as are read back from their text, where the program has fields and a
--- topology that a text can declare.
+-- The tables that compiling a name gives can be read back from their text, where the program has fields and a topology that a
+-- text can declare, and where no switch has more groups than a text has numbers.
 abbrev pub CompilesPrintable : Type 0
 CompilesPrintable = (program : Program) (name : List ℕ) (t : Tables)
     → IsProgram program.fields program.topo program.lets → IsWritable program.fields → IsDeclarable program.topo

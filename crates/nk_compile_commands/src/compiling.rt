@@ -47,7 +47,7 @@ fn answer_to_program(
     requires declared { CanBeDeclared (program_by program) }
     ensures { IfOk result (λ s. ToProgram (program_by program) name.now (outcome_of s)) }
 {
-    // These are laws: what is compiled is such as is read back, and that is read back.
+    // These are laws: the tables that compiling gives can be printed, and printed tables are read back.
     compiled_tables_are_printable();
     printed_tables_are_read();
     match number(alloc, &program, name) {

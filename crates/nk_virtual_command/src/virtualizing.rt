@@ -65,7 +65,7 @@ fn answer_to_physical(
     requires physical { IsPhysical program.now name.now (tree_of policy.now) }
     ensures { IfOk result (λ s. ToVirtual (program_by program.now) name.now (outcome_of s)) }
 {
-    // These are laws: what is compiled is in order, and such as is read back, and that is read back.
+    // These are laws: the tables that compiling gives are in order and can be printed, and printed tables are read back.
     policies_tables_are_in_order();
     policies_tables_are_printable();
     printed_tables_are_read();
