@@ -39,7 +39,7 @@ tables_line name tags tables =
 abbrev pub rows_line : ℕ → List ℕ
 rows_line rows = codes "equal rows " ++ decimal (1 + rows) ++ codes "\n"
 
--- The text is that of the printed tables of the program's policy of this name, and the line counts the policy's tag sets and
+-- The text is the printed tables of the program's policy of this name, and the line counts the policy's tag sets and
 -- the rows and groups of these tables.
 pub record CountsTables (program : Program) (name text line : List ℕ) : Type 0 where
   pub tables : Tables
@@ -49,7 +49,7 @@ pub record CountsTables (program : Program) (name text line : List ℕ) : Type 0
   pub counted : HasTagCount program name tags
   pub told : line ≡ tables_line name tags tables.tables
 
--- The text is that of the printed certificate of the program's policies of these names, and the line counts its rows.
+-- The text is the printed certificate of the program's policies of these names, and the line counts its rows.
 pub record CountsRows (program : Program) (left right text line : List ℕ) : Type 0 where
   pub left_policy : Policy
   pub right_policy : Policy

@@ -33,8 +33,8 @@ distinguishing_line fields a = codes "#" ++ distinguishing_words fields a ++ cod
 abbrev pub compact_bytes : FieldTable → Compact → List ℕ
 compact_bytes fields c = table_bytes c.tables ++ flat_map (distinguishing_line fields) c.aparts
 
--- The text is that of the merged tables of the program's policy of this name, which carry it, and of what tells any two of their
--- tags apart. Read again it is these tables, unless a switch has more groups than a text has numbers.
+-- The text is the printed merged tables of the program's policy of this name, which carry it, and a comment line of what tells
+-- apart each two of their tags. Read again it is these tables, unless a switch has more groups than a text has numbers.
 pub record IsCompactPrinted (said : DeclaredProgram) (name text : List ℕ) : Type 0 where
   pub program : Program
   pub says : program_by program ≡ said

@@ -14,7 +14,7 @@ use Rattle.nk_compile_commands.specs.Messages.{refusal_line}
 use Rattle.nk_reply.specs.Outcome.{Outcome, done, text_refused, policy_refused}
 use Rattle.nk_input.specs.ProgramText.{Declares, HasFault}
 
--- The text is that of the printed tables of the program's policy of this name, which is accepted, and the tables carry it.
+-- The text is the printed tables of the program's policy of this name, which is accepted, and the tables carry it.
 -- Read again it is these tables, unless a switch has more groups than a text has numbers.
 pub record IsCompiledText (said : DeclaredProgram) (name text : List ℕ) : Type 0 where
   pub program : Program

@@ -59,8 +59,8 @@ impl Follow for Turns {
     }
 }
 
-/// What updating from the policy of the one name to that of the other answers, over the bytes of a text. The packet is
-/// that of a word as `sw=1,pt=2,dst=3`.
+/// What updating from the policy of one name to the policy of the other name answers, over the bytes of a text. The packet
+/// is written as a word, for example `sw=1,pt=2,dst=3`.
 pub fn update_answer(
     alloc: Global,
     old: &str,
@@ -81,7 +81,7 @@ pub fn update_answer(
     }
 }
 
-/// What updating from the policy of the one name to that of the other answers, over a program.
+/// What updating from the policy of one name to the policy of the other name answers, over a program.
 fn answer_to_program(
     alloc: Global,
     program: &Program,

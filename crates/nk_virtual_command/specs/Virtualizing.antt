@@ -22,7 +22,7 @@ use Rattle.nk_virtual_command.specs.Messages.{unphysical_line}
 use Rattle.nk_reply.specs.Outcome.{Outcome, done, text_refused, policy_refused}
 use Rattle.nk_input.specs.ProgramText.{Declares, HasFault}
 
--- The text is that of the printed tables of the physical policy of the program's policy of this name. The program accepts the
+-- The text is the printed tables of the physical policy of the program's policy of this name. The program accepts the
 -- physical policy, and the tables carry it; how its histories lie over those of the policy is part of what a physical policy is.
 -- Read again the text is these tables, unless a switch has more groups than a text has numbers.
 pub record IsVirtualPrinted (said : DeclaredProgram) (name text : List ℕ) : Type 0 where
