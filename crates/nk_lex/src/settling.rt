@@ -46,7 +46,7 @@ ghost use Rattle.nk_lex.specs.Pieces.{begins_longer, held_of, is_open, settle};
 
 use crate::classes::{digits_len, is_digit, is_name_byte, is_name_start, is_white, line_len};
 use crate::front::{Front, front_at};
-use crate::lexemes::{line_past, plain, push, put_front, read_lexeme, value_past};
+use crate::lexemes::{line_past, plain, push, put_front, read_lexeme, room_for, value_past};
 use crate::unfinished::Pending;
 use crate::{Kind, LARGEST, LexError, Token};
 use std::alloc::{AllocError, Global};
@@ -335,7 +335,7 @@ fn number_ends(
         return Ok(stopped(alloc, Vec::new(alloc), line, fault));
     }
     let at = fed + len;
-    let mut tokens = Vec::new(alloc);
+    let mut tokens = Vec::with_capacity(alloc, room_for(piece.len()))?;
     tokens.push(plain(alloc, Kind::Number, start, at - start, line, value))?;
     settle(alloc, &piece[len..], at, line, tokens)
 }
@@ -378,6 +378,7 @@ fn number_alone(
     push(
         &mut tokens,
         plain(alloc, Kind::Number, at, len, line, value),
+        len,
     )?;
     Ok(tokens)
 }
