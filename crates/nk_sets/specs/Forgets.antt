@@ -1,8 +1,8 @@
 -- A field forgotten: the packets that are in a set for some value of the field (quantification over a field).
-use Rattle.std.specs.Prelude.{◌≡◌, ℕ, zero, suc, ◌≤◌, ◌||◌, eqb, Bool, cond, List, [], ◌∷◌, Some, slice_index, slice_set}
+use Rattle.std.specs.Prelude.{◌≡◌, ℕ, zero, suc, ◌≤◌, ◌||◌, eqb, Bool, cond, List, [], ◌∷◌, Some, slice_index, slice_set, map}
 use Rattle.std.specs.Map.{lookup}
 use Rattle.nk_store.specs.declared.node.Out.{Out}
-use Rattle.nk_store.specs.StoreState.{StoreState, root_field, HasLeaves}
+use Rattle.nk_store.specs.StoreState.{StoreState, root_field, HasLeaves, IsCase}
 use Rattle.nk_apply.specs.Seqs.{no_out}
 use Rattle.nk_sets.specs.PacketSets.{is_in, IsSet}
 
@@ -24,6 +24,10 @@ pub record IsForgotten (st : StoreState) (f s r : ℕ) : Type 0 where
   pub set : IsSet st s
   pub leaves : HasLeaves st r (forgotten st f s)
   pub later : root_field st s ≤ root_field st r
+
+-- a set tests the field first, and its parts have these children
+abbrev pub AreChildren : StoreState → ℕ → ℕ → List ℕ → Type 0
+AreChildren st s f ds = (parts : List (ℕ × ℕ)) × IsCase st s f parts × (ds ≡ map (λ p. p.1) parts)
 
 -- each entry of a table leads from a set to it with the field forgotten
 abbrev pub AreForgotten : StoreState → ℕ → List (ℕ × ℕ) → Type 0

@@ -2,7 +2,7 @@
 ghost use Rattle.std.specs.Prelude.{◌≡◌, ◌<◌, true, map, IfOk, IfSome, OnOk, MatchOption};
 ghost use Rattle.nk_store.specs.StoreState.{IsId, IsStill, IsCase, Grows, root_field};
 ghost use Rattle.nk_sets.specs.PacketSets.{IsSet};
-ghost use Rattle.nk_sets.specs.Forgets.{IsForgotten, AreForgotten};
+ghost use Rattle.nk_sets.specs.Forgets.{AreChildren, IsForgotten, AreForgotten};
 
 use nk_apply::{known, union_all};
 use nk_field::{Fid, List};
@@ -40,8 +40,8 @@ fn forget_once(st: &mut Store, seen: &mut HashMap<Id, Id>, s: Id, f: Fid) -> Res
     if is_past(st, s, f) {
         return Ok(s);
     }
-    if let Some(parts) = few_here(st, s, f)? {
-        return forget_here(st, s, f, parts.as_slice());
+    if let Some(few) = few_here(st, s, f)? {
+        return forget_children(st, s, f, &few);
     }
     if let Some(r) = known(seen, s) {
         return Ok(r);
@@ -63,15 +63,15 @@ fn is_past(st: &Store, s: Id, f: Fid) -> bool
     }
 }
 
-/// The parts of a set that tests the field first, where they are few: then finding the answer again costs less than keeping it.
-fn few_here(st: &Store, s: Id, f: Fid) -> Result<Option<List<(u64, Id)>>, AllocError>
+/// The children of a set that tests the field first, where they are few: then finding the answer again costs less than keeping it.
+fn few_here(st: &Store, s: Id, f: Fid) -> Result<Option<Vec<Id>>, AllocError>
     requires { IsId st.now s }
-    ensures { IfOk result (λ o. IfSome o (λ parts. IsCase st.now s f parts)) }
+    ensures { IfOk result (λ o. IfSome o (λ ds. AreChildren st.now s f ds.items)) }
 {
     match st.view(s) {
         Node::Case(g, parts) => {
             if *g == f && parts.len() <= FEW {
-                Ok(Some(parts.copy()?))
+                Ok(Some(children(st.alloc(), parts.as_slice())?))
             } else {
                 Ok(None)
             }
@@ -172,9 +172,19 @@ fn forget_here(st: &mut Store, s: Id, f: Fid, parts: &[(u64, Id)]) -> Result<Id,
     ensures grows { Grows st.old st.new }
     ensures ok { IfOk result (λ r. IsForgotten st.new f s r) }
 {
+    let all = children(st.alloc(), parts)?;
+    forget_children(st, s, f, &all)
+}
+
+/// A set that tests the field first and has these children, with the field forgotten: they together.
+fn forget_children(st: &mut Store, s: Id, f: Fid, ds: &[Id]) -> Result<Id, AllocError>
+    requires set { IsSet st.old s }
+    requires children { AreChildren st.old s f ds.now }
+    ensures grows { Grows st.old st.new }
+    ensures ok { IfOk result (λ r. IsForgotten st.new f s r) }
+{
     let _before = st.laws();
-    let children = children(st.alloc(), parts)?;
-    let r = union_all(st, &children)?;
+    let r = union_all(st, ds)?;
     let _after = st.laws();
     Ok(r)
 }

@@ -71,4 +71,4 @@ forget_once-returns-then-is_past-clause-ok t c =
 
 pub forget_once-returns-in-Some-clause-seen : goal.forget_once-returns-in-Some-clause-seen
 forget_once-returns-in-Some-clause-seen t c =
-    on_any c.forget_here.result _ (entries_grow c.args.st.now c.forget_here.new.st c.args.f c.args.seen.now.entries c.forget_here.ensures.grows c.requires.seen)
+    on_any c.forget_children.result _ (entries_grow c.args.st.now c.forget_children.new.st c.args.f c.args.seen.now.entries c.forget_children.ensures.grows c.requires.seen)
