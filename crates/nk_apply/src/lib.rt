@@ -20,7 +20,7 @@ pub use constants::{empty, identity};
 pub use leaves::{both, both_later, negate, union, union_later};
 pub use maps::{LeafMap, map_leaves};
 pub use pairs::{Join, first_field, merge};
-pub use part::{found_near, part_at, part_near, tested};
+pub use part::{found_near, part_at, part_count, part_near, tested};
 pub use restricts::{restrict, shift};
 pub use spans::{range, span, test};
 pub use unions::union_all;

@@ -147,7 +147,7 @@ fn merge_leaves<J: Join>(st: &mut Store, j: &J, a: Id, b: Id) -> Result<Id, Allo
     st.leaf_in_order(outs)
 }
 
-/// The parts of the merged diagram by the first field of both. There is room for as many as either has.
+/// The parts of the merged diagram by the first field of both. There is room for as many as both have.
 #[cycle(merge)]
 fn merge_parts<J: Join>(
     st: &mut Store,
@@ -168,7 +168,7 @@ fn merge_parts<J: Join>(
         (look st.old (cofactor st.old f v b) pk)) }
 {
     let max = st.max(f);
-    let count = part_count(st, a, f).max(part_count(st, b, f));
+    let count = part_count(st, a, f).saturating_add(part_count(st, b, f).saturating_sub(1));
     let mut parts = List::with_capacity(st.alloc(), count)?;
     let mut near_a = 0;
     let mut near_b = 0;

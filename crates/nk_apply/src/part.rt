@@ -114,7 +114,7 @@ fn place_of(parts: &[(u64, Id)], max: u64, v: u64) -> usize
 }
 
 /// How many parts a diagram has by a field: 1 where it doesn't test it first.
-pub(crate) fn part_count(st: &Store, d: Id, f: Fid) -> usize
+pub fn part_count(st: &Store, d: Id, f: Fid) -> usize
     requires { IsId st.now d }
 {
     match st.view(d) {

@@ -15,7 +15,7 @@ ghost use Rattle.nk_determ.specs.States.{SomeSends, SomeLeads, IsRegrouped, AreR
 use crate::branches::{are_final, is_ended, labels_in, run_length};
 use crate::sets::{SetId, Sets};
 use crate::splits::split;
-use nk_apply::{known, part_near, tested, union_all};
+use nk_apply::{known, part_count, part_near, tested, union_all};
 use nk_field::{Fid, List};
 use nk_store::{Id, Node, Out, Store};
 use std::alloc::{AllocError, Global};
@@ -243,7 +243,7 @@ fn regroup_parts(
     ensures seen { OnOk result (AreRegrouped st.new ss.new seen.new.entries) }
 {
     let max = st.max(f);
-    let mut parts = List::new(st.alloc());
+    let mut parts = List::with_capacity(st.alloc(), part_count(st, d, f))?;
     let mut near = 0;
     let mut from = 0;
     loop {

@@ -157,7 +157,7 @@ fn forget_parts(
     ensures seen { OnOk result (AreForgotten st.new f seen.new.entries) }
 {
     let _laws = st.laws();
-    let mut made = List::new(st.alloc());
+    let mut made = List::with_capacity(st.alloc(), parts.len())?;
     for (end, child) in parts {
         let r = forget_once(st, seen, *child, f)?;
         made.push((*end, r))?;

@@ -9,7 +9,7 @@ ghost use Rattle.nk_determ.specs.States.{SomeLeads, AreLedTo};
 ghost use Rattle.nk_steps.specs.Single.{step_to, first_label, AreSteps, AreLeafSteps, IsSingle, AreSingle, AreSingleBy};
 
 use crate::plain::have_label;
-use nk_apply::{known, part_near, tested};
+use nk_apply::{known, part_count, part_near, tested};
 use nk_determ::Sets;
 use nk_field::{Fid, List};
 use nk_store::{Id, Node, Out, Store};
@@ -131,7 +131,7 @@ fn single_parts(
     ensures seen { OnOk result (AreSingle st.new ss.new seen.new.entries) }
 {
     let max = st.max(f);
-    let mut parts = List::new(st.alloc());
+    let mut parts = List::with_capacity(st.alloc(), part_count(st, d, f))?;
     let mut near = 0;
     let mut from = 0;
     loop {
