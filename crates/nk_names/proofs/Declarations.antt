@@ -24,7 +24,7 @@ at_most m n h = grind (arith, h)
 
 -- a number that isn't above a bound is at most it
 pub in_bound : (most : ℕ) (n : Number) → value_above most n ≡ None → n.value ≤ most
-in_bound most n h = at_most most n.value (not_wrong (nat_lt most n.value) (kind.Declared fault.ValueOutOfRange) n.line h)
+in_bound most n h = at_most most n.value (not_wrong (nat_lt most n.value) (kind.Common fault.ValueOutOfRange) n.line h)
 
 -- what is known of a policy that has no fault
 pub record IsFaultless (fields : FieldTable) (lets : Lets) (w : Ident) (t : Tree) : Type 0 where

@@ -85,7 +85,7 @@ map_first None b = refl
 map_first (Some e) b = refl
 
 -- the fault of a test, as a program's
-fault_is : (b : Bool) (k : _) (line : ℕ) → option_map text_fault_of (fault_if b k line) ≡ text_fault_if b (kind.Declared k) line
+fault_is : (b : Bool) (k : _) (line : ℕ) → option_map text_fault_of (fault_if b k line) ≡ text_fault_if b (kind.Common k) line
 fault_is true k line = refl
 fault_is false k line = refl
 
@@ -115,8 +115,8 @@ ends_fault topo links a m b n = option_map text_fault_of (link_fault (virtual_to
 abbrev tested : Topology → List VirtualLink → (a m b n source target : ℕ) → MaybeTextFault
 tested topo links a m b n source target =
     first_of
-    (first_of (text_fault_if (not (is_port topo a m)) (kind.Declared fault.NoSuchPort) source) (text_fault_if (not (is_port topo b n)) (kind.Declared fault.NoSuchPort) target))
-    (first_of (text_fault_if (begins links a m) (kind.Declared fault.SourceTwice) source) (text_fault_if (ends_at links b n) (kind.Declared fault.TargetTwice) target))
+    (first_of (text_fault_if (not (is_port topo a m)) (kind.Common fault.NoSuchPort) source) (text_fault_if (not (is_port topo b n)) (kind.Common fault.NoSuchPort) target))
+    (first_of (text_fault_if (begins links a m) (kind.Common fault.SourceTwice) source) (text_fault_if (ends_at links b n) (kind.Common fault.TargetTwice) target))
 
 -- it is that of the numbers, and then the first that passes
 ends_tested : (topo : Topology) (links : List VirtualLink) (a m b n : Number)
@@ -138,9 +138,9 @@ ends_tested topo links a m b n =
     (map_first from_twice to_twice
     ∙ both_firsts _ _ _ _
     (fault_is (is_some (link_from virtuals a.value m.value)) fault.SourceTwice m.line
-    ∙ ap (λ t. text_fault_if t (kind.Declared fault.SourceTwice) m.line) (sym (source_there topo links a.value m.value)))
+    ∙ ap (λ t. text_fault_if t (kind.Common fault.SourceTwice) m.line) (sym (source_there topo links a.value m.value)))
     (fault_is (is_target virtuals b.value n.value) fault.TargetTwice n.line
-    ∙ ap (λ t. text_fault_if t (kind.Declared fault.TargetTwice) n.line) (sym (target_there topo links b.value n.value)))))
+    ∙ ap (λ t. text_fault_if t (kind.Common fault.TargetTwice) n.line) (sym (target_there topo links b.value n.value)))))
 
 -- a number without fault is that of a port
 within : (k : Number) → value_above 65535 k ≡ None → min k.value 65535 ≡ k.value
@@ -205,8 +205,8 @@ pub ends_by_tests : (topo : Topology) (links : List VirtualLink) (a m b n : Numb
     → from_twice ≡ is_some (link_from (virtual_topology topo links) a' m') → to_twice ≡ is_target (virtual_topology topo links) b' n'
     → ends_fault topo links a m b n
     ≡ first_of
-    (first_of (text_fault_if no_source (kind.Declared fault.NoSuchPort) m.line) (text_fault_if no_target (kind.Declared fault.NoSuchPort) n.line))
-    (first_of (text_fault_if from_twice (kind.Declared fault.SourceTwice) m.line) (text_fault_if to_twice (kind.Declared fault.TargetTwice) n.line))
+    (first_of (text_fault_if no_source (kind.Common fault.NoSuchPort) m.line) (text_fault_if no_target (kind.Common fault.NoSuchPort) n.line))
+    (first_of (text_fault_if from_twice (kind.Common fault.SourceTwice) m.line) (text_fault_if to_twice (kind.Common fault.TargetTwice) n.line))
 ends_by_tests topo links a m b n a' m' b' n' no_source no_target from_twice to_twice none ea em eb en e2 e3 e4 e5 =
     ends_in_range topo links a m b n none
     ∙ sym (ap (λ k. tested topo links k m' b' n' m.line n.line) ea
@@ -214,10 +214,10 @@ ends_by_tests topo links a m b n a' m' b' n' no_source no_target from_twice to_t
     ∙ ap (λ k. tested topo links (min a.value 65535) (min m.value 65535) k n' m.line n.line) eb
     ∙ ap (λ k. tested topo links (min a.value 65535) (min m.value 65535) (min b.value 65535) k m.line n.line) en)
     ∙ sym (both_firsts _ _ _ _
-    (both_firsts _ _ _ _ (ap (λ t. text_fault_if t (kind.Declared fault.NoSuchPort) m.line) e2) (ap (λ t. text_fault_if t (kind.Declared fault.NoSuchPort) n.line) e3))
+    (both_firsts _ _ _ _ (ap (λ t. text_fault_if t (kind.Common fault.NoSuchPort) m.line) e2) (ap (λ t. text_fault_if t (kind.Common fault.NoSuchPort) n.line) e3))
     (both_firsts _ _ _ _
-    (ap (λ t. text_fault_if t (kind.Declared fault.SourceTwice) m.line) (e4 ∙ sym (source_there topo links a' m')))
-    (ap (λ t. text_fault_if t (kind.Declared fault.TargetTwice) n.line) (e5 ∙ sym (target_there topo links b' n')))))
+    (ap (λ t. text_fault_if t (kind.Common fault.SourceTwice) m.line) (e4 ∙ sym (source_there topo links a' m')))
+    (ap (λ t. text_fault_if t (kind.Common fault.TargetTwice) n.line) (e5 ∙ sym (target_there topo links b' n')))))
 
 -- the third of four, and the fourth
 pub third : (o p q r : MaybeTextFault) (e : NamesError) → o ≡ None → p ≡ None → q ≡ Some e → first_of (first_of o p) (first_of q r) ≡ Some e

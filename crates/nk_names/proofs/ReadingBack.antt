@@ -261,7 +261,7 @@ no_fault b k line e = ap (λ c. text_fault_if c k line) e
 
 -- a number that is in range
 not_above : (most : ℕ) (n : Number) → n.value ≤ most → value_above most n ≡ None
-not_above most n le = no_fault (nat_lt most n.value) (kind.Declared fault.ValueOutOfRange) n.line (test_fails most n.value le)
+not_above most n le = no_fault (nat_lt most n.value) (kind.Common fault.ValueOutOfRange) n.line (test_fails most n.value le)
   where
     test_fails : (m k : ℕ) → k ≤ m → nat_lt m k ≡ false
     test_fails m k le = grind (arith, nat_tests)

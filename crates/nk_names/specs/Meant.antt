@@ -35,7 +35,7 @@ text_fault_if wrong k line = if wrong then Some (Fault k line) else None
 
 -- a number above a bound
 abbrev pub value_above : ℕ → Number → MaybeTextFault
-value_above most n = text_fault_if (nat_lt most n.value) (kind.Declared fault.ValueOutOfRange) n.line
+value_above most n = text_fault_if (nat_lt most n.value) (kind.Common fault.ValueOutOfRange) n.line
 
 -- the four numbers of a link, which are a switch and a port, twice
 abbrev pub literal_ends : Number → Number → Number → Number → MaybeTextFault

@@ -38,7 +38,7 @@ empty_program = record { fields = built_in; topo = no_topology; lets = []; fabri
 -- a declaration's fault as a program's
 abbrev pub text_fault_of : DeclareError → NamesError
 text_fault_of refused.NoMemory = NoMemory
-text_fault_of (refused.Fault k line) = Fault (kind.Declared k) line
+text_fault_of (refused.Fault k line) = Fault (kind.Common k) line
 
 -- A policy that is given a name: the name is none of those taken; then the policy's names and numbers, then its complements,
 -- then its depth, then its size.

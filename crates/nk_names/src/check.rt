@@ -34,7 +34,7 @@ fn above(most: u64, n: Number) -> Option<NamesError>
 {
     fault_if(
         most < n.value,
-        FaultKind::Declared(DeclareFault::ValueOutOfRange),
+        FaultKind::Common(DeclareFault::ValueOutOfRange),
         n.line,
     )
 }

@@ -75,29 +75,13 @@ fn check_ends(names: &Names, a: Number, m: Number, b: Number, n: Number) -> Resu
     let (from_switch, from_port) = (place_of(a), place_of(m));
     let (to_switch, to_port) = (place_of(b), place_of(n));
     let missing = !topo.is_port(from_switch, from_port);
-    refuse(fault_if(
-        missing,
-        FaultKind::Declared(DeclareFault::NoSuchPort),
-        m.line,
-    ))?;
+    refuse(fault_if(missing, FaultKind::Common(DeclareFault::NoSuchPort), m.line))?;
     let missing = !topo.is_port(to_switch, to_port);
-    refuse(fault_if(
-        missing,
-        FaultKind::Declared(DeclareFault::NoSuchPort),
-        n.line,
-    ))?;
+    refuse(fault_if(missing, FaultKind::Common(DeclareFault::NoSuchPort), n.line))?;
     let twice = names.virtuals.is_source(from_switch, from_port);
-    refuse(fault_if(
-        twice,
-        FaultKind::Declared(DeclareFault::SourceTwice),
-        m.line,
-    ))?;
+    refuse(fault_if(twice, FaultKind::Common(DeclareFault::SourceTwice), m.line))?;
     let twice = names.virtuals.is_target(to_switch, to_port);
-    refuse(fault_if(
-        twice,
-        FaultKind::Declared(DeclareFault::TargetTwice),
-        n.line,
-    ))
+    refuse(fault_if(twice, FaultKind::Common(DeclareFault::TargetTwice), n.line))
 }
 
 /// A declaration's fault as a program's.
@@ -107,7 +91,7 @@ fn fault_of(error: DeclareError) -> NamesError
     match error {
         DeclareError::NoMemory => NamesError::NoMemory,
         DeclareError::Fault { kind, line } => NamesError::Fault {
-            kind: FaultKind::Declared(kind),
+            kind: FaultKind::Common(kind),
             line,
         },
     }

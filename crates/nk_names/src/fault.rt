@@ -11,7 +11,7 @@ use thiserror::Error;
 #[error("{}", self.message())]
 pub enum FaultKind {
     /// A declaration or a number has a fault that texts of tables may have too.
-    Declared(DeclareFault),
+    Common(DeclareFault),
     /// A policy has the name already.
     LetTwice,
     /// No policy above has the name.
