@@ -88,8 +88,9 @@ impl Sets {
         }
     }
 
-    /// The number of the set with these labels, which is added where it isn't there. The only error is that memory ran
-    /// out; then the sets stay as they were.
+    /// The number of the set with these labels, which is added as the last one where it isn't there. The
+    /// clauses name all sets that there are then. The only error is that memory ran out; then the sets
+    /// stay as they were.
     pub fn intern(&mut self, labels: List<u64>) -> Result<SetId, AllocError>
         requires { IsStrictlyIncreasing labels }
         ensures grows { SetsGrow self.old self.new }
@@ -125,8 +126,9 @@ impl Sets {
         let _count = self.sets.len();
     }
 
-    /// The number of the set with these labels, which is put in where it isn't there. It is their first place, whatever sets
-    /// come later.
+    /// The number that `intern` gives, for callers whose sets grow further: it is the first place of these
+    /// labels in each list of sets that these grow to, and one more than it fits in 64 bits, as a target
+    /// needs. The only error is that memory ran out; then it is only said that no set is lost.
     pub fn put(&mut self, labels: List<u64>) -> Result<SetId, AllocError>
         requires { IsStrictlyIncreasing labels }
         ensures grows { SetsGrow self.old self.new }
