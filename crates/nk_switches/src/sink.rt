@@ -54,7 +54,8 @@ pub struct TableList {
 impl TableList {
     /// No table yet.
     pub fn new(alloc: Global) -> TableList
-        ensures { (result.tables ≡ []) × (result.rows.items ≡ []) }
+        ensures tables { result.tables ≡ [] }
+        ensures rows { result.rows.items ≡ [] }
     {
         TableList {
             tables: List::new(alloc),

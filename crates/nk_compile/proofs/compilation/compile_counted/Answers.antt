@@ -14,6 +14,6 @@ returns c =
     let made = c.in_ok-tag_sets.ensures c.args.program.now c.args.name.now (ap (λ (v : ProgramValue). v.topo) (sym is)) c.in_ok-numbered.ensures.ok in (
       tables_at (IsCompiled c.args.program.now c.args.name.now) c.in_ok-tables.tables c.args.program.now.fields _ c.args.program.now.topo _ made.0 _
           c.in_ok-tables.ensures (ap (λ (v : ProgramValue). v.fields) is) (ap (λ (v : ProgramValue). v.topo) is)
-          (c.into_tables.ensures ∙ made.1 ∙ ap (λ l. l ++ made.0) c.new-tables.ensures.0) made.2,
+          (c.into_tables.ensures ∙ made.1 ∙ ap (λ l. l ++ made.0) c.new-tables.ensures.tables) made.2,
       made.3,
     )

@@ -12,7 +12,7 @@ pub returns-clause-made : goal.returns-clause-made
 returns-clause-made c =
     let made = c.in_ok-tag_sets.ensures.made c.args.fields.now (tree_of c.args.p.now) c.in_ok-numbered.ensures.ok in
     tables_at (IsMade c.args.fields.now c.args.topo.now (tree_of c.args.p.now)) c.in_ok-tables.tables c.args.fields.now _ c.args.topo.now _ made.0 _
-    c.in_ok-tables.ensures refl refl (c.into_tables.ensures ∙ made.1 ∙ ap (λ l. l ++ made.0) c.new-tables.ensures.0) made.2
+    c.in_ok-tables.ensures refl refl (c.into_tables.ensures ∙ made.1 ∙ ap (λ l. l ++ made.0) c.new-tables.ensures.tables) made.2
 
 pub returns-clause-counted : goal.returns-clause-counted
 returns-clause-counted c = c.in_ok-tag_sets.ensures.counted c.args.fields.now (tree_of c.args.p.now) c.in_ok-numbered.ensures.ok

@@ -27,4 +27,4 @@ returns c =
     IfOk-weaker c.tables_over.result _ _ (λ t is.
     made.2 c.args.fields.now (tree_of c.args.p.now) k.0 k.1 there
     t (ap (λ (x : Tables). x.fields) is) (ap (λ (x : Tables). x.topo) is)
-    (ap (λ (x : Tables). x.tables) is ∙ (c.into_tables.ensures ∙ made.1 ∙ ap (λ l. l ++ made.0) c.new-tables.ensures.0))) c.tables_over.ensures
+    (ap (λ (x : Tables). x.tables) is ∙ (c.into_tables.ensures ∙ made.1 ∙ ap (λ l. l ++ made.0) c.new-tables.ensures.tables))) c.tables_over.ensures

@@ -35,7 +35,7 @@ pub returns : goal.returns
 returns c = λ tag is.
     let made = c.in_ok-all_tables.ensures.tables in
     let same = same_some c.in-Some.tag tag (sym c.in-Some.is ∙ c.tag.ensures.is ∙ is) in
-    let kept = c.into_tables.ensures ∙ made.1 ∙ ap (λ l. l ++ made.0) c.new-tables.ensures.0 in
+    let kept = c.into_tables.ensures ∙ made.1 ∙ ap (λ l. l ++ made.0) c.new-tables.ensures.tables in
     class_tables_are c.args.st.now c.all_class_states.new.st c.args.ss.now c.all_class_states.new.ss c.args.states.now c.args.tags.now c.args.classes.now tag c.all_class_states.ensures.grows
     c.all_class_states.ensures.sets c.requires.states c.requires.known c.differ.ensures.differ c.differ.ensures.ascend c.as_slice.result.now
     (subst (IsTagTable (length c.args.tags.now) c.all_class_states.new.ss c.args.tags.now) (sym c.as_slice.ensures) c.in_ok-by_tag.ensures)
