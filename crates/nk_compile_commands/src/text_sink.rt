@@ -23,9 +23,11 @@ pub(crate) struct TextSink<'a> {
 }
 
 impl<'a> TextSink<'a> {
-    /// A text with its first lines and no table yet.
+    /// A text with its first lines and no table yet, and no list of buckets. The only error is that memory
+    /// ran out.
     pub(crate) fn new(alloc: Global, fields: &'a Fields, topo: &Topo) -> Result<Self, AllocError>
-        ensures { IfOk result (λ s. HasWritten fields.now topo.now [] s.writer) }
+        ensures written { IfOk result (λ s. HasWritten fields.now topo.now [] s.writer) }
+        ensures lists { IfOk result (λ s. s.lists.keys ≡ []) }
     {
         let writer = TableWriter::new(alloc, fields, topo)?;
         Ok(TextSink {

@@ -12,7 +12,7 @@ returns c = λ program name fields topo numbered.
     let handed = c.in_ok-hand_tables.ensures program name topo numbered in
     let begun =
     subst (λ (f : FieldTable). HasWritten f program.topo [] c.in_ok-sink.sink.writer) (sym fields)
-    (subst (λ (t : Topology). HasWritten c.args.fields.now t [] c.in_ok-sink.sink.writer) (sym topo) c.in_ok-sink.ensures) in (
+    (subst (λ (t : Topology). HasWritten c.args.fields.now t [] c.in_ok-sink.sink.writer) (sym topo) c.in_ok-sink.ensures.written) in (
       record { fields = program.fields; topo = program.topo; tables = handed.0 },
       handed.2,
       c.end.ensures program.fields program.topo handed.0 (handed.1 program.fields program.topo [] begun) numbered.is.topology handed.2.3.switches,
