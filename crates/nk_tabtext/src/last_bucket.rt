@@ -1,6 +1,6 @@
 //! The bucket that was put last, with the text of the row's end. In the table of an access list nearly each bucket is the last one
 //! again: its text isn't made once more.
-ghost use Rattle.std.specs.Prelude.{◌≡◌, ◌++◌, true, codes, Some, OnOk};
+ghost use Rattle.std.specs.Prelude.{◌≡◌, ◌++◌, true, codes, None, Some, OnOk, OnErr};
 ghost use Rattle.std.specs.Fmt.{decimal};
 ghost use Rattle.nk_field.specs.Packet.{FieldTable};
 ghost use Rattle.nk_tabtext.specs.Remembered.{RemembersBucket, row_end_text};
@@ -86,13 +86,15 @@ impl LastBucket {
         }
     }
 
-    /// Makes another bucket the last one.
+    /// Makes another bucket the last one. Where memory runs out, no bucket is the last one.
     #[inline(never)]
     fn set(&mut self, fs: &Fields, bucket: &Bucket) -> Result<(), AllocError>
         ensures bucket { OnOk result (self.new.bucket ≡ Some bucket.now) }
         ensures text { OnOk result
             (self.new.text.items ≡ row_end_text (bucket_text fs.now bucket.now)) }
+        ensures err { OnErr result (self.new.bucket ≡ None) }
     {
+        self.bucket = None;
         self.text.clear();
         short::piece(&mut self.text, b"-> ")?;
         rules::bucket(&mut self.text, fs, bucket)?;
