@@ -1,5 +1,5 @@
 -- Outs of one kind, and the others: those that assign a field, or those that end with a value of it between two.
-use Rattle.std.specs.Prelude.{◌≡◌, ℕ, Bool, true, false, cond, eqb, leb, ◌&&◌, List, [], ◌∷◌}
+use Rattle.std.specs.Prelude.{◌≡◌, ℕ, Bool, true, false, cond, eqb, nat_le, ◌&&◌, List, [], ◌∷◌}
 use Rattle.nk_store.specs.declared.node.Out.{Out}
 use Rattle.nk_store.specs.Leaves.{Every}
 use Rattle.nk_apply.specs.Leaves.{gathered}
@@ -16,7 +16,7 @@ last_value f (s ∷ ss) = cond (assigns f ss) (last_value f ss) s.1
 
 -- whether the act assigns f, at last a value from lo to hi
 abbrev pub ends_between : ℕ → ℕ → ℕ → List (ℕ × ℕ) → Bool
-ends_between f lo hi g = assigns f g && leb lo (last_value f g) && leb (last_value f g) hi
+ends_between f lo hi g = assigns f g && nat_le lo (last_value f g) && nat_le (last_value f g) hi
 
 -- the out where its act is of the kind, if b is true, and where it isn't, if b is false; else nothing
 abbrev pub passed : (List (ℕ × ℕ) → Bool) → Bool → Out → List Out

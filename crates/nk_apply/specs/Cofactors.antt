@@ -1,5 +1,5 @@
 -- A diagram at one value of its first field.
-use Rattle.std.specs.Prelude.{◌≡◌, ℕ, ◌<◌, ◌≤◌, cond, eqb, leb, min, List, [], ◌∷◌, slice_index}
+use Rattle.std.specs.Prelude.{◌≡◌, ℕ, ◌<◌, ◌≤◌, cond, eqb, nat_le, min, List, [], ◌∷◌, slice_index}
 use Rattle.nk_store.specs.declared.node.Node.{Node}
 use Rattle.nk_store.specs.declared.node.Node.TheVariants.{Leaf, Case}
 use Rattle.nk_store.specs.Nodes.{child_at}
@@ -17,7 +17,7 @@ cofactor st f v d = cofactor_of_node (node_of st d) f v d
 -- the first part whose end is not below the value
 abbrev pub found_in : ℕ × ℕ → List (ℕ × ℕ) → ℕ → ℕ × ℕ
 found_in last [] v = last
-found_in last (p ∷ ps) v = cond (leb v p.0) p (found_in p ps v)
+found_in last (p ∷ ps) v = cond (nat_le v p.0) p (found_in p ps v)
 
 -- what the diagram d is at the value v of f: the number p.1, up to the value p.0
 pub record IsPart (st : StoreState) (f d v : ℕ) (p : ℕ × ℕ) : Type 0 where

@@ -1,5 +1,5 @@
 -- What is made of one diagram, node by node.
-use Rattle.std.specs.Prelude.{◌≡◌, ℕ, ◌≤◌, eqb, List, Some}
+use Rattle.std.specs.Prelude.{◌≡◌, ℕ, ◌≤◌, nat_eq, List, Some}
 use Rattle.std.specs.Map.{lookup}
 use Rattle.nk_store.specs.declared.node.Out.{Out}
 use Rattle.nk_store.specs.StoreState.{StoreState, IsId, look, root_field, HasLeaves}
@@ -14,4 +14,4 @@ pub record IsMadeOf
 
 -- each entry leads from a diagram to what is made of it
 abbrev pub AreMadeOf : (List ℕ → List ℕ) → (List ℕ → List ℕ → List Out → List Out) → (ℕ → ℕ) → StoreState → List (ℕ × ℕ) → Type 0
-AreMadeOf P M F st entries = (d r : ℕ) → lookup (eqb d) entries ≡ Some r → IsMadeOf P M F st d r
+AreMadeOf P M F st entries = (d r : ℕ) → lookup (nat_eq d) entries ≡ Some r → IsMadeOf P M F st d r

@@ -1,9 +1,9 @@
 -- A diagram for the values from lo to hi, and another one for the rest.
-use Rattle.std.specs.Prelude.{ℕ, ◌-◌, min, cond, eqb, leb, ◌&&◌, List, [], ◌∷◌, ◌++◌}
+use Rattle.std.specs.Prelude.{ℕ, ◌-◌, min, cond, eqb, nat_le, ◌&&◌, List, [], ◌∷◌, ◌++◌}
 
 -- a value past the field's highest counts as the highest
 abbrev pub spanned : ℕ → ℕ → ℕ → ℕ → ℕ → ℕ → ℕ
-spanned high lo hi inside outside v = cond (leb lo (min v high) && leb (min v high) hi) inside outside
+spanned high lo hi inside outside v = cond (nat_le lo (min v high) && nat_le (min v high) hi) inside outside
 
 -- the part for the values below lo, if there are any
 abbrev pub before : ℕ → ℕ → List (ℕ × ℕ)

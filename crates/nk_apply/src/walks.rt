@@ -1,5 +1,5 @@
 //! One diagram changed node by node.
-ghost use Rattle.std.specs.Prelude.{◌≡◌, ℕ, ◌<◌, ◌≤◌, eqb, Some, IfOk, IfSome, OnOk, MatchOption, List as Items, slice_index};
+ghost use Rattle.std.specs.Prelude.{◌≡◌, ℕ, ◌<◌, ◌≤◌, nat_eq, Some, IfOk, IfSome, OnOk, MatchOption, List as Items, slice_index};
 ghost use Rattle.std.specs.Map.{lookup};
 ghost use Rattle.nk_store.specs.declared.node.Out.{Out};
 ghost use Rattle.nk_store.specs.Nodes.{child_at};
@@ -165,7 +165,7 @@ fn walk_end<M: NodeMap>(
 
 /// What a table has for a diagram, if anything.
 pub fn known(seen: &HashMap<Id, Id>, d: Id) -> Option<Id>
-    ensures { result ≡ lookup (eqb d) seen.now.entries }
+    ensures { result ≡ lookup (nat_eq d) seen.now.entries }
 {
     seen.get(&d).copied()
 }

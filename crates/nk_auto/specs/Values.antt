@@ -1,5 +1,5 @@
 -- Packets by the values of one field.
-use Rattle.std.specs.Prelude.{◌≡◌, ℕ, ◌-◌, ◌↔◌, Bool, true, cond, leb, ◌&&◌, List, [], ◌∷◌, ◌++◌, slice_index}
+use Rattle.std.specs.Prelude.{◌≡◌, ℕ, ◌-◌, ◌↔◌, Bool, true, cond, nat_le, ◌&&◌, List, [], ◌∷◌, ◌++◌, slice_index}
 use Rattle.std.specs.List.{list_any}
 use Rattle.nk_policy.specs.Policy.{Policy}
 use Rattle.nk_policy.specs.Meaning.{Gives}
@@ -9,7 +9,7 @@ use Rattle.nk_apply.specs.Seqs.{no_out}
 
 -- the value is in the interval, by its ends
 abbrev pub is_between : ℕ → ℕ × ℕ → Bool
-is_between v ends = leb ends.0 v && leb v ends.1
+is_between v ends = nat_le ends.0 v && nat_le v ends.1
 
 -- without a record the policy ends exactly where the field's value is in one of the intervals, at the packet itself
 abbrev pub KeepsWhere : ℕ → List (ℕ × ℕ) → Policy → Type 0
@@ -31,7 +31,7 @@ pub record IsConstant (st : StoreState) (d : ℕ) (outs : List Out) : Type 0 whe
 
 -- the part for the values from low on that are below high, if there are any
 abbrev pub gap : ℕ → ℕ → ℕ → List (ℕ × ℕ)
-gap low high d = cond (leb high low) [] ((high - 1, d) ∷ [])
+gap low high d = cond (nat_le high low) [] ((high - 1, d) ∷ [])
 
 -- the out of an assignment
 abbrev pub one_out : ℕ → ℕ → Out

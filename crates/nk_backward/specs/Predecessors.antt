@@ -1,6 +1,6 @@
 -- Transitions by the sets that they lead into: a set's diagram has, at each packet that transitions into the set make, an out
 -- for each of them.
-use Rattle.std.specs.Prelude.{◌≡◌, ℕ, ◌+◌, ◌<◌, ◌≤◌, ◌⊎◌, ◌↔◌, true, eqb, List, [], Some, length, slice_index, slice_index_or, Contains}
+use Rattle.std.specs.Prelude.{◌≡◌, ℕ, ◌+◌, ◌<◌, ◌≤◌, ◌⊎◌, ◌↔◌, true, nat_eq, List, [], Some, length, slice_index, slice_index_or, Contains}
 use Rattle.std.specs.Map.{lookup}
 use Rattle.nk_field.specs.Act.{applied}
 use Rattle.nk_store.specs.declared.node.Out.{Out}
@@ -53,11 +53,11 @@ ShowsBelow st ds k t y o = (j : ℕ) × (j < k) × ((diagram_at ds j).0 ≡ t) �
 
 -- the set's diagram has the out at the packet
 abbrev pub Shows : StoreState → List (ℕ × ℕ) → ℕ → List ℕ → Out → Type 0
-Shows st into t y o = (d : ℕ) × (lookup (eqb t) into ≡ Some d) × Contains (look st d y) o
+Shows st into t y o = (d : ℕ) × (lookup (nat_eq t) into ≡ Some d) × Contains (look st d y) o
 
 -- each set's that is found is a diagram
 abbrev pub FindDiagrams : StoreState → List (ℕ × ℕ) → Type 0
-FindDiagrams st into = (t d : ℕ) → lookup (eqb t) into ≡ Some d → IsId st d
+FindDiagrams st into = (t d : ℕ) → lookup (nat_eq t) into ≡ Some d → IsId st d
 
 -- a diagram for the n-th transition stands after the others, unless it is an end
 pub record IsMarked (st : StoreState) (q : OutPackets) (n : ℕ) (old : List (ℕ × ℕ)) (new : StoreState) (all : List (ℕ × ℕ)) : Type 0 where

@@ -1,5 +1,5 @@
 //! The transitions into each set of labels, by the packets that they make.
-ghost use Rattle.std.specs.Prelude.{◌≡◌, ◌+◌, ◌<◌, ◌⊎◌, ◌↔◌, ◌^◌, [], ◌∷◌, ℕ, eqb, IfOk, IfSome, OnOk, None, length, IsPermutation, Contains};
+ghost use Rattle.std.specs.Prelude.{◌≡◌, ◌+◌, ◌<◌, ◌⊎◌, ◌↔◌, ◌^◌, [], ◌∷◌, ℕ, nat_eq, IfOk, IfSome, OnOk, None, length, IsPermutation, Contains};
 ghost use Rattle.std.specs.Map.{lookup};
 ghost use Rattle.nk_store.specs.StoreState.{IsId, Grows, HasLeaves};
 ghost use Rattle.nk_sets.specs.PacketSets.{IsSet};
@@ -219,7 +219,7 @@ fn with_found(st: &mut Store, into: &HashMap<SetId, Id>, t: SetId, d: Id) -> Res
 
 /// What the table has for a set.
 fn found(into: &HashMap<SetId, Id>, t: SetId) -> Option<Id>
-    ensures { result ≡ lookup (eqb t) into.now.entries }
+    ensures { result ≡ lookup (nat_eq t) into.now.entries }
 {
     into.get(&t).copied()
 }

@@ -1,5 +1,5 @@
 -- Rows made of the packets that levels have under sets.
-use Rattle.std.specs.Prelude.{◌≡◌, ℕ, ◌<◌, eqb, List, [], slice_index_or, unwrap_or}
+use Rattle.std.specs.Prelude.{◌≡◌, ℕ, ◌<◌, nat_eq, List, [], slice_index_or, unwrap_or}
 use Rattle.std.specs.Map.{lookup}
 use Rattle.nk_store.specs.StoreState.{StoreState, IsStorePacket}
 use Rattle.nk_sets.specs.PacketSets.{IsSet}
@@ -11,7 +11,7 @@ use Rattle.nk_cert.specs.Certificates.{RowValue}
 
 -- the packets under a set, none where it has no entry
 abbrev pub packets_at : List (ℕ × ℕ) → ℕ → ℕ → ℕ
-packets_at met none s = unwrap_or (lookup (eqb s) met) none
+packets_at met none s = unwrap_or (lookup (nat_eq s) met) none
 
 -- the row of a set: its members, and the predicate of its packets
 pub record IsRowBy (st : StoreState) (ss : List (List ℕ)) (met : List (ℕ × ℕ)) (none s : ℕ) (row : RowValue) : Type 0 where

@@ -1,5 +1,5 @@
 -- The ends of an automaton's states that are not to be: those in a set of packets.
-use Rattle.std.specs.Prelude.{◌≡◌, ℕ, ◌<◌, ◌⊎◌, eqb, Some, List, [], ◌∷◌, length, slice_index, All, Contains, refl}
+use Rattle.std.specs.Prelude.{◌≡◌, ℕ, ◌<◌, ◌⊎◌, nat_eq, Some, List, [], ◌∷◌, length, slice_index, All, Contains, refl}
 use Rattle.std.proofs.Common.{inl, inr, ⊎_elim, sym, ap, subst, ◌∙◌}
 use Rattle.std.specs.Map.{lookup}
 use Rattle.nk_store.specs.declared.node.Out.{Out}
@@ -34,7 +34,7 @@ pub record IsEndOf (st : StoreState) (set state r : ℕ) : Type 0 where
 
 -- each entry leads from a state to the diagram of its ends in the set
 abbrev pub AreEndsOf : StoreState → ℕ → List (ℕ × ℕ) → Type 0
-AreEndsOf st set entries = (state r : ℕ) → lookup (eqb state) entries ≡ Some r → IsEndOf st set state r
+AreEndsOf st set entries = (state r : ℕ) → lookup (nat_eq state) entries ≡ Some r → IsEndOf st set state r
 
 -- each state has its diagram
 pub record HaveEndsOf (st : StoreState) (set : ℕ) (states ends : List ℕ) : Type 0 where

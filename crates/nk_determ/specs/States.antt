@@ -1,5 +1,5 @@
 -- The diagram of a set state.
-use Rattle.std.specs.Prelude.{◌≡◌, ◌↔◌, ℕ, ◌+◌, ◌<◌, ◌≤◌, true, cond, eqb, Some, List, [], ◌∷◌, ◌++◌, length, flat_map, slice_index, slice_index_or}
+use Rattle.std.specs.Prelude.{◌≡◌, ◌↔◌, ℕ, ◌+◌, ◌<◌, ◌≤◌, true, cond, nat_eq, eqb, Some, List, [], ◌∷◌, ◌++◌, length, flat_map, slice_index, slice_index_or}
 use Rattle.std.specs.List.{Contains, list_any}
 use Rattle.std.specs.Map.{lookup}
 use Rattle.nk_store.specs.declared.node.Out.{Out}
@@ -103,5 +103,5 @@ pub record IsRegrouped (old : StoreState) (d : ℕ) (new : StoreState) (sets : L
 
 -- of each entry the second diagram is what is made of the first, and tests no field before those that the first tests
 abbrev pub AreRegrouped : StoreState → List (List ℕ) → List (ℕ × ℕ) → Type 0
-AreRegrouped st sets entries = (d r : ℕ) → lookup (eqb d) entries ≡ Some r →
+AreRegrouped st sets entries = (d r : ℕ) → lookup (nat_eq d) entries ≡ Some r →
     IsId st d × IsRegrouped st d st sets r × (root_field st d ≤ root_field st r)

@@ -1,5 +1,5 @@
 -- Acts without the assignments to one field that don't change the packet.
-use Rattle.std.specs.Prelude.{◌≡◌, ℕ, map, min, Bool, true, cond, eqb, ltb, ◌&&◌, List, [], ◌∷◌, slice_index}
+use Rattle.std.specs.Prelude.{◌≡◌, ℕ, map, min, Bool, true, cond, nat_eq, nat_lt, eqb, ◌&&◌, List, [], ◌∷◌, slice_index}
 use Rattle.std.specs.List.{Contains, flat_map, list_any}
 use Rattle.nk_field.specs.Act.{left_without}
 use Rattle.nk_store.specs.declared.node.Out.{Out}
@@ -31,7 +31,7 @@ leaf_changing maxes f pk os = leaf_without f (min (slice_index pk f) (slice_inde
 abbrev pub exact_below : ℕ → List ℕ → List ℕ → List (ℕ × ℕ) → List (ℕ × ℕ)
 exact_below k maxes pk [] = []
 exact_below k maxes pk (s ∷ ss) =
-    cond (ltb s.0 k && eqb (min (slice_index pk s.0) (slice_index maxes s.0)) s.1) (exact_below k maxes pk ss)
+    cond (nat_lt s.0 k && eqb (min (slice_index pk s.0) (slice_index maxes s.0)) s.1) (exact_below k maxes pk ss)
     (s ∷ exact_below k maxes pk ss)
 
 -- the out with those assignments
@@ -68,7 +68,7 @@ HasItems F xs st d = (pk : List ℕ) → AreAmong (F (look st d pk)) xs
 
 -- that is so of each of these diagrams
 abbrev pub AllHaveItems : (List Out → List ℕ) → List ℕ → StoreState → List ℕ → Type 0
-AllHaveItems F xs st ds = (d : ℕ) → list_any (eqb d) ds ≡ true → HasItems F xs st d
+AllHaveItems F xs st ds = (d : ℕ) → list_any (nat_eq d) ds ≡ true → HasItems F xs st d
 
 -- what the acts of the diagram assign to the field f is among the values
 abbrev pub HasValues : ℕ → List ℕ → StoreState → ℕ → Type 0

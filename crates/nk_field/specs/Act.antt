@@ -1,5 +1,5 @@
 -- What an act does to a packet: assignments, each to one field (NetKAT: Anderson et al., POPL 2014, section 3).
-use Rattle.std.specs.Prelude.{ℕ, ◌≤◌, ◌+◌, cond, ltb, eqb, List, [], ◌∷◌, slice_set}
+use Rattle.std.specs.Prelude.{ℕ, ◌≤◌, ◌+◌, cond, nat_lt, eqb, List, [], ◌∷◌, slice_set}
 
 -- the packet after these assignments, in order
 abbrev pub applied : List (ℕ × ℕ) → List ℕ → List ℕ
@@ -15,7 +15,7 @@ AscendsFrom low (s ∷ ss) = (low ≤ s.0) × AscendsFrom (s.0 + 1) ss
 abbrev pub lay : ℕ × ℕ → List (ℕ × ℕ) → (List (ℕ × ℕ) → List (ℕ × ℕ)) → List (ℕ × ℕ) → List (ℕ × ℕ)
 lay s ss rest [] = s ∷ ss
 lay s ss rest (t ∷ ts) =
-    cond (ltb s.0 t.0) (s ∷ rest (t ∷ ts)) (cond (eqb s.0 t.0) (t ∷ rest ts) (t ∷ lay s ss rest ts))
+    cond (nat_lt s.0 t.0) (s ∷ rest (t ∷ ts)) (cond (eqb s.0 t.0) (t ∷ rest ts) (t ∷ lay s ss rest ts))
 
 -- the assignments of g, then those of h: at a field of both h's stand
 abbrev pub act_then : List (ℕ × ℕ) → List (ℕ × ℕ) → List (ℕ × ℕ)

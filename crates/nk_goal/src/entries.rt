@@ -1,5 +1,5 @@
 //! Sets of labels with their packets, found by the set's number.
-ghost use Rattle.std.specs.Prelude.{◌≡◌, ℕ, eqb, take, IfOk, OnOk, OnErr};
+ghost use Rattle.std.specs.Prelude.{◌≡◌, ℕ, nat_eq, take, IfOk, OnOk, OnErr};
 ghost use Rattle.std.specs.Map.{lookup};
 ghost use Rattle.nk_store.specs.StoreState.{Grows};
 ghost use Rattle.nk_sets.specs.PacketSets.{IsSet};
@@ -16,7 +16,7 @@ use std::alloc::AllocError;
 
 /// The packets under a set, if it has an entry.
 pub fn packets_of_set(pairs: &IndexMap<SetId, Id>, t: SetId) -> Option<Id>
-    ensures { result ≡ lookup (eqb t) pairs.now.entries }
+    ensures { result ≡ lookup (nat_eq t) pairs.now.entries }
 {
     pairs.get(&t).copied()
 }

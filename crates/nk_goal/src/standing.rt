@@ -1,5 +1,5 @@
 //! Sets of labels with packets.
-ghost use Rattle.std.specs.Prelude.{◌≡◌, eqb, IfOk, OnOk, OnErr};
+ghost use Rattle.std.specs.Prelude.{◌≡◌, nat_eq, IfOk, OnOk, OnErr};
 ghost use Rattle.std.specs.Map.{lookup};
 ghost use Rattle.nk_store.specs.StoreState.{Grows};
 ghost use Rattle.nk_sets.specs.PacketSets.{IsSet};
@@ -42,7 +42,7 @@ impl Entries {
 
     /// The packets under a set.
     pub fn packets_of_set(&self, t: SetId) -> Option<Id>
-        ensures { result ≡ lookup (eqb t) self.now }
+        ensures { result ≡ lookup (nat_eq t) self.now }
     {
         packets_of_set(&self.pairs, t)
     }

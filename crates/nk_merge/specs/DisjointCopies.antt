@@ -1,5 +1,5 @@
 -- The states of an automaton with each label twice.
-use Rattle.std.specs.Prelude.{◌≡◌, ℕ, zero, suc, ◌+◌, ◌-◌, ◌^◌, ◌<◌, ◌↔◌, eqb, Option, Some, List, length, slice_index}
+use Rattle.std.specs.Prelude.{◌≡◌, ℕ, zero, suc, ◌+◌, ◌-◌, ◌^◌, ◌<◌, ◌↔◌, nat_eq, Option, Some, List, length, slice_index}
 use Rattle.std.specs.Map.{lookup}
 use Rattle.nk_store.specs.StoreState.{StoreState, IsId, IsStorePacket, look, HasLeaves}
 use Rattle.nk_apply.specs.Unions.{AreIds}
@@ -54,4 +54,4 @@ pub record IsMadeBy (st : StoreState) (table : List (Option ℕ)) (state r : ℕ
 
 -- each entry leads from a state to what is made of it
 abbrev pub AreMadeBy : StoreState → List (Option ℕ) → List (ℕ × ℕ) → Type 0
-AreMadeBy st table entries = (state r : ℕ) → lookup (eqb state) entries ≡ Some r → IsMadeBy st table state r
+AreMadeBy st table entries = (state r : ℕ) → lookup (nat_eq state) entries ≡ Some r → IsMadeBy st table state r

@@ -1,5 +1,5 @@
 -- Tags whose states are one diagram, without a comparison.
-use Rattle.std.specs.Prelude.{◌≡◌, ℕ, ◌<◌, ◌↔◌, eqb, Some, List, length, slice_index}
+use Rattle.std.specs.Prelude.{◌≡◌, ℕ, ◌<◌, ◌↔◌, nat_eq, Some, List, length, slice_index}
 use Rattle.std.specs.Map.{lookup}
 use Rattle.nk_store.specs.StoreState.{StoreState, IsId, IsStorePacket}
 use Rattle.nk_determ.specs.Exact.{Sends}
@@ -20,4 +20,4 @@ pub record IsSeenAt (st : StoreState) (states : List ℕ) (ss : List (List ℕ))
 
 -- so it is with each entry
 abbrev pub AreSeenDiagrams : StoreState → List ℕ → List (List ℕ) → List ℕ → List ℕ → List (ℕ × ℕ) → Type 0
-AreSeenDiagrams st states ss tags firsts entries = (d c : ℕ) → lookup (eqb d) entries ≡ Some c → IsSeenAt st states ss tags firsts d c
+AreSeenDiagrams st states ss tags firsts entries = (d c : ℕ) → lookup (nat_eq d) entries ≡ Some c → IsSeenAt st states ss tags firsts d c

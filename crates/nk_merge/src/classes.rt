@@ -1,5 +1,5 @@
 //! The classes of tags.
-ghost use Rattle.std.specs.Prelude.{◌≡◌, ◌+◌, ◌^◌, ◌<◌, ◌≤◌, ℕ, suc, eqb, [], ◌∷◌, ◌++◌, All, IfOk, OnOk, length, slice_index, slice_index_or};
+ghost use Rattle.std.specs.Prelude.{◌≡◌, ◌+◌, ◌^◌, ◌<◌, ◌≤◌, ℕ, suc, nat_eq, [], ◌∷◌, ◌++◌, All, IfOk, OnOk, length, slice_index, slice_index_or};
 ghost use Rattle.std.specs.Map.{lookup};
 ghost use Rattle.nk_store.specs.StoreState.{Grows};
 ghost use Rattle.nk_determ.specs.Sets.{SetsGrow};
@@ -139,7 +139,7 @@ fn class_by(
 
 /// What the table has for a diagram.
 fn seen_at(seen: &HashMap<Id, usize>, d: Id) -> Option<usize>
-    ensures { result ≡ lookup (eqb d) seen.now.entries }
+    ensures { result ≡ lookup (nat_eq d) seen.now.entries }
 {
     seen.get(&d).copied()
 }

@@ -1,7 +1,7 @@
 -- The forms in which numbers are written. An IPv4 address and its prefixes are as RFC 6991 has them (`ipv4-address` and
 -- `ipv4-prefix` of ietf-inet-types): four decimal octets without leading zeros, and a length from 0 to 32. A hardware address is as
 -- RFC 6991 has it (`mac-address` of ietf-yang-types): six pairs of hexadecimal digits; the small letters are the canonical ones.
-use Rattle.std.specs.Prelude.{ℕ, ◌+◌, ◌-◌, ◌*◌, ◌/◌, ◌%◌, ◌^◌, ◌==◌, Bool, not, ◌&&◌, ◌||◌, List, [], ◌∷◌, ◌++◌, length, take, drop, take_while, count_by, get_or, Option, Some, None, option_and_then, if◌then◌else◌, nat_lt, nat_le, decimal}
+use Rattle.std.specs.Prelude.{ℕ, ◌+◌, ◌-◌, ◌*◌, ◌/◌, ◌%◌, ◌^◌, ◌==◌, Bool, not, ◌&&◌, ◌||◌, List, [], ◌∷◌, ◌++◌, length, take, drop, take_while, count_by, slice_index, Option, Some, None, option_and_then, if◌then◌else◌, nat_lt, nat_le, decimal}
 use Rattle.std.specs.List.{list_all, list_any}
 use Rattle.nk_lex.specs.Classes.{is_digit}
 use Rattle.nk_lex.specs.Lex.{largest}
@@ -75,10 +75,10 @@ hexadecimal_text n = 48 ∷ 120 ∷ pair_text (n / 256) ++ pair_text (n % 256)
 
 -- the first byte of a text and the last, 0 where there is none
 unfoldable pub first_byte : List ℕ → ℕ
-first_byte w = get_or w 0 0
+first_byte w = slice_index w 0
 
 unfoldable pub last_byte : List ℕ → ℕ
-last_byte w = get_or w (length w - 1) 0
+last_byte w = slice_index w (length w - 1)
 
 unfoldable pub is_digit_or_dot : ℕ → Bool
 is_digit_or_dot b = is_digit b || b == 46
@@ -97,7 +97,7 @@ is_coloned w = list_all is_hex_or_colon w && nat_lt 1 (count_by (λ b. b == 58) 
 
 -- `0x` at the front: this is meant as a hexadecimal number
 unfoldable pub is_hexadecimal : List ℕ → Bool
-is_hexadecimal w = (get_or w 0 0 == 48) && (get_or w 1 0 == 120)
+is_hexadecimal w = (slice_index w 0 == 48) && (slice_index w 1 == 120)
 
 -- the number, or the fault of what is no number
 abbrev pub number_or : Cause → Option ℕ → Atom

@@ -1,5 +1,5 @@
 -- Numbers in decimal and hexadecimal digits.
-use Rattle.std.specs.Prelude.{ℕ, ◌+◌, ◌-◌, ◌*◌, ◌/◌, ◌%◌, ◌==◌, Bool, not, ◌&&◌, ◌||◌, List, [], ◌∷◌, length, get_or, Option, Some, None, if◌then◌else◌, fold, nat_lt, nat_le, decimal, bytes_eq}
+use Rattle.std.specs.Prelude.{ℕ, ◌+◌, ◌-◌, ◌*◌, ◌/◌, ◌%◌, ◌==◌, Bool, not, ◌&&◌, ◌||◌, List, [], ◌∷◌, length, slice_index, Option, Some, None, if◌then◌else◌, fold, nat_lt, nat_le, decimal, bytes_eq}
 use Rattle.std.specs.List.{list_all}
 use Rattle.nk_lex.specs.Classes.{is_digit}
 use Rattle.nk_lex.specs.Lex.{value_of}
@@ -11,7 +11,7 @@ number_within most w =
 
 -- decimal digits, at least one, and no zero before others
 unfoldable pub is_numeral : List ℕ → Bool
-is_numeral w = not (length w == 0) && (length w == 1 || not (get_or w 0 0 == 48)) && list_all is_digit w
+is_numeral w = not (length w == 0) && (length w == 1 || not (slice_index w 0 == 48)) && list_all is_digit w
 
 -- 0 to 9, a to f and A to F
 unfoldable pub is_hex : ℕ → Bool

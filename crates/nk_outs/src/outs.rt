@@ -1,5 +1,5 @@
 //! Which packets of a diagram have which out.
-ghost use Rattle.std.specs.Prelude.{◌≡◌, ◌++◌, ◌<◌, true, eqb, map, IfOk, OnOk, IsSome, List as Items};
+ghost use Rattle.std.specs.Prelude.{◌≡◌, ◌++◌, ◌<◌, true, nat_eq, map, IfOk, OnOk, IsSome, List as Items};
 ghost use Rattle.std.specs.Map.{lookup};
 ghost use Rattle.nk_store.specs.StoreState.{IsId, Grows, root_field};
 ghost use Rattle.nk_apply.specs.Cofactors.{IsSplit};
@@ -44,7 +44,7 @@ fn visit(st: &mut Store, seen: &mut HashMap<Id, List<OutPackets>>, d: Id) -> Res
     requires seen { AreByOut st.old seen.old.entries }
     ensures grows { Grows st.old st.new }
     ensures seen { OnOk result (AreByOut st.new seen.new.entries) }
-    ensures found { OnOk result (IsSome (lookup (eqb d) seen.new.entries)) }
+    ensures found { OnOk result (IsSome (lookup (nat_eq d) seen.new.entries)) }
 {
     if is_known(seen, d) {
         return Ok(());
@@ -56,7 +56,7 @@ fn visit(st: &mut Store, seen: &mut HashMap<Id, List<OutPackets>>, d: Id) -> Res
 
 /// Whether the table has a diagram.
 fn is_known(seen: &HashMap<Id, List<OutPackets>>, d: Id) -> bool
-    ensures { result ≡ true → IsSome (lookup (eqb d) seen.now.entries) }
+    ensures { result ≡ true → IsSome (lookup (nat_eq d) seen.now.entries) }
 {
     seen.get(&d).is_some()
 }
@@ -242,7 +242,7 @@ fn put_known(
     all: &mut List<Stretch>,
 ) -> Result<(), AllocError>
     ensures { OnOk result (all.new
-        ≡ all.old ++ stretches from end (lookup (eqb d) seen.now.entries)) }
+        ≡ all.old ++ stretches from end (lookup (nat_eq d) seen.now.entries)) }
 {
     match seen.get(&d) {
         Some(es) => put_all(es.as_slice(), from, end, all),

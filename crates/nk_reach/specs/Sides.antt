@@ -2,7 +2,7 @@
 -- ends and 2 where the right side does, and its act assigns exactly the fields that it changes, so that equal packets come
 -- of equal acts.
 pub use Rattle.nk_determ.specs.Counterexamples.{MakesWithTarget}
-use Rattle.std.specs.Prelude.{◌≡◌, ℕ, ◌<◌, ◌⊎◌, ◌↔◌, Bool, true, false, nat_lt, eqb, cond, List, [], ◌∷◌, Some, length, slice_index, Contains}
+use Rattle.std.specs.Prelude.{◌≡◌, ℕ, ◌<◌, ◌⊎◌, ◌↔◌, Bool, true, false, nat_lt, nat_eq, eqb, cond, List, [], ◌∷◌, Some, length, slice_index, Contains}
 use Rattle.std.specs.List.{list_any}
 use Rattle.std.specs.Map.{lookup}
 use Rattle.std.proofs.Common.{inl, inr, refl, sym, ap, ◌∙◌}
@@ -67,7 +67,7 @@ pub record IsAloneOf (st : StoreState) (d r : ℕ) : Type 0 where
 
 -- each entry leads from ends to what one side alone has of them
 abbrev pub AreAloneOf : StoreState → List (ℕ × ℕ) → Type 0
-AreAloneOf st entries = (d r : ℕ) → lookup (eqb d) entries ≡ Some r → IsAloneOf st d r
+AreAloneOf st entries = (d r : ℕ) → lookup (nat_eq d) entries ≡ Some r → IsAloneOf st d r
 
 -- these marked ends are diagrams of the store, and the table has what one side alone has of some ends
 pub record IsPropertyOfEnds (st : StoreState) (ends : List ℕ) (table : List (ℕ × ℕ)) : Type 0 where
@@ -102,7 +102,7 @@ pub record IsFinalsOfSide (st : StoreState) (mark state r : ℕ) : Type 0 where
 
 -- each entry leads from a state to its marked finals
 abbrev pub AreFinalsOfSide : StoreState → ℕ → List (ℕ × ℕ) → Type 0
-AreFinalsOfSide st mark entries = (state r : ℕ) → lookup (eqb state) entries ≡ Some r → IsFinalsOfSide st mark state r
+AreFinalsOfSide st mark entries = (state r : ℕ) → lookup (nat_eq state) entries ≡ Some r → IsFinalsOfSide st mark state r
 
 -- the mark of a label's side: labels below the bound are of the left side
 abbrev pub label_side : ℕ → ℕ → ℕ

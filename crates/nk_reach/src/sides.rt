@@ -1,5 +1,5 @@
 //! The goal of one side alone.
-ghost use Rattle.std.specs.Prelude.{◌≡◌, ◌==◌, ℕ, ◌<◌, ◌++◌, [], if◌then◌else◌, eqb, IfOk, OnOk, flat_map, map, length, slice_index, List as Items};
+ghost use Rattle.std.specs.Prelude.{◌≡◌, ◌==◌, ℕ, ◌<◌, ◌++◌, [], if◌then◌else◌, nat_eq, IfOk, OnOk, flat_map, map, length, slice_index, List as Items};
 ghost use Rattle.std.specs.Map.{lookup};
 ghost use Rattle.std.proofs.Common.{ap};
 ghost use Rattle.nk_store.specs.StoreState.{IsId, IsStorePacket, look, Grows, HasLeaves};
@@ -202,7 +202,7 @@ fn marked_once(
 
 /// What the table has for a diagram.
 fn known(table: &HashMap<Id, Id>, d: Id) -> Option<Id>
-    ensures { result ≡ lookup (eqb d) table.now.entries }
+    ensures { result ≡ lookup (nat_eq d) table.now.entries }
 {
     table.get(&d).copied()
 }

@@ -1,5 +1,5 @@
 -- A field forgotten: the packets that are in a set for some value of the field (quantification over a field).
-use Rattle.std.specs.Prelude.{◌≡◌, ℕ, zero, suc, ◌≤◌, ◌||◌, eqb, Bool, cond, List, [], ◌∷◌, Some, slice_index, slice_set, map}
+use Rattle.std.specs.Prelude.{◌≡◌, ℕ, zero, suc, ◌≤◌, ◌||◌, nat_eq, Bool, cond, List, [], ◌∷◌, Some, slice_index, slice_set, map}
 use Rattle.std.specs.Map.{lookup}
 use Rattle.nk_store.specs.declared.node.Out.{Out}
 use Rattle.nk_store.specs.StoreState.{StoreState, root_field, HasLeaves, IsCase}
@@ -31,4 +31,4 @@ AreChildren st s f ds = (parts : List (ℕ × ℕ)) × IsCase st s f parts × (d
 
 -- each entry of a table leads from a set to it with the field forgotten
 abbrev pub AreForgotten : StoreState → ℕ → List (ℕ × ℕ) → Type 0
-AreForgotten st f entries = (s r : ℕ) → lookup (eqb s) entries ≡ Some r → IsForgotten st f s r
+AreForgotten st f entries = (s r : ℕ) → lookup (nat_eq s) entries ≡ Some r → IsForgotten st f s r

@@ -1,5 +1,5 @@
 -- The steps of diagrams whose leaves have one label each at most.
-use Rattle.std.specs.Prelude.{◌≡◌, ℕ, ◌+◌, ◌<◌, ◌≤◌, true, cond, eqb, Some, List, [], ◌∷◌, flat_map, Contains}
+use Rattle.std.specs.Prelude.{◌≡◌, ℕ, ◌+◌, ◌<◌, ◌≤◌, true, cond, nat_eq, eqb, Some, List, [], ◌∷◌, flat_map, Contains}
 use Rattle.std.specs.Map.{lookup}
 use Rattle.nk_store.specs.declared.node.Out.{Out}
 use Rattle.nk_store.specs.Leaves.{Strict, Every, Suits}
@@ -54,4 +54,4 @@ pub record AreSingleBy (old : StoreState) (f d : ℕ) (new : StoreState) (sets :
 
 -- each entry leads from a diagram to its steps
 abbrev pub AreSingle : StoreState → List (List ℕ) → List (ℕ × ℕ) → Type 0
-AreSingle st sets entries = (d r : ℕ) → lookup (eqb d) entries ≡ Some r → IsId st d × IsSingle st d st sets r
+AreSingle st sets entries = (d r : ℕ) → lookup (nat_eq d) entries ≡ Some r → IsId st d × IsSingle st d st sets r

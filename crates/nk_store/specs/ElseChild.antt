@@ -1,6 +1,6 @@
 -- The else-child of a node by the numbers of its children: the child with the most values, and on a tie the one of the
 -- least value.
-use Rattle.std.specs.Prelude.{ℕ, ◌+◌, ◌-◌, ◌==◌, nat_lt, eqb, if◌then◌else◌, List, [], ◌∷◌, Option, Some, None}
+use Rattle.std.specs.Prelude.{ℕ, ◌+◌, ◌-◌, ◌==◌, nat_lt, nat_eq, if◌then◌else◌, List, [], ◌∷◌, Option, Some, None}
 use Rattle.std.specs.Map.{lookup}
 
 -- an interval of values with the number of its child
@@ -34,4 +34,4 @@ or_none None = 0
 or_none (Some n) = n
 
 abbrev pub kept : List (ℕ × ℕ) → ℕ → ℕ
-kept counts c = or_none (lookup (eqb c) counts)
+kept counts c = or_none (lookup (nat_eq c) counts)

@@ -1,5 +1,5 @@
 -- What nodes, kept newest first, mean. A node's number is how many nodes were made before it.
-use Rattle.std.specs.Prelude.{◌≡◌, ℕ, ◌+◌, ◌<◌, ◌≤◌, Bool, true, false, cond, leb, eqb, List, [], ◌∷◌, length, slice_index}
+use Rattle.std.specs.Prelude.{◌≡◌, ℕ, ◌+◌, ◌<◌, ◌≤◌, Bool, true, false, cond, nat_le, eqb, List, [], ◌∷◌, length, slice_index}
 use Rattle.nk_store.specs.declared.node.Node.{Node}
 use Rattle.nk_store.specs.declared.node.Node.TheVariants.{Leaf, Case}
 use Rattle.nk_store.specs.declared.node.Out.{Out}
@@ -8,7 +8,7 @@ use Rattle.nk_store.specs.Leaves.{Strict, Every, Suits}
 -- the child of the first part whose end is not below the value, else of the last part
 abbrev pub child_at : ℕ → List (ℕ × ℕ) → ℕ → ℕ
 child_at d [] v = d
-child_at d (p ∷ ps) v = cond (leb v p.0) p.1 (child_at p.1 ps v)
+child_at d (p ∷ ps) v = cond (nat_le v p.0) p.1 (child_at p.1 ps v)
 
 -- node number i; past the nodes, an empty leaf
 abbrev pub node_at : List Node → ℕ → Node

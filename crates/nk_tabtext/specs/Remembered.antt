@@ -1,5 +1,5 @@
 -- The row that was put last, as a writer remembers it with its text.
-use Rattle.std.specs.Prelude.{◌≡◌, ℕ, ◌<◌, ◌≤◌, Bool, true, false, codes, IfSome, List, [], ◌∷◌, ◌++◌, map, take, length, get_or}
+use Rattle.std.specs.Prelude.{◌≡◌, ℕ, ◌<◌, ◌≤◌, Bool, true, false, codes, IfSome, List, [], ◌∷◌, ◌++◌, map, take, length, slice_index_or}
 use Rattle.std.specs.Fmt.{decimal}
 use Rattle.std.specs.List.{flat_map}
 use Rattle.nk_field.specs.Packet.{FieldTable}
@@ -31,7 +31,7 @@ pub record Remembers (fs : FieldTable) (ms : List (ℕ × ℕ × ℕ)) (l : Last
   -- their text
   pub text : l.text.items ≡ flat_map (match_text fs) ms
   -- each knows how long the text is before it
-  pub starts : (i : ℕ) (d : PrintedMatch) → i < length ms → (get_or l.matches.items i d).start ≡ length (flat_map (match_text fs) (take i ms))
+  pub starts : (i : ℕ) (d : PrintedMatch) → i < length ms → (slice_index_or l.matches.items i d).start ≡ length (flat_map (match_text fs) (take i ms))
 
 -- the line of a row up to what it does, by the text of its matches
 abbrev pub row_front_text : ℕ → List ℕ → List ℕ
