@@ -1,5 +1,5 @@
 -- A choice by a field between diagrams that test any fields.
-use Rattle.std.specs.Prelude.{◌≡◌, ℕ, ◌<◌, ◌≤◌, min, Bool, eqb, ◌&&◌, List, [], ◌∷◌, Some, slice_index}
+use Rattle.std.specs.Prelude.{◌≡◌, ◌==◌, ℕ, ◌<◌, ◌≤◌, min, Bool, ◌&&◌, List, [], ◌∷◌, Some, slice_index}
 use Rattle.std.specs.Map.{lookup}
 use Rattle.std.specs.Cmp.Lexicographic.{pointwise}
 use Rattle.nk_store.specs.Nodes.{child_at, Rises, Each}
@@ -37,7 +37,7 @@ pub record IsChosen (st : StoreState) (f : ℕ) (parts : List (ℕ × ℕ)) (d :
 
 -- whether two lists of parts are one
 abbrev pub parts_eq : List (ℕ × ℕ) → List (ℕ × ℕ) → Bool
-parts_eq ps qs = pointwise (λ p q. eqb p.0 q.0 && eqb p.1 q.1) ps qs
+parts_eq ps qs = pointwise (λ p q. p.0 == q.0 && p.1 == q.1) ps qs
 
 -- each entry leads from parts to the choice by f between them
 abbrev pub AreChosen : StoreState → ℕ → List (List (ℕ × ℕ) × ℕ) → Type 0

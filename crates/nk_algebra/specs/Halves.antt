@@ -1,5 +1,5 @@
 -- A choice by a field between diagrams that test any fields, by halves.
-use Rattle.std.specs.Prelude.{ℕ, zero, suc, ◌+◌, min, cond, nat_le, nat_lt, ◌&&◌, List, [], ◌∷◌, slice_index}
+use Rattle.std.specs.Prelude.{ℕ, zero, suc, ◌+◌, min, nat_le, nat_lt, ◌&&◌, List, [], ◌∷◌, if◌then◌else◌, slice_index}
 use Rattle.nk_store.specs.declared.node.Out.{Out}
 use Rattle.nk_store.specs.Nodes.{child_at}
 use Rattle.nk_store.specs.StoreState.{StoreState, look}
@@ -14,5 +14,5 @@ start low (p ∷ ps) (suc k) = start (p.0 + 1) ps k
 -- else nothing; a value past the highest counts as the highest
 abbrev pub chosen : StoreState → ℕ → List (ℕ × ℕ) → ℕ → ℕ → List ℕ → List Out
 chosen st f parts from to pk =
-    cond (nat_le (start 0 parts from) (min (slice_index pk f) (slice_index st.maxes f)) && nat_lt (min (slice_index pk f) (slice_index st.maxes f)) (start 0 parts to))
-    (look st (child_at 0 parts (slice_index pk f)) pk) []
+    if nat_le (start 0 parts from) (min (slice_index pk f) (slice_index st.maxes f)) && nat_lt (min (slice_index pk f) (slice_index st.maxes f)) (start 0 parts to)
+    then look st (child_at 0 parts (slice_index pk f)) pk else []

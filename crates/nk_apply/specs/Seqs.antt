@@ -1,6 +1,6 @@
 -- One diagram, then another one.
 pub use Rattle.nk_store.specs.Operations.{out_after, prefixed, seq_leaf}
-use Rattle.std.specs.Prelude.{ℕ, min, cond, nat_le, ◌&&◌, List, [], ◌∷◌, map, slice_index_or}
+use Rattle.std.specs.Prelude.{ℕ, min, nat_le, ◌&&◌, List, [], ◌∷◌, if◌then◌else◌, map, slice_index_or}
 use Rattle.nk_field.specs.Act.{applied}
 use Rattle.nk_store.specs.declared.node.Out.{Out}
 use Rattle.nk_store.specs.declared.node.Node.{Node}
@@ -30,4 +30,4 @@ outs_made outs seconds k = map (out_after (slice_index_or outs k no_out).act) se
 
 -- the packet itself where the field's value is from lo to hi, a value past the highest counting as it
 abbrev pub in_span : ℕ → ℕ → ℕ → ℕ → List Out
-in_span high lo hi v = cond (nat_le lo (min v high) && nat_le (min v high) hi) (no_out ∷ []) []
+in_span high lo hi v = if nat_le lo (min v high) && nat_le (min v high) hi then no_out ∷ [] else []

@@ -1,6 +1,6 @@
 -- Sums whose parts each begin with a test or a range of one field, as a choice by the field's value. An arm is an interval of the
 -- field's values and the diagram of what is done there (Dijkstra, CACM 1975: a guarded command).
-use Rattle.std.specs.Prelude.{◌≡◌, ℕ, ◌↔◌, true, cond, List, [], ◌∷◌, slice_index}
+use Rattle.std.specs.Prelude.{◌≡◌, ℕ, ◌↔◌, true, List, [], ◌∷◌, if◌then◌else◌, slice_index}
 use Rattle.std.specs.List.{Contains}
 use Rattle.nk_policy.specs.Policy.{Policy, assign}
 use Rattle.nk_policy.specs.Meaning.{Gives}
@@ -14,7 +14,7 @@ use Rattle.nk_auto.specs.Values.{is_between}
 -- the leaf of the first arm whose interval holds the value, else nothing
 abbrev pub arm_leaf : StoreState → List ((ℕ × ℕ) × ℕ) → ℕ → List ℕ → List Out
 arm_leaf st [] v pk = []
-arm_leaf st (x ∷ xs) v pk = cond (is_between v x.0) (look st x.1 pk) (arm_leaf st xs v pk)
+arm_leaf st (x ∷ xs) v pk = if is_between v x.0 then look st x.1 pk else arm_leaf st xs v pk
 
 -- without a record the policy ends where the field's value is in the interval, as the diagram says, which tests later fields alone
 pub record IsArm (st : StoreState) (f : ℕ) (x : (ℕ × ℕ) × ℕ) (p : Policy) : Type 0 where

@@ -1,5 +1,5 @@
 -- Packets by the values of one field.
-use Rattle.std.specs.Prelude.{◌≡◌, ℕ, ◌-◌, ◌↔◌, Bool, true, cond, nat_le, ◌&&◌, List, [], ◌∷◌, ◌++◌, slice_index}
+use Rattle.std.specs.Prelude.{◌≡◌, ℕ, ◌-◌, ◌↔◌, Bool, true, nat_le, ◌&&◌, List, [], ◌∷◌, ◌++◌, if◌then◌else◌, slice_index}
 use Rattle.std.specs.List.{list_any}
 use Rattle.nk_policy.specs.Policy.{Policy}
 use Rattle.nk_policy.specs.Meaning.{Gives}
@@ -22,7 +22,7 @@ HaveOneMore old new ends = (v : ℕ) → list_any (is_between v) new ≡ list_an
 
 -- the packet itself for a value in one of the intervals, nothing for another one
 abbrev pub value_leaf : List (ℕ × ℕ) → ℕ → List Out
-value_leaf intervals v = cond (list_any (is_between v) intervals) (no_out ∷ []) []
+value_leaf intervals v = if list_any (is_between v) intervals then no_out ∷ [] else []
 
 -- the diagram has one leaf for all packets
 pub record IsConstant (st : StoreState) (d : ℕ) (outs : List Out) : Type 0 where
@@ -31,7 +31,7 @@ pub record IsConstant (st : StoreState) (d : ℕ) (outs : List Out) : Type 0 whe
 
 -- the part for the values from low on that are below high, if there are any
 abbrev pub gap : ℕ → ℕ → ℕ → List (ℕ × ℕ)
-gap low high d = cond (nat_le high low) [] ((high - 1, d) ∷ [])
+gap low high d = if nat_le high low then [] else (high - 1, d) ∷ []
 
 -- the out of an assignment
 abbrev pub one_out : ℕ → ℕ → Out

@@ -1,5 +1,5 @@
 -- Which classes have rows at a switch, by the tags that come there; and which of these act for a class at which packets.
-use Rattle.std.specs.Prelude.{ℕ, zero, suc, ◌+◌, eqb, cond, Bool, false, List, [], ◌∷◌, ◌++◌, length, slice_index}
+use Rattle.std.specs.Prelude.{◌==◌, ℕ, zero, suc, ◌+◌, Bool, false, List, [], ◌∷◌, ◌++◌, if◌then◌else◌, length, slice_index}
 use Rattle.nk_switches.specs.declared.switch_tags.SwitchTags.{SwitchTags}
 use Rattle.nk_switches.specs.declared.switch_tags.ActingTag.{ActingTag}
 use Rattle.nk_switches.specs.declared.switch_tags.ClassHere.{ClassHere}
@@ -8,7 +8,7 @@ use Rattle.nk_switches.specs.declared.switch_tags.SwitchClasses.{SwitchClasses}
 -- whether the tag is of the class; tag 0 is of none
 abbrev pub is_of_class : List ℕ → ℕ → ℕ → Bool
 is_of_class classes c zero = false
-is_of_class classes c (suc i) = eqb (slice_index classes i) c
+is_of_class classes c (suc i) = slice_index classes i == c
 
 -- the packets that are met under the tag
 abbrev pub packets_of : List ℕ → ℕ → ℕ
@@ -19,7 +19,7 @@ packets_of met (suc i) = slice_index met i
 abbrev pub acting_of : List ℕ → List ℕ → ℕ → List ℕ → List ActingTag
 acting_of classes met c [] = []
 acting_of classes met c (t ∷ ts) =
-    cond (is_of_class classes c t) (record { tag = t; packets = packets_of met t } ∷ acting_of classes met c ts) (acting_of classes met c ts)
+    if is_of_class classes c t then record { tag = t; packets = packets_of met t } ∷ acting_of classes met c ts else acting_of classes met c ts
 
 -- the class, if some tag acts for it, with the tag of its first member for other packets
 abbrev pub class_among : List ActingTag → ℕ → ℕ → List ClassHere

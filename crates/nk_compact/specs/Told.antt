@@ -1,5 +1,5 @@
 -- What tells two classes apart, for any two in turn.
-use Rattle.std.specs.Prelude.{◌≡◌, ℕ, zero, suc, ◌<◌, nat_lt, cond, List, [], ◌∷◌, ◌++◌, length, slice_index, slice_index_or, All}
+use Rattle.std.specs.Prelude.{◌≡◌, ℕ, zero, suc, ◌<◌, nat_lt, List, [], ◌∷◌, ◌++◌, if◌then◌else◌, length, slice_index, slice_index_or, All}
 use Rattle.nk_store.specs.StoreState.{StoreState, Grows}
 use Rattle.nk_determ.specs.Sets.{SetsGrow}
 use Rattle.nk_determ.specs.Pairs.{AreLabelsBelow, AreStates}
@@ -31,7 +31,7 @@ pub record IsDistinguished (st : StoreState) (states : List ℕ) (ss : List (Lis
 -- the places below j after i, each beside i
 abbrev pub pairs_after : ℕ → ℕ → List (ℕ × ℕ)
 pairs_after i zero = []
-pairs_after i (suc j) = pairs_after i j ++ cond (nat_lt i j) ((i, j) ∷ []) []
+pairs_after i (suc j) = pairs_after i j ++ (if nat_lt i j then (i, j) ∷ [] else [])
 
 -- the rows of the first so many places
 abbrev pub first_pairs : ℕ → ℕ → List (ℕ × ℕ)

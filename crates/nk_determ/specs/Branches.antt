@@ -1,5 +1,5 @@
 -- The acts of a leaf, each with all its targets.
-use Rattle.std.specs.Prelude.{ℕ, cond, eqb, not, List, [], ◌∷◌, ◌++◌, filter, map}
+use Rattle.std.specs.Prelude.{◌==◌, ℕ, not, List, [], ◌∷◌, ◌++◌, if◌then◌else◌, filter, map}
 use Rattle.nk_field.specs.contracts.act.ActPartialEq.TheImpl.{ghosts}
 use Rattle.nk_store.specs.declared.node.Out.{Out}
 
@@ -19,7 +19,7 @@ begun g = record { act = g; targets = [] }
 -- a branch and the outs after it: outs that stand next to each other with one act are one branch
 abbrev pub runs : Branch → List Out → List Branch
 runs b [] = b ∷ []
-runs b (o ∷ os) = cond (ghosts.eq o.act b.act) (runs (with_target b o.target) os) (b ∷ runs (with_target (begun o.act) o.target) os)
+runs b (o ∷ os) = if ghosts.eq o.act b.act then runs (with_target b o.target) os else b ∷ runs (with_target (begun o.act) o.target) os
 
 -- the branches of a leaf's outs, after one that assigns nothing
 abbrev pub branches : List Out → List Branch
@@ -46,11 +46,11 @@ branch_of os = record { act = first_act os; targets = targets_in os }
 -- the targets of the outs with that act
 abbrev pub targets_of : List (ℕ × ℕ) → List Out → List ℕ
 targets_of g [] = []
-targets_of g (o ∷ os) = cond (ghosts.eq o.act g) (o.target ∷ targets_of g os) (targets_of g os)
+targets_of g (o ∷ os) = if ghosts.eq o.act g then o.target ∷ targets_of g os else targets_of g os
 
 -- the targets that are labels: 0 is the end
 abbrev pub labels : List ℕ → List ℕ
-labels ts = filter (λ t. not (eqb t 0)) ts
+labels ts = filter (λ t. not (t == 0)) ts
 
 -- the labels that record what the act makes
 abbrev pub labels_of : List (ℕ × ℕ) → List Out → List ℕ

@@ -1,5 +1,5 @@
 -- Sets of labels, each once.
-use Rattle.std.specs.Prelude.{◌≡◌, ℕ, ◌<◌, Bool, cond, nat_eq, List, [], ◌∷◌, ◌++◌, length, slice_index_or}
+use Rattle.std.specs.Prelude.{◌≡◌, ℕ, ◌<◌, Bool, nat_eq, List, [], ◌∷◌, ◌++◌, if◌then◌else◌, length, slice_index_or}
 use Rattle.std.specs.List.{list_any, position_or_len}
 use Rattle.std.specs.List.Sorted.{IsStrictlyIncreasing}
 use Rattle.std.specs.Cmp.Lexicographic.{pointwise}
@@ -14,7 +14,7 @@ holds sets labels = list_any (pointwise nat_eq labels) sets
 
 -- the sets with these labels, which go last where they are none of the sets
 abbrev pub with_set : List (List ℕ) → List ℕ → List (List ℕ)
-with_set sets labels = cond (holds sets labels) sets (sets ++ labels ∷ [])
+with_set sets labels = if holds sets labels then sets else sets ++ labels ∷ []
 
 -- the first place of these labels among the sets, or how many sets there are
 abbrev pub place_in : List (List ℕ) → List ℕ → ℕ

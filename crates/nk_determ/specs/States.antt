@@ -1,5 +1,5 @@
 -- The diagram of a set state.
-use Rattle.std.specs.Prelude.{◌≡◌, ◌↔◌, ℕ, ◌+◌, ◌<◌, ◌≤◌, true, cond, nat_eq, eqb, Some, List, [], ◌∷◌, ◌++◌, length, flat_map, slice_index, slice_index_or}
+use Rattle.std.specs.Prelude.{◌≡◌, ◌==◌, ◌↔◌, ℕ, ◌+◌, ◌<◌, ◌≤◌, true, nat_eq, Some, List, [], ◌∷◌, ◌++◌, if◌then◌else◌, length, flat_map, slice_index, slice_index_or}
 use Rattle.std.specs.List.{Contains, list_any}
 use Rattle.std.specs.Map.{lookup}
 use Rattle.nk_store.specs.declared.node.Out.{Out}
@@ -73,7 +73,7 @@ HasSets sets st d = (pk : List ℕ) → HasAll sets (look st d pk)
 
 -- the final act, where a target is 0
 abbrev pub final_of : List (ℕ × ℕ) → List ℕ → List Out
-final_of g targets = cond (list_any (λ t. eqb t 0) targets) (record { act = g; target = 0 } ∷ []) []
+final_of g targets = if list_any (λ t. t == 0) targets then record { act = g; target = 0 } ∷ [] else []
 
 -- the act to 1 + the number of the set of these labels, if there are any
 abbrev pub out_to_set : List (List ℕ) → List (ℕ × ℕ) → List ℕ → List Out

@@ -1,5 +1,5 @@
 -- Acts without the assignments to one field that don't change the packet.
-use Rattle.std.specs.Prelude.{◌≡◌, ℕ, map, min, Bool, true, cond, nat_eq, nat_lt, eqb, ◌&&◌, List, [], ◌∷◌, slice_index}
+use Rattle.std.specs.Prelude.{◌≡◌, ◌==◌, ℕ, map, min, Bool, true, nat_eq, nat_lt, ◌&&◌, List, [], ◌∷◌, if◌then◌else◌, slice_index}
 use Rattle.std.specs.List.{Contains, flat_map, list_any}
 use Rattle.nk_field.specs.Act.{left_without}
 use Rattle.nk_store.specs.declared.node.Out.{Out}
@@ -8,11 +8,11 @@ use Rattle.nk_store.specs.StoreState.{StoreState, look}
 
 -- whether the act assigns the value n to the field f
 abbrev pub assigns : ℕ → ℕ → List (ℕ × ℕ) → Bool
-assigns f n act = list_any (λ s. eqb s.0 f && eqb s.1 n) act
+assigns f n act = list_any (λ s. s.0 == f && s.1 == n) act
 
 -- the act without its assignments to the field f, if it assigns the value n to f, else the act itself
 abbrev pub act_without : ℕ → ℕ → List (ℕ × ℕ) → List (ℕ × ℕ)
-act_without f n act = cond (assigns f n act) (left_without f act) act
+act_without f n act = if assigns f n act then left_without f act else act
 
 -- the out with its act without that assignment
 abbrev pub out_without : ℕ → ℕ → Out → Out
@@ -31,8 +31,8 @@ leaf_changing maxes f pk os = leaf_without f (min (slice_index pk f) (slice_inde
 abbrev pub exact_below : ℕ → List ℕ → List ℕ → List (ℕ × ℕ) → List (ℕ × ℕ)
 exact_below k maxes pk [] = []
 exact_below k maxes pk (s ∷ ss) =
-    cond (nat_lt s.0 k && eqb (min (slice_index pk s.0) (slice_index maxes s.0)) s.1) (exact_below k maxes pk ss)
-    (s ∷ exact_below k maxes pk ss)
+    if nat_lt s.0 k && min (slice_index pk s.0) (slice_index maxes s.0) == s.1 then exact_below k maxes pk ss
+    else s ∷ exact_below k maxes pk ss
 
 -- the out with those assignments
 abbrev pub out_below : ℕ → List ℕ → List ℕ → Out → Out
@@ -44,7 +44,7 @@ split_below k maxes pk os = gathered (λ o. out_below k maxes pk o ∷ []) os
 
 -- what the act assigns to the field f
 abbrev pub act_values : ℕ → List (ℕ × ℕ) → List ℕ
-act_values f act = flat_map (λ s. cond (eqb s.0 f) (s.1 ∷ []) []) act
+act_values f act = flat_map (λ s. if s.0 == f then s.1 ∷ [] else []) act
 
 -- what the acts of a leaf assign to the field f
 abbrev pub leaf_values : ℕ → List Out → List ℕ

@@ -1,5 +1,5 @@
 -- The ways through a diagram of the store, node by node, and what a way's row is. The else-child is found by number.
-use Rattle.std.specs.Prelude.{◌≡◌, ℕ, ◌<◌, ◌≤◌, ◌==◌, ◌||◌, Bool, false, not, min, cond, eqb, if◌then◌else◌, List, [], ◌∷◌, ◌++◌, length, map, filter, slice_index}
+use Rattle.std.specs.Prelude.{◌≡◌, ℕ, ◌<◌, ◌≤◌, ◌==◌, ◌||◌, Bool, false, not, min, if◌then◌else◌, List, [], ◌∷◌, ◌++◌, length, map, filter, slice_index}
 use Rattle.std.specs.List.{flat_map}
 use Rattle.nk_store.specs.ElseChild.{Span, spans, else_of}
 use Rattle.nk_field.specs.Act.{act_then, left_without}
@@ -48,8 +48,8 @@ node_ways maxes tag (Case f parts) drops ways =
 abbrev pub ways_in : List ℕ → ℕ → List Node → ℕ → List Path
 ways_in maxes tag [] i = []
 ways_in maxes tag (n ∷ older) i =
-    cond (eqb i (length older)) (node_ways maxes tag n (λ c. is_empty_leaf (node_at older c)) (λ c. ways_in maxes tag older c))
-    (ways_in maxes tag older i)
+    if i == length older then node_ways maxes tag n (λ c. is_empty_leaf (node_at older c)) (λ c. ways_in maxes tag older c)
+    else ways_in maxes tag older i
 
 -- the ways of a diagram of the store
 unfoldable pub ways : ℕ → StoreState → ℕ → List Path

@@ -1,5 +1,5 @@
 -- Classes by an equivalence, numbered from 1 by their first members.
-use Rattle.std.specs.Prelude.{◌≡◌, ℕ, suc, ◌<◌, ◌≤◌, ◌↔◌, cond, eqb, List, [], ◌∷◌, ◌++◌, length, slice_index}
+use Rattle.std.specs.Prelude.{◌≡◌, ◌==◌, ℕ, suc, ◌<◌, ◌≤◌, ◌↔◌, List, [], ◌∷◌, ◌++◌, if◌then◌else◌, length, slice_index}
 
 -- of so many things the number of each one's class
 pub record AreClasses (Alike : ℕ → ℕ → Type 0) (count : ℕ) (numbers : List ℕ) : Type 0 where
@@ -23,4 +23,4 @@ pub record IsEquivalence (Alike : ℕ → ℕ → Type 0) : Type 0 where
 
 -- the first members with the next one, where it is of the class after all others
 abbrev pub with_first_member : List ℕ → ℕ → ℕ → List ℕ
-with_first_member firsts i c = cond (eqb c (length firsts)) (firsts ++ i ∷ []) firsts
+with_first_member firsts i c = if c == length firsts then firsts ++ i ∷ [] else firsts

@@ -1,5 +1,5 @@
 -- Which packets of a diagram have which out.
-use Rattle.std.specs.Prelude.{◌≡◌, ℕ, ◌-◌, ◌<◌, ◌≤◌, cond, nat_eq, nat_le, true, List, [], ◌∷◌, ◌++◌, Option, Some, None, map, length, slice_index, slice_index_or, Contains}
+use Rattle.std.specs.Prelude.{◌≡◌, ℕ, ◌-◌, ◌<◌, ◌≤◌, nat_eq, nat_le, true, List, [], ◌∷◌, ◌++◌, if◌then◌else◌, Option, Some, None, map, length, slice_index, slice_index_or, Contains}
 use Rattle.std.specs.Map.{lookup}
 use Rattle.nk_store.specs.declared.node.Out.{Out}
 use Rattle.nk_store.specs.Leaves.{Suits}
@@ -117,7 +117,7 @@ pub record IsNone (st : StoreState) (d : ℕ) : Type 0 where
 
 -- the parts, with one of no packets for the values from next up to a value
 abbrev pub with_gap : ℕ → ℕ → ℕ → List (ℕ × ℕ) → List (ℕ × ℕ)
-with_gap next none from parts = cond (nat_le from next) parts (parts ++ (from - 1, none) ∷ [])
+with_gap next none from parts = if nat_le from next then parts else parts ++ (from - 1, none) ∷ []
 
 -- the parts, with the stretch's one after them, and what is between of no packets
 abbrev pub with_stretch : ℕ → ℕ → Stretch → List (ℕ × ℕ) → List (ℕ × ℕ)

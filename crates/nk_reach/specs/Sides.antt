@@ -2,7 +2,7 @@
 -- ends and 2 where the right side does, and its act assigns exactly the fields that it changes, so that equal packets come
 -- of equal acts.
 pub use Rattle.nk_determ.specs.Counterexamples.{MakesWithTarget}
-use Rattle.std.specs.Prelude.{◌≡◌, ℕ, ◌<◌, ◌⊎◌, ◌↔◌, Bool, true, false, nat_lt, nat_eq, eqb, cond, List, [], ◌∷◌, Some, length, slice_index, Contains}
+use Rattle.std.specs.Prelude.{◌≡◌, ◌==◌, ℕ, ◌<◌, ◌⊎◌, ◌↔◌, Bool, true, false, nat_lt, nat_eq, eqb, cond, List, [], ◌∷◌, if◌then◌else◌, Some, length, slice_index, Contains}
 use Rattle.std.specs.List.{list_any}
 use Rattle.std.specs.Map.{lookup}
 use Rattle.std.proofs.Common.{inl, inr, refl, sym, ap, ◌∙◌}
@@ -19,11 +19,11 @@ use Rattle.nk_determ.specs.Pairs.{AreLabelsBelow}
 
 -- the end of the other side with the same act
 abbrev pub twin : Out → Out
-twin o = record { act = o.act; target = cond (eqb o.target 1) 2 1 }
+twin o = record { act = o.act; target = if o.target == 1 then 2 else 1 }
 
 -- an end that the other side has not: 0 on the left, 1 on the right
 abbrev pub alone_out : List Out → Out → List Out
-alone_out outs o = cond (list_any (λ p. ghosts.eq p (twin o)) outs) [] (record { act = o.act; target = cond (eqb o.target 1) 0 1 } ∷ [])
+alone_out outs o = if list_any (λ p. ghosts.eq p (twin o)) outs then [] else record { act = o.act; target = if o.target == 1 then 0 else 1 } ∷ []
 
 -- the ends that one side alone has
 abbrev pub alone : List Out → List Out
@@ -106,7 +106,7 @@ AreFinalsOfSide st mark entries = (state r : ℕ) → lookup (nat_eq state) entr
 
 -- the mark of a label's side: labels below the bound are of the left side
 abbrev pub label_side : ℕ → ℕ → ℕ
-label_side bound l = cond (nat_lt l bound) 1 2
+label_side bound l = if nat_lt l bound then 1 else 2
 
 -- the marked ends of each of the first n labels: of both starts at label 0, of the states from 1 on
 pub record AreSideFinals (old : StoreState) (states : List ℕ) (left right bound n : ℕ) (new : StoreState) (ends : List ℕ) : Type 0 where

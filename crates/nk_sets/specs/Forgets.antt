@@ -1,5 +1,5 @@
 -- A field forgotten: the packets that are in a set for some value of the field (quantification over a field).
-use Rattle.std.specs.Prelude.{◌≡◌, ℕ, zero, suc, ◌≤◌, ◌||◌, nat_eq, Bool, cond, List, [], ◌∷◌, Some, slice_index, slice_set, map}
+use Rattle.std.specs.Prelude.{◌≡◌, ℕ, zero, suc, ◌≤◌, ◌||◌, nat_eq, Bool, List, [], ◌∷◌, if◌then◌else◌, Some, slice_index, slice_set, map}
 use Rattle.std.specs.Map.{lookup}
 use Rattle.nk_store.specs.declared.node.Out.{Out}
 use Rattle.nk_store.specs.StoreState.{StoreState, root_field, HasLeaves, IsCase}
@@ -17,7 +17,7 @@ is_in_for_some st f s pk = some_value (λ v. is_in st s (slice_set pk f v)) (sli
 
 -- the packet itself where it is
 abbrev pub forgotten : StoreState → ℕ → ℕ → List ℕ → List Out
-forgotten st f s pk = cond (is_in_for_some st f s pk) (no_out ∷ []) []
+forgotten st f s pk = if is_in_for_some st f s pk then no_out ∷ [] else []
 
 -- r is the set s with the field forgotten; it tests no field before those of s
 pub record IsForgotten (st : StoreState) (f s r : ℕ) : Type 0 where

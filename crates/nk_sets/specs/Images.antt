@@ -1,5 +1,5 @@
 -- The two halves of what an act makes of a set: its fields forgotten, and its values tested.
-use Rattle.std.specs.Prelude.{◌≡◌, ◌≢◌, ℕ, ◌&&◌, eqb, min, Bool, true, List, [], ◌∷◌, slice_index}
+use Rattle.std.specs.Prelude.{◌≡◌, ◌==◌, ◌≢◌, ℕ, ◌&&◌, min, Bool, true, List, [], ◌∷◌, slice_index}
 use Rattle.nk_store.specs.StoreState.{StoreState, IsStorePacket}
 use Rattle.nk_sets.specs.PacketSets.{is_in, IsSet}
 
@@ -25,4 +25,4 @@ pub record IsFree (old : StoreState) (g : List (ℕ × ℕ)) (s : ℕ) (new : St
 -- whether a packet has the values that are assigned, a value past the highest counting as it
 abbrev pub are_assigned : List ℕ → List (ℕ × ℕ) → List ℕ → Bool
 are_assigned maxes [] pk = true
-are_assigned maxes (s ∷ ss) pk = eqb (min (slice_index pk s.0) (slice_index maxes s.0)) s.1 && are_assigned maxes ss pk
+are_assigned maxes (s ∷ ss) pk = min (slice_index pk s.0) (slice_index maxes s.0) == s.1 && are_assigned maxes ss pk

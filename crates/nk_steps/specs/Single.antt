@@ -1,5 +1,5 @@
 -- The steps of diagrams whose leaves have one label each at most.
-use Rattle.std.specs.Prelude.{◌≡◌, ℕ, ◌+◌, ◌<◌, ◌≤◌, true, cond, nat_eq, eqb, Some, List, [], ◌∷◌, flat_map, Contains}
+use Rattle.std.specs.Prelude.{◌≡◌, ◌==◌, ℕ, ◌+◌, ◌<◌, ◌≤◌, true, nat_eq, Some, List, [], ◌∷◌, if◌then◌else◌, flat_map, Contains}
 use Rattle.std.specs.Map.{lookup}
 use Rattle.nk_store.specs.declared.node.Out.{Out}
 use Rattle.nk_store.specs.Leaves.{Strict, Every, Suits}
@@ -10,7 +10,7 @@ use Rattle.nk_determ.specs.Sets.{SetsGrow, holds, place_in}
 
 -- the out to that target, unless it is a final
 abbrev pub step_to : ℕ → Out → List Out
-step_to target o = cond (eqb o.target 0) [] (record { act = o.act; target = target } ∷ [])
+step_to target o = if o.target == 0 then [] else record { act = o.act; target = target } ∷ []
 
 -- the outs that are no finals, each to 1 + the number of the set of its label alone
 abbrev pub single_to : List (List ℕ) → List Out → List Out
@@ -19,7 +19,7 @@ single_to sets outs = flat_map (λ o. step_to (place_in sets (o.target ∷ []) +
 -- the first label among the targets; 0 where all are finals
 abbrev pub first_label : List Out → ℕ
 first_label [] = 0
-first_label (o ∷ os) = cond (eqb o.target 0) (first_label os) o.target
+first_label (o ∷ os) = if o.target == 0 then first_label os else o.target
 
 -- the leaf has one label at most, and the set of it alone is one of the sets
 pub record IsSingleIn (sets : List (List ℕ)) (outs : List Out) : Type 0 where

@@ -1,6 +1,6 @@
 -- Tables where tags share numbers, those of their classes: at each switch the rows of each class that comes there, and at each
 -- packet one of its tags acts for a class.
-use Rattle.std.specs.Prelude.{◌≡◌, ℕ, zero, suc, ◌≤◌, cond, Option, Some, None, List, [], ◌∷◌, length, take, slice_index, slice_set, All}
+use Rattle.std.specs.Prelude.{◌≡◌, ℕ, zero, suc, ◌≤◌, Option, Some, None, List, [], ◌∷◌, if◌then◌else◌, length, take, slice_index, slice_set, All}
 use Rattle.nk_store.specs.StoreState.{StoreState, IsId, IsWhole, IsStorePacket, look}
 use Rattle.nk_store.specs.Diagram.{IsReduced, IsFreeOf, leaf_at}
 use Rattle.nk_apply.specs.PacketSets.{is_in}
@@ -25,7 +25,7 @@ class_of classes (suc t) = slice_index classes t
 -- of these tags the first one at whose packets the packet is, its tag set to 0; the other one where it is at those of none
 abbrev pub acting_tag : StoreState → ℕ → List ActingTag → ℕ → List ℕ → ℕ
 acting_tag st tag [] other pk = other
-acting_tag st tag (a ∷ more) other pk = cond (is_in st a.packets (slice_set pk tag 0)) a.tag (acting_tag st tag more other pk)
+acting_tag st tag (a ∷ more) other pk = if is_in st a.packets (slice_set pk tag 0) then a.tag else acting_tag st tag more other pk
 
 -- from pk the states lead to y with a tag whose class has this number
 abbrev pub LeadsTo : StoreState → List (List ℕ) → List ℕ → List ℕ → List ℕ → List ℕ → List ℕ → List ℕ → ℕ → Type 0
@@ -91,7 +91,7 @@ HaveClasses st ss count tags s = All (HaveActing st ss count tags) s.classes
 pub record IsInFront (st : StoreState) (tag : ℕ) (a : ActingTag) (e rest d : ℕ) : Type 0 where
   pub id : IsId st d
   pub packets : IsId st a.packets
-  pub leaf : (pk : List ℕ) → IsWhole pk → look st d pk ≡ cond (is_in st a.packets (slice_set pk tag 0)) (look st e pk) (look st rest pk)
+  pub leaf : (pk : List ℕ) → IsWhole pk → look st d pk ≡ (if is_in st a.packets (slice_set pk tag 0) then look st e pk else look st rest pk)
 
 -- the diagram does at each packet of the switch what the states of the tag that acts there do
 abbrev pub IsActingState : StoreState → List (List ℕ) → List ℕ → List ℕ → ℕ → ℕ → List ActingTag → ℕ → ℕ → Type 0
