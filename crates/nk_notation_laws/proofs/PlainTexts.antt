@@ -287,7 +287,7 @@ left_prefix a b rest la lb stops next =
 pub left_colon : (rest : List ℕ) → StopsAt is_run_byte rest → Left rest → Left (58 ∷ rest)
 left_colon rest stops next = left_run (58 ∷ []) rest (refl, refl) refl refl colon_still stops next
 
--- behind the word `field` a name may stand, and behind the name the size of the field
+-- after the word `field` a name may stand, and after the name the size of the field
 abbrev AtField : Inward → Type 0
 AtField r = r.place ≡ place.Field
 
