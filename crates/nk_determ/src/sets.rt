@@ -127,8 +127,8 @@ impl Sets {
     }
 
     /// The number that `intern` gives, for callers whose sets grow further: it is the first place of these
-    /// labels in each list of sets that these grow to, and one more than it fits in 64 bits, as a target
-    /// needs. The only error is that memory ran out; then it is only said that no set is lost.
+    /// labels in each list of sets that these grow to. The number after it fits in 64 bits, as a target
+    /// needs. The only error is that memory ran out; no set is lost then.
     pub fn put(&mut self, labels: List<u64>) -> Result<SetId, AllocError>
         requires { IsStrictlyIncreasing labels }
         ensures grows { SetsGrow self.old self.new }
