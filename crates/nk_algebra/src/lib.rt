@@ -15,7 +15,7 @@ pub use again::second_calls;
 pub use aims::{aim, assign};
 pub use choices::choose;
 pub use nk_apply::{
-    Join, LeafMap, NodeMap, both, empty, first_field, identity, known, map_leaves, map_nodes,
+    Join, LeafMap, Memo, NodeMap, both, empty, first_field, identity, known, map_leaves, map_nodes,
     merge, negate, part_at, part_near, range, restrict, shift, span, test, tested, union,
     union_all,
 };

@@ -18,3 +18,4 @@ pub mod Shorts
 pub mod PartSums
 pub mod AtOnce
 pub mod Intervals
+pub mod Memos

@@ -7,11 +7,11 @@ ghost use Rattle.nk_store.specs.StoreState.{IsId, look, root_field, Grows, HasLe
 ghost use Rattle.nk_apply.specs.Cofactors.{cofactor, IsSplit};
 ghost use Rattle.nk_apply.specs.MadeOf.{IsMadeOf, AreMadeOf};
 
+use crate::memo::Memo;
 use crate::part::{part_count, part_near};
 use nk_field::{Fid, List};
 use nk_store::{Id, Node, Store};
 use std::alloc::AllocError;
-use std::collections::HashMap;
 
 /// A change of diagrams that keeps the fields before some place: what is made of a diagram at a packet comes from the
 /// leaf that it has at a packet with the same values of those fields.
@@ -89,7 +89,7 @@ fn map_below<M: NodeMap>(st: &mut Store, m: &M, g: Fid, d: Id) -> Result<Id, All
         (λ pk. M.made m.now st.old.maxes pk (look st.old d (M.taken m.now pk)))) }
     ensures later { IfOk result (λ r. M.first m.now (root_field st.old d) ≤ root_field st.new r) }
 {
-    let mut seen = HashMap::new(st.alloc());
+    let mut seen = Memo::new(st.alloc());
     walk_node(st, &mut seen, m, g, d)
 }
 
@@ -97,21 +97,21 @@ fn map_below<M: NodeMap>(st: &mut Store, m: &M, g: Fid, d: Id) -> Result<Id, All
 #[cycle(walk)]
 fn walk_once<M: NodeMap>(
     st: &mut Store,
-    seen: &mut HashMap<Id, Id>,
+    seen: &mut Memo<Id>,
     m: &M,
     d: Id,
 ) -> Result<Id, AllocError>
     requires id { IsId st.old d }
     requires allowed { M.allowed m.now st.old.maxes }
     requires seen { AreMadeOf (M.taken m.now) (M.made m.now)
-        (M.first m.now) st.old seen.old.entries }
+        (M.first m.now) st.old seen.old }
     ensures grows { Grows st.old st.new }
     ensures ok { IfOk result
         (λ r. HasLeaves st.new r
         (λ pk. M.made m.now st.old.maxes pk (look st.old d (M.taken m.now pk)))) }
     ensures later { IfOk result (λ r. M.first m.now (root_field st.old d) ≤ root_field st.new r) }
     ensures seen { OnOk result
-        (AreMadeOf (M.taken m.now) (M.made m.now) (M.first m.now) st.new seen.new.entries) }
+        (AreMadeOf (M.taken m.now) (M.made m.now) (M.first m.now) st.new seen.new) }
 {
     match first_before(st, d, m.place()) {
         None => walk_end(st, seen, m, d),
@@ -133,24 +133,19 @@ fn first_before(st: &Store, d: Id, place: usize) -> Option<Fid>
 }
 
 /// What is made of a diagram that tests none of the kept fields, which is looked up where it was made before.
-fn walk_end<M: NodeMap>(
-    st: &mut Store,
-    seen: &mut HashMap<Id, Id>,
-    m: &M,
-    d: Id,
-) -> Result<Id, AllocError>
+fn walk_end<M: NodeMap>(st: &mut Store, seen: &mut Memo<Id>, m: &M, d: Id) -> Result<Id, AllocError>
     requires id { IsId st.old d }
     requires past { M.kept m.now ≤ root_field st.old d }
     requires allowed { M.allowed m.now st.old.maxes }
     requires seen { AreMadeOf (M.taken m.now) (M.made m.now)
-        (M.first m.now) st.old seen.old.entries }
+        (M.first m.now) st.old seen.old }
     ensures grows { Grows st.old st.new }
     ensures ok { IfOk result
         (λ r. HasLeaves st.new r
         (λ pk. M.made m.now st.old.maxes pk (look st.old d (M.taken m.now pk)))) }
     ensures later { IfOk result (λ r. M.first m.now (root_field st.old d) ≤ root_field st.new r) }
     ensures seen { OnOk result
-        (AreMadeOf (M.taken m.now) (M.made m.now) (M.first m.now) st.new seen.new.entries) }
+        (AreMadeOf (M.taken m.now) (M.made m.now) (M.first m.now) st.new seen.new) }
 {
     if m.is_quick() {
         return m.change(st, d);
@@ -163,18 +158,18 @@ fn walk_end<M: NodeMap>(
     Ok(r)
 }
 
-/// What a table has for a diagram, if anything.
-pub fn known(seen: &HashMap<Id, Id>, d: Id) -> Option<Id>
-    ensures { result ≡ lookup (nat_eq d) seen.now.entries }
+/// What was made of a diagram, if it was visited before.
+pub fn known(seen: &Memo<Id>, d: Id) -> Option<Id>
+    ensures { result ≡ lookup (nat_eq d) seen.now }
 {
-    seen.get(&d).copied()
+    seen.get(d).copied()
 }
 
 /// What is made of a diagram that tests a field which is kept, which is looked up where it was made before.
 #[cycle(walk)]
 fn walk_case<M: NodeMap>(
     st: &mut Store,
-    seen: &mut HashMap<Id, Id>,
+    seen: &mut Memo<Id>,
     m: &M,
     g: Fid,
     d: Id,
@@ -186,14 +181,14 @@ fn walk_case<M: NodeMap>(
     requires split { IsSplit st.old g d }
     requires allowed { M.allowed m.now st.old.maxes }
     requires seen { AreMadeOf (M.taken m.now) (M.made m.now)
-        (M.first m.now) st.old seen.old.entries }
+        (M.first m.now) st.old seen.old }
     ensures grows { Grows st.old st.new }
     ensures ok { IfOk result
         (λ r. HasLeaves st.new r
         (λ pk. M.made m.now st.old.maxes pk (look st.old d (M.taken m.now pk)))) }
     ensures later { IfOk result (λ r. M.first m.now (root_field st.old d) ≤ root_field st.new r) }
     ensures seen { OnOk result
-        (AreMadeOf (M.taken m.now) (M.made m.now) (M.first m.now) st.new seen.new.entries) }
+        (AreMadeOf (M.taken m.now) (M.made m.now) (M.first m.now) st.new seen.new) }
 {
     if let Some(r) = known(seen, d) {
         return Ok(r);
@@ -207,7 +202,7 @@ fn walk_case<M: NodeMap>(
 #[cycle(walk)]
 fn walk_node<M: NodeMap>(
     st: &mut Store,
-    seen: &mut HashMap<Id, Id>,
+    seen: &mut Memo<Id>,
     m: &M,
     g: Fid,
     d: Id,
@@ -219,14 +214,14 @@ fn walk_node<M: NodeMap>(
     requires split { IsSplit st.old g d }
     requires allowed { M.allowed m.now st.old.maxes }
     requires seen { AreMadeOf (M.taken m.now) (M.made m.now)
-        (M.first m.now) st.old seen.old.entries }
+        (M.first m.now) st.old seen.old }
     ensures grows { Grows st.old st.new }
     ensures ok { IfOk result
         (λ r. HasLeaves st.new r
         (λ pk. M.made m.now st.old.maxes pk (look st.old d (M.taken m.now pk)))) }
     ensures later { IfOk result (λ r. M.first m.now (root_field st.old d) ≤ root_field st.new r) }
     ensures seen { OnOk result
-        (AreMadeOf (M.taken m.now) (M.made m.now) (M.first m.now) st.new seen.new.entries) }
+        (AreMadeOf (M.taken m.now) (M.made m.now) (M.first m.now) st.new seen.new) }
 {
     m.laws();
     let parts = walk_parts(st, seen, m, g, d)?;
@@ -237,7 +232,7 @@ fn walk_node<M: NodeMap>(
 #[cycle(walk)]
 fn walk_parts<M: NodeMap>(
     st: &mut Store,
-    seen: &mut HashMap<Id, Id>,
+    seen: &mut Memo<Id>,
     m: &M,
     g: Fid,
     d: Id,
@@ -249,7 +244,7 @@ fn walk_parts<M: NodeMap>(
     requires split { IsSplit st.old g d }
     requires allowed { M.allowed m.now st.old.maxes }
     requires seen { AreMadeOf (M.taken m.now) (M.made m.now)
-        (M.first m.now) st.old seen.old.entries }
+        (M.first m.now) st.old seen.old }
     ensures grows { Grows st.old st.new }
     ensures parts { IfOk result (λ ps. AreParts st.new g ps) }
     ensures ok { IfOk result
@@ -257,7 +252,7 @@ fn walk_parts<M: NodeMap>(
         → look st.new (child_at 0 ps v) pk
         ≡ M.made m.now st.old.maxes pk (look st.old (cofactor st.old g v d) (M.taken m.now pk))) }
     ensures seen { OnOk result
-        (AreMadeOf (M.taken m.now) (M.made m.now) (M.first m.now) st.new seen.new.entries) }
+        (AreMadeOf (M.taken m.now) (M.made m.now) (M.first m.now) st.new seen.new) }
 {
     m.laws();
     let max = st.max(g);
@@ -284,7 +279,7 @@ fn walk_parts<M: NodeMap>(
 #[cycle(walk)]
 fn walk_part<M: NodeMap>(
     st: &mut Store,
-    seen: &mut HashMap<Id, Id>,
+    seen: &mut Memo<Id>,
     m: &M,
     before: Option<(Id, Id)>,
     d: Id,
@@ -294,14 +289,14 @@ fn walk_part<M: NodeMap>(
     requires before { IfSome before
         (λ x. IsMadeOf (M.taken m.now) (M.made m.now) (M.first m.now) st.old x.0 x.1) }
     requires seen { AreMadeOf (M.taken m.now) (M.made m.now)
-        (M.first m.now) st.old seen.old.entries }
+        (M.first m.now) st.old seen.old }
     ensures grows { Grows st.old st.new }
     ensures ok { IfOk result
         (λ r. HasLeaves st.new r
         (λ pk. M.made m.now st.old.maxes pk (look st.old d (M.taken m.now pk)))) }
     ensures later { IfOk result (λ r. M.first m.now (root_field st.old d) ≤ root_field st.new r) }
     ensures seen { OnOk result
-        (AreMadeOf (M.taken m.now) (M.made m.now) (M.first m.now) st.new seen.new.entries) }
+        (AreMadeOf (M.taken m.now) (M.made m.now) (M.first m.now) st.new seen.new) }
 {
     if let Some(r) = made_before(before, d) {
         return Ok(r);

@@ -6,13 +6,12 @@ ghost use Rattle.nk_sets.specs.PacketSets.{IsSet};
 ghost use Rattle.nk_determ.specs.Targets.{retargeted};
 ghost use Rattle.nk_compile.specs.WrongEnds.{IsEndOf, AreEndsOf, HaveEndsOf, wrong_leaf, ends_on, wrong_on, wrong_sided};
 
-use nk_algebra::{known, seq, union_all};
+use nk_algebra::{Memo, known, seq, union_all};
 use nk_determ::{SetId, Sets, retarget};
 use nk_field::List;
 use nk_goal::Goal;
 use nk_store::{Id, Store};
 use std::alloc::{AllocError, Global};
-use std::collections::HashMap;
 
 /// For each state of an automaton the ends that it must not have: those at packets of a set.
 pub struct WrongEnds {
@@ -99,7 +98,7 @@ fn ends_of(st: &mut Store, states: &[Id], set: Id) -> Result<List<Id>, AllocErro
     ensures grows { Grows st.old st.new }
     ensures ends { IfOk result (HaveEndsOf st.new set states.now) }
 {
-    let mut seen = HashMap::new(st.alloc());
+    let mut seen = Memo::new(st.alloc());
     let mut ends = List::new(st.alloc());
     for state in states {
         let d = end_once(st, &mut seen, *state, set)?;
@@ -109,18 +108,13 @@ fn ends_of(st: &mut Store, states: &[Id], set: Id) -> Result<List<Id>, AllocErro
 }
 
 /// A state's ends in the set, which are looked up where they were made before.
-fn end_once(
-    st: &mut Store,
-    seen: &mut HashMap<Id, Id>,
-    state: Id,
-    set: Id,
-) -> Result<Id, AllocError>
+fn end_once(st: &mut Store, seen: &mut Memo<Id>, state: Id, set: Id) -> Result<Id, AllocError>
     requires state { IsId st.old state }
     requires set { IsId st.old set }
-    requires seen { AreEndsOf st.old set seen.old.entries }
+    requires seen { AreEndsOf st.old set seen.old }
     ensures grows { Grows st.old st.new }
     ensures end { IfOk result (IsEndOf st.new set state) }
-    ensures seen { OnOk result (AreEndsOf st.new set seen.new.entries) }
+    ensures seen { OnOk result (AreEndsOf st.new set seen.new) }
 {
     if let Some(r) = known(seen, state) {
         return Ok(r);

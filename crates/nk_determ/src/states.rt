@@ -15,11 +15,10 @@ ghost use Rattle.nk_determ.specs.States.{SomeSends, SomeLeads, IsRegrouped, AreR
 use crate::branches::{are_final, is_ended, labels_in, run_length};
 use crate::sets::{SetId, Sets};
 use crate::splits::split;
-use nk_apply::{known, part_count, part_near, tested, union_all};
+use nk_apply::{Memo, known, part_count, part_near, tested, union_all};
 use nk_field::{Fid, List};
 use nk_store::{Id, Node, Out, Store};
 use std::alloc::{AllocError, Global};
-use std::collections::HashMap;
 
 /// For how many outs of a regrouped leaf there is room at first: mostly many outs go together.
 const FIRST_ROOM: usize = 4;
@@ -164,25 +163,20 @@ pub fn regroup(st: &mut Store, ss: &mut Sets, d: Id) -> Result<Id, AllocError>
     ensures sets { SetsGrow ss.old ss.new }
     ensures ok { IfOk result (λ r. IsRegrouped st.old d st.new ss.new r) }
 {
-    let mut seen = HashMap::new(st.alloc());
+    let mut seen = Memo::new(st.alloc());
     regroup_new(st, ss, &mut seen, d)
 }
 
 /// The diagram with the outs of each act to the set of all labels of the act, which is looked up where it was made before.
 #[cycle(regroup)]
-fn regroup_once(
-    st: &mut Store,
-    ss: &mut Sets,
-    seen: &mut HashMap<Id, Id>,
-    d: Id,
-) -> Result<Id, AllocError>
+fn regroup_once(st: &mut Store, ss: &mut Sets, seen: &mut Memo<Id>, d: Id) -> Result<Id, AllocError>
     requires id { IsId st.old d }
-    requires seen { AreRegrouped st.old ss.old seen.old.entries }
+    requires seen { AreRegrouped st.old ss.old seen.old }
     ensures grows { Grows st.old st.new }
     ensures sets { SetsGrow ss.old ss.new }
     ensures ok { IfOk result (λ r. IsRegrouped st.old d st.new ss.new r) }
     ensures later { IfOk result (λ r. root_field st.old d ≤ root_field st.new r) }
-    ensures seen { OnOk result (AreRegrouped st.new ss.new seen.new.entries) }
+    ensures seen { OnOk result (AreRegrouped st.new ss.new seen.new) }
 {
     if let Some(r) = known(seen, d) {
         return Ok(r);
@@ -194,19 +188,14 @@ fn regroup_once(
 
 /// The diagram with the outs of each act to the set of all labels of the act, made anew.
 #[cycle(regroup)]
-fn regroup_new(
-    st: &mut Store,
-    ss: &mut Sets,
-    seen: &mut HashMap<Id, Id>,
-    d: Id,
-) -> Result<Id, AllocError>
+fn regroup_new(st: &mut Store, ss: &mut Sets, seen: &mut Memo<Id>, d: Id) -> Result<Id, AllocError>
     requires id { IsId st.old d }
-    requires seen { AreRegrouped st.old ss.old seen.old.entries }
+    requires seen { AreRegrouped st.old ss.old seen.old }
     ensures grows { Grows st.old st.new }
     ensures sets { SetsGrow ss.old ss.new }
     ensures ok { IfOk result (λ r. IsRegrouped st.old d st.new ss.new r) }
     ensures later { IfOk result (λ r. root_field st.old d ≤ root_field st.new r) }
-    ensures seen { OnOk result (AreRegrouped st.new ss.new seen.new.entries) }
+    ensures seen { OnOk result (AreRegrouped st.new ss.new seen.new) }
 {
     match tested(st, d) {
         None => regroup_leaf(st, ss, d),
@@ -222,7 +211,7 @@ fn regroup_new(
 fn regroup_parts(
     st: &mut Store,
     ss: &mut Sets,
-    seen: &mut HashMap<Id, Id>,
+    seen: &mut Memo<Id>,
     f: Fid,
     d: Id,
 ) -> Result<List<(u64, Id)>, AllocError>
@@ -230,7 +219,7 @@ fn regroup_parts(
     requires field { f < 18 }
     requires first { root_field st.old d ≡ f }
     requires split { IsSplit st.old f d }
-    requires seen { AreRegrouped st.old ss.old seen.old.entries }
+    requires seen { AreRegrouped st.old ss.old seen.old }
     ensures grows { Grows st.old st.new }
     ensures sets { SetsGrow ss.old ss.new }
     ensures parts { IfOk result (λ ps. AreParts st.new f ps) }
@@ -240,7 +229,7 @@ fn regroup_parts(
         look st.new (child_at 0 ps v) pk
         ≡ regrouped later (look st.old (cofactor st.old f v d) pk)) }
     ensures held { OnOk result (HasSets ss.new st.old d) }
-    ensures seen { OnOk result (AreRegrouped st.new ss.new seen.new.entries) }
+    ensures seen { OnOk result (AreRegrouped st.new ss.new seen.new) }
 {
     let max = st.max(f);
     let mut parts = List::with_capacity(st.alloc(), part_count(st, d, f))?;

@@ -5,13 +5,12 @@ ghost use Rattle.nk_determ.specs.Targets.{retargeted};
 ghost use Rattle.nk_determ.specs.Pairs.{AreStates};
 ghost use Rattle.nk_merge.specs.DisjointCopies.{again, AreDisjointCopies, IsDisjointCopy, AreMadeBy};
 
-use nk_apply::known;
+use nk_apply::{Memo, known};
 use nk_determ::retarget;
 use nk_field::List;
 use nk_reach::OneSide;
 use nk_store::{Id, Store};
 use std::alloc::{AllocError, Global};
-use std::collections::HashMap;
 
 /// An automaton's states with each label twice, so that two sets of labels can be followed side by side.
 #[derive(Drop)]
@@ -63,7 +62,7 @@ fn rows_by(st: &mut Store, states: &[Id], table: &[Option<u64>]) -> Result<List<
     ensures ok { IfOk result (λ rows. AreDisjointCopies st.new states.now rows) }
 {
     let alloc = st.alloc();
-    let mut made = HashMap::new(alloc);
+    let mut made = Memo::new(alloc);
     let mut rows = List::from_vec(Vec::from_slice(alloc, states)?);
     for i in 1..states.len() {
         let row = again_once(st, &mut made, states[i], table)?;
@@ -75,16 +74,16 @@ fn rows_by(st: &mut Store, states: &[Id], table: &[Option<u64>]) -> Result<List<
 /// A state with its labels by the table, which is looked up where it was made before.
 fn again_once(
     st: &mut Store,
-    made: &mut HashMap<Id, Id>,
+    made: &mut Memo<Id>,
     state: Id,
     table: &[Option<u64>],
 ) -> Result<Id, AllocError>
     requires state { IsId st.old state }
-    requires made { AreMadeBy st.old table.now made.old.entries }
+    requires made { AreMadeBy st.old table.now made.old }
     ensures grows { Grows st.old st.new }
     ensures ok { IfOk result
         (λ r. HasLeaves st.new r (λ pk. retargeted table.now (look st.old state pk))) }
-    ensures made { OnOk result (AreMadeBy st.new table.now made.new.entries) }
+    ensures made { OnOk result (AreMadeBy st.new table.now made.new) }
 {
     if let Some(r) = known(made, state) {
         return Ok(r);

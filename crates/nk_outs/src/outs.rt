@@ -6,11 +6,10 @@ ghost use Rattle.nk_apply.specs.Cofactors.{IsSplit};
 ghost use Rattle.nk_outs.specs.Outs.{IsByOut, AreByOut, AreOfDiagram, out_with_packets, stretch, stretches};
 
 use crate::groups::{Stretch, grouped};
-use nk_apply::{identity, part_near, tested};
+use nk_apply::{Memo, identity, part_near, tested};
 use nk_field::{Fid, List};
 use nk_store::{Id, Node, Out, Store};
 use std::alloc::{AllocError, Global};
-use std::collections::HashMap;
 
 /// An out with packets that have it.
 pub struct OutPackets {
@@ -33,18 +32,18 @@ pub fn packets_by_out(st: &mut Store, d: Id) -> Result<List<OutPackets>, AllocEr
     ensures grows { Grows st.old st.new }
     ensures ok { IfOk result (λ es. IsByOut st.new d es) }
 {
-    let mut seen = HashMap::new(st.alloc());
+    let mut seen = Memo::new(st.alloc());
     outs_new(st, &mut seen, d)
 }
 
 /// Puts which packets have which out into the table, where that isn't known yet.
 #[cycle(outs)]
-fn visit(st: &mut Store, seen: &mut HashMap<Id, List<OutPackets>>, d: Id) -> Result<(), AllocError>
+fn visit(st: &mut Store, seen: &mut Memo<List<OutPackets>>, d: Id) -> Result<(), AllocError>
     requires id { IsId st.old d }
-    requires seen { AreByOut st.old seen.old.entries }
+    requires seen { AreByOut st.old seen.old }
     ensures grows { Grows st.old st.new }
-    ensures seen { OnOk result (AreByOut st.new seen.new.entries) }
-    ensures found { OnOk result (IsSome (lookup (nat_eq d) seen.new.entries)) }
+    ensures seen { OnOk result (AreByOut st.new seen.new) }
+    ensures found { OnOk result (IsSome (lookup (nat_eq d) seen.new)) }
 {
     if is_known(seen, d) {
         return Ok(());
@@ -55,24 +54,24 @@ fn visit(st: &mut Store, seen: &mut HashMap<Id, List<OutPackets>>, d: Id) -> Res
 }
 
 /// Whether the table has a diagram.
-fn is_known(seen: &HashMap<Id, List<OutPackets>>, d: Id) -> bool
-    ensures { result ≡ true → IsSome (lookup (nat_eq d) seen.now.entries) }
+fn is_known(seen: &Memo<List<OutPackets>>, d: Id) -> bool
+    ensures { result ≡ true → IsSome (lookup (nat_eq d) seen.now) }
 {
-    seen.get(&d).is_some()
+    seen.get(d).is_some()
 }
 
 /// Which packets have which out, found anew.
 #[cycle(outs)]
 fn outs_new(
     st: &mut Store,
-    seen: &mut HashMap<Id, List<OutPackets>>,
+    seen: &mut Memo<List<OutPackets>>,
     d: Id,
 ) -> Result<List<OutPackets>, AllocError>
     requires id { IsId st.old d }
-    requires seen { AreByOut st.old seen.old.entries }
+    requires seen { AreByOut st.old seen.old }
     ensures grows { Grows st.old st.new }
     ensures ok { IfOk result (λ es. IsByOut st.new d es) }
-    ensures seen { OnOk result (AreByOut st.new seen.new.entries) }
+    ensures seen { OnOk result (AreByOut st.new seen.new) }
 {
     match tested(st, d) {
         None => outs_of_leaf(st, d),
@@ -113,7 +112,7 @@ fn each_for(alloc: Global, outs: &[Out], packets: Id) -> Result<List<OutPackets>
 #[cycle(outs)]
 fn outs_of_case(
     st: &mut Store,
-    seen: &mut HashMap<Id, List<OutPackets>>,
+    seen: &mut Memo<List<OutPackets>>,
     f: Fid,
     d: Id,
 ) -> Result<List<OutPackets>, AllocError>
@@ -121,10 +120,10 @@ fn outs_of_case(
     requires field { f < 18 }
     requires first { root_field st.old d ≡ f }
     requires split { IsSplit st.old f d }
-    requires seen { AreByOut st.old seen.old.entries }
+    requires seen { AreByOut st.old seen.old }
     ensures grows { Grows st.old st.new }
     ensures ok { IfOk result (λ es. IsByOut st.new d es) }
-    ensures seen { OnOk result (AreByOut st.new seen.new.entries) }
+    ensures seen { OnOk result (AreByOut st.new seen.new) }
 {
     let all = outs_of_parts(st, seen, f, d)?;
     grouped(st, f, d, all)
@@ -134,7 +133,7 @@ fn outs_of_case(
 #[cycle(outs)]
 fn outs_of_parts(
     st: &mut Store,
-    seen: &mut HashMap<Id, List<OutPackets>>,
+    seen: &mut Memo<List<OutPackets>>,
     f: Fid,
     d: Id,
 ) -> Result<List<Stretch>, AllocError>
@@ -142,10 +141,10 @@ fn outs_of_parts(
     requires field { f < 18 }
     requires first { root_field st.old d ≡ f }
     requires split { IsSplit st.old f d }
-    requires seen { AreByOut st.old seen.old.entries }
+    requires seen { AreByOut st.old seen.old }
     ensures grows { Grows st.old st.new }
     ensures ok { IfOk result (λ ss. AreOfDiagram st.new f d ss) }
-    ensures seen { OnOk result (AreByOut st.new seen.new.entries) }
+    ensures seen { OnOk result (AreByOut st.new seen.new) }
 {
     let max = st.max(f);
     let mut all = List::new(st.alloc());
@@ -166,19 +165,19 @@ fn outs_of_parts(
 #[cycle(outs)]
 fn put_outs(
     st: &mut Store,
-    seen: &mut HashMap<Id, List<OutPackets>>,
+    seen: &mut Memo<List<OutPackets>>,
     d: Id,
     from: u64,
     end: u64,
     all: &mut List<Stretch>,
 ) -> Result<(), AllocError>
     requires id { IsId st.old d }
-    requires seen { AreByOut st.old seen.old.entries }
+    requires seen { AreByOut st.old seen.old }
     ensures grows { Grows st.old st.new }
     ensures ok { OnOk result
         ((es : Items OutPackets) × IsByOut st.new d es
         × (all.new ≡ all.old ++ map (stretch from end) es)) }
-    ensures seen { OnOk result (AreByOut st.new seen.new.entries) }
+    ensures seen { OnOk result (AreByOut st.new seen.new) }
 {
     match tested(st, d) {
         None => put_leaf(st, d, from, end, all),
@@ -235,16 +234,16 @@ fn put_each(
 
 /// Puts what the table has for a diagram after others, for the values of an interval.
 fn put_known(
-    seen: &HashMap<Id, List<OutPackets>>,
+    seen: &Memo<List<OutPackets>>,
     d: Id,
     from: u64,
     end: u64,
     all: &mut List<Stretch>,
 ) -> Result<(), AllocError>
     ensures { OnOk result (all.new
-        ≡ all.old ++ stretches from end (lookup (nat_eq d) seen.now.entries)) }
+        ≡ all.old ++ stretches from end (lookup (nat_eq d) seen.now)) }
 {
-    match seen.get(&d) {
+    match seen.get(d) {
         Some(es) => put_all(es.as_slice(), from, end, all),
         None => Ok(()),
     }

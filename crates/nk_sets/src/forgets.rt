@@ -4,11 +4,10 @@ ghost use Rattle.nk_store.specs.StoreState.{IsId, IsStill, IsCase, Grows, root_f
 ghost use Rattle.nk_sets.specs.PacketSets.{IsSet};
 ghost use Rattle.nk_sets.specs.Forgets.{AreChildren, IsForgotten, AreForgotten};
 
-use nk_apply::{known, union_all};
+use nk_apply::{Memo, known, union_all};
 use nk_field::{Fid, List};
 use nk_store::{Id, Node, Store};
 use std::alloc::{AllocError, Global};
-use std::collections::HashMap;
 
 /// Up to how many parts a set's children are put together without keeping what they are.
 const FEW: usize = 4;
@@ -23,19 +22,19 @@ pub(crate) fn forget(st: &mut Store, s: Id, f: Fid) -> Result<Id, AllocError>
     if is_past(st, s, f) {
         return Ok(s);
     }
-    let mut seen = HashMap::new(st.alloc());
+    let mut seen = Memo::new(st.alloc());
     forget_new(st, &mut seen, s, f)
 }
 
 /// The set with the field forgotten, which is looked up where it was made before.
 #[cycle(forget)]
-fn forget_once(st: &mut Store, seen: &mut HashMap<Id, Id>, s: Id, f: Fid) -> Result<Id, AllocError>
+fn forget_once(st: &mut Store, seen: &mut Memo<Id>, s: Id, f: Fid) -> Result<Id, AllocError>
     requires set { IsSet st.old s }
     requires field { f < 18 }
-    requires seen { AreForgotten st.old f seen.old.entries }
+    requires seen { AreForgotten st.old f seen.old }
     ensures grows { Grows st.old st.new }
     ensures ok { IfOk result (λ r. IsForgotten st.new f s r) }
-    ensures seen { OnOk result (AreForgotten st.new f seen.new.entries) }
+    ensures seen { OnOk result (AreForgotten st.new f seen.new) }
 {
     if is_past(st, s, f) {
         return Ok(s);
@@ -82,13 +81,13 @@ fn few_here(st: &Store, s: Id, f: Fid) -> Result<Option<Vec<Id>>, AllocError>
 
 /// The set with the field forgotten, made anew.
 #[cycle(forget)]
-fn forget_new(st: &mut Store, seen: &mut HashMap<Id, Id>, s: Id, f: Fid) -> Result<Id, AllocError>
+fn forget_new(st: &mut Store, seen: &mut Memo<Id>, s: Id, f: Fid) -> Result<Id, AllocError>
     requires set { IsSet st.old s }
     requires field { f < 18 }
-    requires seen { AreForgotten st.old f seen.old.entries }
+    requires seen { AreForgotten st.old f seen.old }
     ensures grows { Grows st.old st.new }
     ensures ok { IfOk result (λ r. IsForgotten st.new f s r) }
-    ensures seen { OnOk result (AreForgotten st.new f seen.new.entries) }
+    ensures seen { OnOk result (AreForgotten st.new f seen.new) }
 {
     match choice(st, s)? {
         Some((g, parts)) => forget_case(st, seen, s, g, parts.as_slice(), f),
@@ -100,7 +99,7 @@ fn forget_new(st: &mut Store, seen: &mut HashMap<Id, Id>, s: Id, f: Fid) -> Resu
 #[cycle(forget)]
 fn forget_case(
     st: &mut Store,
-    seen: &mut HashMap<Id, Id>,
+    seen: &mut Memo<Id>,
     s: Id,
     g: Fid,
     parts: &[(u64, Id)],
@@ -109,10 +108,10 @@ fn forget_case(
     requires set { IsSet st.old s }
     requires field { f < 18 }
     requires case { IsCase st.old s g parts.now }
-    requires seen { AreForgotten st.old f seen.old.entries }
+    requires seen { AreForgotten st.old f seen.old }
     ensures grows { Grows st.old st.new }
     ensures ok { IfOk result (λ r. IsForgotten st.new f s r) }
-    ensures seen { OnOk result (AreForgotten st.new f seen.new.entries) }
+    ensures seen { OnOk result (AreForgotten st.new f seen.new) }
 {
     let _laws = st.laws();
     if g.place() < f.place() {
@@ -141,7 +140,7 @@ fn choice(st: &Store, s: Id) -> Result<Option<(Fid, List<(u64, Id)>)>, AllocErro
 #[cycle(forget)]
 fn forget_parts(
     st: &mut Store,
-    seen: &mut HashMap<Id, Id>,
+    seen: &mut Memo<Id>,
     s: Id,
     g: Fid,
     parts: &[(u64, Id)],
@@ -151,10 +150,10 @@ fn forget_parts(
     requires field { f < 18 }
     requires case { IsCase st.old s g parts.now }
     requires before { g < f }
-    requires seen { AreForgotten st.old f seen.old.entries }
+    requires seen { AreForgotten st.old f seen.old }
     ensures grows { Grows st.old st.new }
     ensures ok { IfOk result (λ r. IsForgotten st.new f s r) }
-    ensures seen { OnOk result (AreForgotten st.new f seen.new.entries) }
+    ensures seen { OnOk result (AreForgotten st.new f seen.new) }
 {
     let _laws = st.laws();
     let mut made = List::with_capacity(st.alloc(), parts.len())?;

@@ -9,12 +9,11 @@ ghost use Rattle.nk_determ.specs.States.{SomeLeads, AreLedTo};
 ghost use Rattle.nk_steps.specs.Single.{step_to, first_label, AreSteps, AreLeafSteps, IsSingle, AreSingle, AreSingleBy};
 
 use crate::plain::have_label;
-use nk_apply::{known, part_count, part_near, tested};
+use nk_apply::{Memo, known, part_count, part_near, tested};
 use nk_determ::Sets;
 use nk_field::{Fid, List};
 use nk_store::{Id, Node, Out, Store};
 use std::alloc::{AllocError, Global};
-use std::collections::HashMap;
 
 /// The steps of a diagram whose leaves each have outs to one label at most beside finals: each out that is no final, to 1 +
 /// the number of the set of its label alone, which is put in where it isn't there. `None` where some leaf has outs to several
@@ -34,7 +33,7 @@ pub(crate) fn steps_single(st: &mut Store, ss: &mut Sets, d: Id) -> Result<Optio
     if st.drops(d) {
         return Ok(Some(d));
     }
-    let mut seen = HashMap::new(st.alloc());
+    let mut seen = Memo::new(st.alloc());
     let steps = single_new(st, ss, &mut seen, d)?;
     Ok(steps)
 }
@@ -44,15 +43,15 @@ pub(crate) fn steps_single(st: &mut Store, ss: &mut Sets, d: Id) -> Result<Optio
 fn single_once(
     st: &mut Store,
     ss: &mut Sets,
-    seen: &mut HashMap<Id, Id>,
+    seen: &mut Memo<Id>,
     d: Id,
 ) -> Result<Option<Id>, AllocError>
     requires id { IsId st.old d }
-    requires seen { AreSingle st.old ss.old seen.old.entries }
+    requires seen { AreSingle st.old ss.old seen.old }
     ensures grows { Grows st.old st.new }
     ensures sets { SetsGrow ss.old ss.new }
     ensures ok { IfOk result (λ o. IfSome o (λ r. IsSingle st.old d st.new ss.new r)) }
-    ensures seen { OnOk result (AreSingle st.new ss.new seen.new.entries) }
+    ensures seen { OnOk result (AreSingle st.new ss.new seen.new) }
 {
     if let Some(made) = known(seen, d) {
         return Ok(Some(made));
@@ -69,15 +68,15 @@ fn single_once(
 fn single_new(
     st: &mut Store,
     ss: &mut Sets,
-    seen: &mut HashMap<Id, Id>,
+    seen: &mut Memo<Id>,
     d: Id,
 ) -> Result<Option<Id>, AllocError>
     requires id { IsId st.old d }
-    requires seen { AreSingle st.old ss.old seen.old.entries }
+    requires seen { AreSingle st.old ss.old seen.old }
     ensures grows { Grows st.old st.new }
     ensures sets { SetsGrow ss.old ss.new }
     ensures ok { IfOk result (λ o. IfSome o (λ r. IsSingle st.old d st.new ss.new r)) }
-    ensures seen { OnOk result (AreSingle st.new ss.new seen.new.entries) }
+    ensures seen { OnOk result (AreSingle st.new ss.new seen.new) }
 {
     match tested(st, d) {
         None => single_leaf(st, ss, d),
@@ -90,7 +89,7 @@ fn single_new(
 fn single_case(
     st: &mut Store,
     ss: &mut Sets,
-    seen: &mut HashMap<Id, Id>,
+    seen: &mut Memo<Id>,
     f: Fid,
     d: Id,
 ) -> Result<Option<Id>, AllocError>
@@ -98,11 +97,11 @@ fn single_case(
     requires field { f < 18 }
     requires first { root_field st.old d ≡ f }
     requires split { IsSplit st.old f d }
-    requires seen { AreSingle st.old ss.old seen.old.entries }
+    requires seen { AreSingle st.old ss.old seen.old }
     ensures grows { Grows st.old st.new }
     ensures sets { SetsGrow ss.old ss.new }
     ensures ok { IfOk result (λ o. IfSome o (λ r. IsSingle st.old d st.new ss.new r)) }
-    ensures seen { OnOk result (AreSingle st.new ss.new seen.new.entries) }
+    ensures seen { OnOk result (AreSingle st.new ss.new seen.new) }
 {
     let Some(parts) = single_parts(st, ss, seen, f, d)? else {
         return Ok(None);
@@ -116,7 +115,7 @@ fn single_case(
 fn single_parts(
     st: &mut Store,
     ss: &mut Sets,
-    seen: &mut HashMap<Id, Id>,
+    seen: &mut Memo<Id>,
     f: Fid,
     d: Id,
 ) -> Result<Option<List<(u64, Id)>>, AllocError>
@@ -124,11 +123,11 @@ fn single_parts(
     requires field { f < 18 }
     requires first { root_field st.old d ≡ f }
     requires split { IsSplit st.old f d }
-    requires seen { AreSingle st.old ss.old seen.old.entries }
+    requires seen { AreSingle st.old ss.old seen.old }
     ensures grows { Grows st.old st.new }
     ensures sets { SetsGrow ss.old ss.new }
     ensures ok { IfOk result (λ o. IfSome o (λ ps. AreSingleBy st.old f d st.new ss.new ps)) }
-    ensures seen { OnOk result (AreSingle st.new ss.new seen.new.entries) }
+    ensures seen { OnOk result (AreSingle st.new ss.new seen.new) }
 {
     let max = st.max(f);
     let mut parts = List::with_capacity(st.alloc(), part_count(st, d, f))?;

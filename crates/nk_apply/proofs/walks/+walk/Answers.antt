@@ -19,9 +19,9 @@ walk_case-returns-in-Some-clause-later g t c = (c.requires.seen c.args.d c.in-So
 
 pub walk_case-returns-clause-seen : goal.walk_case-returns-clause-seen
 walk_case-returns-clause-seen g t c =
-    entries_put (g.M.NodeMap.taken c.args.m.now) (g.M.NodeMap.made c.args.m.now) (g.M.NodeMap.first c.args.m.now) c.walk_node.new.st c.args.d c.in_ok-r.r c.walk_node.new.seen.entries c.insert.new.self.entries c.in_ok-r.ensures.seen
+    entries_put (g.M.NodeMap.taken c.args.m.now) (g.M.NodeMap.made c.args.m.now) (g.M.NodeMap.first c.args.m.now) c.walk_node.new.st c.args.d c.in_ok-r.r c.walk_node.new.seen c.insert.new.self c.in_ok-r.ensures.seen
     (made_now (g.M.NodeMap.taken c.args.m.now) (g.M.NodeMap.made c.args.m.now) (g.M.NodeMap.first c.args.m.now) c.args.st.now c.walk_node.new.st c.args.d c.in_ok-r.r c.walk_node.ensures.grows c.requires.id c.in_ok-r.ensures.ok c.in_ok-r.ensures.later)
-    (λ q. c.in_ok-insert.ensures.updates.0 q)
+    c.in_ok-insert.ensures.found
 
 pub walk_node-returns-clause-ok : goal.walk_node-returns-clause-ok
 walk_node-returns-clause-ok g t c =
@@ -36,7 +36,7 @@ walk_node-returns-clause-later g t c =
 
 pub walk_node-returns-clause-seen : goal.walk_node-returns-clause-seen
 walk_node-returns-clause-seen g t c =
-    on_any c.case.result _ (entries_grow (g.M.NodeMap.taken c.args.m.now) (g.M.NodeMap.made c.args.m.now) (g.M.NodeMap.first c.args.m.now) c.walk_parts.new.st c.case.new.self c.walk_parts.new.seen.entries c.case.ensures.grows c.in_ok-parts.ensures.seen)
+    on_any c.case.result _ (entries_grow (g.M.NodeMap.taken c.args.m.now) (g.M.NodeMap.made c.args.m.now) (g.M.NodeMap.first c.args.m.now) c.walk_parts.new.st c.case.new.self c.walk_parts.new.seen c.case.ensures.grows c.in_ok-parts.ensures.seen)
 
 pub walk_parts-returns-then-end-max-clause-parts : goal.walk_parts-returns-then-end-max-clause-parts
 walk_parts-returns-then-end-max-clause-parts g t c =

@@ -24,7 +24,7 @@ decreases-walk_parts g l = 5 * l.d
 abbrev pub invariant-walk_parts-loop-parts : goal.invariant-walk_parts-loop-parts
 invariant-walk_parts-loop-parts g l = record {
   grows : Grows l.fn.st l.st;
-  seen : AreMadeOf (g.M.NodeMap.taken l.m) (g.M.NodeMap.made l.m) (g.M.NodeMap.first l.m) l.st l.seen.entries;
+  seen : AreMadeOf (g.M.NodeMap.taken l.m) (g.M.NodeMap.made l.m) (g.M.NodeMap.first l.m) l.st l.seen;
   before : IfSome l.before (λ x. IsMadeOf (g.M.NodeMap.taken l.m) (g.M.NodeMap.made l.m) (g.M.NodeMap.first l.m) l.st x.0 x.1);
   last : IfSome l.last (λ x. IsMadeOf (g.M.NodeMap.taken l.m) (g.M.NodeMap.made l.m) (g.M.NodeMap.first l.m) l.st x.0 x.1);
   within : l.from ≤ l.max;

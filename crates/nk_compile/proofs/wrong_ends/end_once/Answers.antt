@@ -7,6 +7,6 @@ returns-in-Some-clause-end c = c.requires.seen c.args.state c.in-Some.r (sym c.k
 
 pub returns-clause-seen : goal.returns-clause-seen
 returns-clause-seen c =
-    table_put c.end_in.new.st c.args.set c.args.state c.in_ok-r.r c.args.seen.now.entries c.insert.new.self.entries
-    (table_on c.args.st.now c.end_in.new.st c.args.set c.args.seen.now.entries c.end_in.ensures.grows c.requires.set c.requires.seen) c.in_ok-r.ensures.end
-    (λ q. c.in_ok-insert.ensures.updates.0 q)
+    table_put c.end_in.new.st c.args.set c.args.state c.in_ok-r.r c.args.seen.now c.insert.new.self
+    (table_on c.args.st.now c.end_in.new.st c.args.set c.args.seen.now c.end_in.ensures.grows c.requires.set c.requires.seen) c.in_ok-r.ensures.end
+    c.in_ok-insert.ensures.found

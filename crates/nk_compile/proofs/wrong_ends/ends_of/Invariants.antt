@@ -8,7 +8,7 @@ use Rattle.nk_compile.proofs.wrong_ends.ends_of.Given as goal
 abbrev pub invariant-loop-state : goal.invariant-loop-state
 invariant-loop-state l = record {
   grows : Grows l.fn.st l.st;
-  seen : AreEndsOf l.st l.set l.seen.entries;
+  seen : AreEndsOf l.st l.set l.seen;
   len : length l.ends ≡ l.state-index;
   ends : HaveSoFar l.st l.set l.states l.ends l.state-index;
 }

@@ -22,12 +22,12 @@ regroup_once-returns-in-Some-clause-sets t c = sets_same c.args.ss.now
 
 pub regroup_once-returns-clause-seen : goal.regroup_once-returns-clause-seen
 regroup_once-returns-clause-seen t c =
-    table_put c.args.st.now c.regroup_new.new.st c.regroup_new.new.ss c.args.d c.in_ok-r.r c.regroup_new.new.seen.entries c.insert.new.self.entries
-    c.in_ok-r.ensures.seen c.regroup_new.ensures.grows c.requires.id c.in_ok-r.ensures.ok c.in_ok-r.ensures.later (λ q. c.in_ok-insert.ensures.updates.0 q)
+    table_put c.args.st.now c.regroup_new.new.st c.regroup_new.new.ss c.args.d c.in_ok-r.r c.regroup_new.new.seen c.insert.new.self
+    c.in_ok-r.ensures.seen c.regroup_new.ensures.grows c.requires.id c.in_ok-r.ensures.ok c.in_ok-r.ensures.later c.in_ok-insert.ensures.found
 
 pub regroup_new-returns-in-None-clause-seen : goal.regroup_new-returns-in-None-clause-seen
 regroup_new-returns-in-None-clause-seen t c =
-    on_any c.regroup_leaf.result _ (table_grow c.args.st.now c.regroup_leaf.new.st c.args.ss.now c.regroup_leaf.new.ss c.args.seen.now.entries c.regroup_leaf.ensures.grows c.regroup_leaf.ensures.sets c.requires.seen)
+    on_any c.regroup_leaf.result _ (table_grow c.args.st.now c.regroup_leaf.new.st c.args.ss.now c.regroup_leaf.new.ss c.args.seen.now c.regroup_leaf.ensures.grows c.regroup_leaf.ensures.sets c.requires.seen)
 
 pub regroup_new-returns-in_ok-parts-in-Some-clause-ok : goal.regroup_new-returns-in_ok-parts-in-Some-clause-ok
 regroup_new-returns-in_ok-parts-in-Some-clause-ok t c =
@@ -36,7 +36,7 @@ regroup_new-returns-in_ok-parts-in-Some-clause-ok t c =
 
 pub regroup_new-returns-in_ok-parts-in-Some-clause-seen : goal.regroup_new-returns-in_ok-parts-in-Some-clause-seen
 regroup_new-returns-in_ok-parts-in-Some-clause-seen t c =
-    on_any c.case.result _ (table_grow c.regroup_parts.new.st c.case.new.self c.regroup_parts.new.ss c.regroup_parts.new.ss c.regroup_parts.new.seen.entries c.case.ensures.grows (sets_same c.regroup_parts.new.ss) c.in_ok-parts-in-Some.ensures.seen)
+    on_any c.case.result _ (table_grow c.regroup_parts.new.st c.case.new.self c.regroup_parts.new.ss c.regroup_parts.new.ss c.regroup_parts.new.seen c.case.ensures.grows (sets_same c.regroup_parts.new.ss) c.in_ok-parts-in-Some.ensures.seen)
 
 pub regroup_parts-returns-then-end-max-clause-parts : goal.regroup_parts-returns-then-end-max-clause-parts
 regroup_parts-returns-then-end-max-clause-parts t c =

@@ -19,7 +19,7 @@ abbrev pub invariant-regroup_parts-loop-parts : goal.invariant-regroup_parts-loo
 invariant-regroup_parts-loop-parts l = record {
   grows : Grows l.fn.st l.st;
   sets : SetsGrow l.fn.ss l.ss;
-  seen : AreRegrouped l.st l.ss l.seen.entries;
+  seen : AreRegrouped l.st l.ss l.seen;
   within : l.from ≤ l.max;
   built : AreBuilt l.fn.st l.st l.ss l.f l.d l.from l.parts;
   held : AreHeld l.fn.st l.ss l.f l.d l.from;

@@ -7,5 +7,5 @@ returns-in-Some-clause-ok c = (c.requires.made c.args.state c.in-Some.r (sym c.k
 
 pub returns-clause-made : goal.returns-clause-made
 returns-clause-made c =
-    made_more c.args.st.now c.retarget.new.st c.args.table.now c.args.state c.in_ok-r.r c.args.made.now.entries c.insert.new.self.entries
-    c.retarget.ensures.grows c.requires.state c.requires.made c.in_ok-r.ensures.ok (λ q. c.in_ok-insert.ensures.updates.0 q)
+    made_more c.args.st.now c.retarget.new.st c.args.table.now c.args.state c.in_ok-r.r c.args.made.now c.insert.new.self
+    c.retarget.ensures.grows c.requires.state c.requires.made c.in_ok-r.ensures.ok c.in_ok-insert.ensures.found

@@ -7,5 +7,5 @@ abbrev pub invariant-loop-i : goal.invariant-loop-i
 invariant-loop-i l = record {
   grows : Grows l.fn.st l.st;
   upto : IsDisjointCopyUpTo l.fn.st l.st l.states l.rows l.i;
-  made : AreMadeBy l.st l.table l.made.entries;
+  made : AreMadeBy l.st l.table l.made;
 }

@@ -8,17 +8,17 @@ use Rattle.nk_outs.proofs.outs.+outs.Goals as goal
 
 pub visit-returns-clause-seen : goal.visit-returns-clause-seen
 visit-returns-clause-seen t c =
-    kept_put c.outs_new.new.st c.args.d c.in_ok-made.made c.outs_new.new.seen.entries c.insert.new.self.entries c.in_ok-made.ensures.seen c.in_ok-made.ensures.ok (λ q. c.in_ok-insert.ensures.updates.0 q)
+    kept_put c.outs_new.new.st c.args.d c.in_ok-made.made c.outs_new.new.seen c.insert.new.self c.in_ok-made.ensures.seen c.in_ok-made.ensures.ok c.in_ok-insert.ensures.found
 
 pub outs_new-returns-in-None-clause-seen : goal.outs_new-returns-in-None-clause-seen
-outs_new-returns-in-None-clause-seen t c = on_any c.outs_of_leaf.result _ (kept_on c.args.st.now c.outs_of_leaf.new.st c.args.seen.now.entries c.outs_of_leaf.ensures.grows c.requires.seen)
+outs_new-returns-in-None-clause-seen t c = on_any c.outs_of_leaf.result _ (kept_on c.args.st.now c.outs_of_leaf.new.st c.args.seen.now c.outs_of_leaf.ensures.grows c.requires.seen)
 
 pub outs_of_case-returns-clause-seen : goal.outs_of_case-returns-clause-seen
-outs_of_case-returns-clause-seen t c = on_any c.grouped.result _ (kept_on c.outs_of_parts.new.st c.grouped.new.st c.outs_of_parts.new.seen.entries c.grouped.ensures.grows c.in_ok-all.ensures.seen)
+outs_of_case-returns-clause-seen t c = on_any c.grouped.result _ (kept_on c.outs_of_parts.new.st c.grouped.new.st c.outs_of_parts.new.seen c.grouped.ensures.grows c.in_ok-all.ensures.seen)
 
 pub put_outs-returns-in-None-clause-seen : goal.put_outs-returns-in-None-clause-seen
 put_outs-returns-in-None-clause-seen t c =
-    on_any c.put_leaf.result _ (kept_on c.args.st.now c.put_leaf.new.st c.args.seen.now.entries c.put_leaf.ensures.grows c.requires.seen)
+    on_any c.put_leaf.result _ (kept_on c.args.st.now c.put_leaf.new.st c.args.seen.now c.put_leaf.ensures.grows c.requires.seen)
 
 pub outs_of_parts-returns-then-end-max-clause-ok : goal.outs_of_parts-returns-then-end-max-clause-ok
 outs_of_parts-returns-then-end-max-clause-ok t c =

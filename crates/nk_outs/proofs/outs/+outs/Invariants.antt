@@ -21,7 +21,7 @@ decreases-put_outs l = 5 * l.d + 4
 abbrev pub invariant-outs_of_parts-loop-all : goal.invariant-outs_of_parts-loop-all
 invariant-outs_of_parts-loop-all l = record {
   grows : Grows l.fn.st l.st;
-  seen : AreByOut l.st l.seen.entries;
+  seen : AreByOut l.st l.seen;
   within : l.from ≤ l.max;
   made : IsUpTo l.fn.st l.d l.f l.from l.st l.all;
 }

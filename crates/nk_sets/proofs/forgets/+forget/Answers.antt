@@ -28,11 +28,11 @@ forget_once-returns-in-Some-known-clause-ok t c = c.requires.seen c.args.s c.in-
 
 pub forget_case-returns-then-eq-clause-seen : goal.forget_case-returns-then-eq-clause-seen
 forget_case-returns-then-eq-clause-seen t c =
-    on_any c.forget_here.result _ (entries_grow c.args.st.now c.forget_here.new.st c.args.f c.args.seen.now.entries c.forget_here.ensures.grows c.requires.seen)
+    on_any c.forget_here.result _ (entries_grow c.args.st.now c.forget_here.new.st c.args.f c.args.seen.now c.forget_here.ensures.grows c.requires.seen)
 
 pub forget_once-returns-clause-seen : goal.forget_once-returns-clause-seen
 forget_once-returns-clause-seen t c =
-    entries_put c.forget_new.new.st c.args.f c.args.s c.in_ok-r.r c.forget_new.new.seen.entries c.insert.new.self.entries c.in_ok-r.ensures.seen c.in_ok-r.ensures.ok (λ q. c.in_ok-insert.ensures.updates.0 q)
+    entries_put c.forget_new.new.st c.args.f c.args.s c.in_ok-r.r c.forget_new.new.seen c.insert.new.self c.in_ok-r.ensures.seen c.in_ok-r.ensures.ok c.in_ok-insert.ensures.found
 
 pub forget_parts-forget_once-requires : goal.forget_parts-forget_once-requires
 forget_parts-forget_once-requires t c =
@@ -63,7 +63,7 @@ forget_parts-returns-clause-ok t c =
 
 pub forget_parts-returns-clause-seen : goal.forget_parts-returns-clause-seen
 forget_parts-returns-clause-seen t c =
-    on_any c.case.result _ (entries_grow c.loop-end.st c.case.new.self c.args.f c.loop-end.seen.entries c.case.ensures.grows c.loop-end.invariant.seen)
+    on_any c.case.result _ (entries_grow c.loop-end.st c.case.new.self c.args.f c.loop-end.seen c.case.ensures.grows c.loop-end.invariant.seen)
 
 pub forget_once-returns-then-is_past-clause-ok : goal.forget_once-returns-then-is_past-clause-ok
 forget_once-returns-then-is_past-clause-ok t c =
@@ -71,4 +71,4 @@ forget_once-returns-then-is_past-clause-ok t c =
 
 pub forget_once-returns-in-Some-clause-seen : goal.forget_once-returns-in-Some-clause-seen
 forget_once-returns-in-Some-clause-seen t c =
-    on_any c.forget_children.result _ (entries_grow c.args.st.now c.forget_children.new.st c.args.f c.args.seen.now.entries c.forget_children.ensures.grows c.requires.seen)
+    on_any c.forget_children.result _ (entries_grow c.args.st.now c.forget_children.new.st c.args.f c.args.seen.now c.forget_children.ensures.grows c.requires.seen)

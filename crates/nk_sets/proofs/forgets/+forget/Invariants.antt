@@ -19,6 +19,6 @@ decreases-forget_case l = 4 * l.s + 1
 abbrev pub invariant-forget_parts-loop-end : goal.invariant-forget_parts-loop-end
 invariant-forget_parts-loop-end l = record {
   grows : Grows l.fn.st l.st;
-  seen : AreForgotten l.st l.f l.seen.entries;
+  seen : AreForgotten l.st l.f l.seen;
   made : Made l.st l.f l.parts l.made (drop l.end-index l.parts);
 }

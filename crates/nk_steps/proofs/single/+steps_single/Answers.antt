@@ -18,7 +18,7 @@ single_once-returns-in-Some-clause-sets t c = sets_same c.args.ss.now
 pub single_once-returns-clause-seen : goal.single_once-returns-clause-seen
 single_once-returns-clause-seen t c =
     let one : IsSingle c.args.st.now c.args.d c.single_new.new.st c.single_new.new.ss c.in-Some-2.r = subst (λ o. IfSome o (λ r. IsSingle c.args.st.now c.args.d c.single_new.new.st c.single_new.new.ss r)) c.in-Some-2.is c.in_ok-r.ensures.ok in
-    single_table_put c.args.st.now c.single_new.new.st c.single_new.new.ss c.args.d c.in-Some-2.r c.single_new.new.seen.entries c.insert.new.self.entries c.in_ok-r.ensures.seen c.single_new.ensures.grows c.requires.id one (λ q. c.in_ok-insert.ensures.updates.0 q)
+    single_table_put c.args.st.now c.single_new.new.st c.single_new.new.ss c.args.d c.in-Some-2.r c.single_new.new.seen c.insert.new.self c.in_ok-r.ensures.seen c.single_new.ensures.grows c.requires.id one c.in_ok-insert.ensures.found
 
 pub single_case-returns-clause-ok : goal.single_case-returns-clause-ok
 single_case-returns-clause-ok t c =
@@ -28,11 +28,11 @@ single_case-returns-clause-ok t c =
 
 pub single_case-returns-clause-seen : goal.single_case-returns-clause-seen
 single_case-returns-clause-seen t c =
-    single_table_grow c.single_parts.new.st c.case.new.self c.single_parts.new.ss c.single_parts.new.ss c.single_parts.new.seen.entries c.case.ensures.grows (sets_same c.single_parts.new.ss) c.in_ok-parts.ensures.seen
+    single_table_grow c.single_parts.new.st c.case.new.self c.single_parts.new.ss c.single_parts.new.ss c.single_parts.new.seen c.case.ensures.grows (sets_same c.single_parts.new.ss) c.in_ok-parts.ensures.seen
 
 pub single_new-returns-in-None-clause-seen : goal.single_new-returns-in-None-clause-seen
 single_new-returns-in-None-clause-seen t c =
-    on_any c.single_leaf.result _ (single_table_grow c.args.st.now c.single_leaf.new.st c.args.ss.now c.single_leaf.new.ss c.args.seen.now.entries c.single_leaf.ensures.grows c.single_leaf.ensures.sets c.requires.seen)
+    on_any c.single_leaf.result _ (single_table_grow c.args.st.now c.single_leaf.new.st c.args.ss.now c.single_leaf.new.ss c.args.seen.now c.single_leaf.ensures.grows c.single_leaf.ensures.sets c.requires.seen)
 
 pub single_parts-loop-parts-preserved : goal.single_parts-loop-parts-preserved
 single_parts-loop-parts-preserved t c =

@@ -22,7 +22,7 @@ abbrev pub invariant-single_parts-loop-parts : goal.invariant-single_parts-loop-
 invariant-single_parts-loop-parts l = record {
   grows : Grows l.fn.st l.st;
   sets : SetsGrow l.fn.ss l.ss;
-  seen : AreSingle l.st l.ss l.seen.entries;
+  seen : AreSingle l.st l.ss l.seen;
   within : l.from ≤ l.max;
   built : AreBuiltSingle l.fn.st l.st l.ss l.f l.d l.from l.parts;
   single : AreSingleUpTo l.fn.st l.ss l.f l.d l.from;
