@@ -32,7 +32,7 @@ pub fn ident_of(alloc: Global, token: &Token) -> Result<Ident, AllocError>
     ensures { IfOk result (λ w. (w.text ≡ token.now.text) × (w.line ≡ token.now.line)) }
 {
     Ok(Ident {
-        text: Bytes::of_text(alloc, token.text.as_str())?,
+        text: token.text.copy(alloc)?,
         line: token.line,
     })
 }
