@@ -3,10 +3,12 @@ ghost use Rattle.std.specs.Prelude.{◌≡◌, None, Some, MatchResult, IfOk, On
 ghost use Rattle.nk_declare.specs.Declarations.{link_fault};
 ghost use Rattle.nk_grammar.specs.File.{declaration_of, field, tag, switch, declared_link, definition, fabric, virtual_link};
 ghost use Rattle.nk_grammar.specs.Tree.{tree_of};
+ghost use Rattle.nk_names.specs.Meant.{policy_for};
 ghost use Rattle.nk_names.specs.ProgramOf.{NamesReturns, text_fault_of, program_of_names, program_declaring, empty_program, named_fault, virtual_topology};
+ghost use Rattle.nk_names.specs.Shape.{shape_of};
 
 use crate::build::{place_of, shared_of};
-use crate::check::{depth, fault_if, first_above, first_misplaced, first_unknown, size};
+use crate::check::{fault_if, first_above, first_misplaced, first_unknown};
 use crate::fault::{FaultKind, NamesError};
 use crate::lets::Lets;
 use crate::named_policy::NamedPolicy;
@@ -35,19 +37,21 @@ pub(crate) fn refuse(fault: Option<NamesError>) -> Result<(), NamesError>
     }
 }
 
-/// Whether a policy may have the name, which none of those taken has, and its tree be written out.
+/// What is known of a policy that may have the name, which none of those taken has, and whose tree may be written out.
 fn check_named(
     names: &Names,
     taken: &Lets,
     w: &Ident,
     ast: &Ast,
     line: u64,
-) -> Result<(), NamesError>
-    ensures { MatchResult result
+) -> Result<Shape, NamesError>
+    ensures fault { MatchResult result
         (λ _. named_fault names.now.declared.fields names.now.lets.entries.items
         taken.now.entries.items w.now (tree_of ast.now) line ≡ None)
         (λ e. named_fault names.now.declared.fields names.now.lets.entries.items
         taken.now.entries.items w.now (tree_of ast.now) line ≡ Some e) }
+    ensures shape { IfOk result (λ s. s ≡ shape_of
+        (policy_for names.now.declared.fields names.now.lets.entries.items (tree_of ast.now))) }
 {
     let fields = &names.declared.fields;
     let lets = &names.lets;
@@ -55,10 +59,12 @@ fn check_named(
     refuse(fault_if(twice, FaultKind::LetTwice, w.line))?;
     refuse(first_unknown(fields, lets, ast))?;
     refuse(first_misplaced(fields, lets, ast))?;
-    let deep = LARGEST_DEPTH < depth(fields, lets, ast);
+    let shape = Shape::of(fields, lets, ast);
+    let deep = LARGEST_DEPTH < shape.depth;
     refuse(fault_if(deep, FaultKind::TooDeep, line))?;
-    let large = LARGEST_SIZE < size(fields, lets, ast);
-    refuse(fault_if(large, FaultKind::TooLarge, line))
+    let large = LARGEST_SIZE < shape.size;
+    refuse(fault_if(large, FaultKind::TooLarge, line))?;
+    Ok(shape)
 }
 
 /// Whether a virtual link may lead from port `m` of switch `a` to port `n` of switch `b`.
@@ -175,8 +181,7 @@ impl Names {
             (definition w.now (tree_of ast.now) line)) }
         ensures kept { OnErr result (program_of_names self.new ≡ program_of_names self.old) }
     {
-        check_named(self, &self.lets, w, ast, line)?;
-        let shape = Shape::of(&self.declared.fields, &self.lets, ast);
+        let shape = check_named(self, &self.lets, w, ast, line)?;
         let policy = NamedPolicy::new(shared_of(alloc, &self.declared.fields, &self.lets, ast)?);
         self.lets.add(alloc, w.text.as_slice(), policy, shape)?;
         Ok(())
@@ -194,8 +199,7 @@ impl Names {
             (program_declaring (program_of_names self.old) (fabric w.now (tree_of ast.now) line)) }
         ensures kept { OnErr result (program_of_names self.new ≡ program_of_names self.old) }
     {
-        check_named(self, &self.fabrics, w, ast, line)?;
-        let shape = Shape::of(&self.declared.fields, &self.lets, ast);
+        let shape = check_named(self, &self.fabrics, w, ast, line)?;
         let policy = NamedPolicy::new(shared_of(alloc, &self.declared.fields, &self.lets, ast)?);
         self.fabrics.add(alloc, w.text.as_slice(), policy, shape)?;
         Ok(())
