@@ -62,6 +62,21 @@ fn built(alloc: Global, fields: &Fields, lets: &Lets, ast: &Ast) -> Result<Body,
     }
 }
 
+/// The body of a part. Most parts are tests, ranges and assignments, which are told here without a call.
+#[cycle(build)]
+#[inline(always)]
+fn part_built(alloc: Global, fields: &Fields, lets: &Lets, part: &Ast) -> Result<Body, AllocError>
+    ensures { IfOk result (λ b. policy_in b
+        ≡ policy_for fields.now lets.now.entries.items (written_of part.now)) }
+{
+    match part {
+        Ast::Test(w, n) => Ok(Body::Test(field_of(fields, w), n.value)),
+        Ast::Range(w, low, high) => Ok(Body::Range(field_of(fields, w), low.value, high.value)),
+        Ast::Set(w, n) => Ok(Body::Set(field_of(fields, w), n.value)),
+        _ => built(alloc, fields, lets, part),
+    }
+}
+
 /// The bodies of the parts.
 #[cycle(build)]
 #[tactic(auto, using(crate::proofs::Bodies::in_push, nk_policy::proofs::Trees::joined_none))]
@@ -76,7 +91,7 @@ fn all_built(
 {
     let mut out = Vec::with_capacity(alloc, parts.len())?;
     for q in parts {
-        out.push(built(alloc, fields, lets, q)?)?;
+        out.push(part_built(alloc, fields, lets, q)?)?;
     }
     Ok(out)
 }

@@ -7,7 +7,7 @@ use Rattle.nk_names.proofs.build.+build.Goals as goal
 
 pub all_built-loop-q-preserved : goal.all_built-loop-q-preserved
 all_built-loop-q-preserved t c =
-    built_more c.args.fields.now c.args.lets.now.entries.items c.args.parts.now _ c.q-item.result _ c.loop-q.out.items _ _ c.loop-q-test.true c.q-item.is c.in_ok-push.ensures.items c.in_ok-built.ensures c.loop-q.invariant
+    built_more c.args.fields.now c.args.lets.now.entries.items c.args.parts.now _ c.q-item.result _ c.loop-q.out.items _ _ c.loop-q-test.true c.q-item.is c.in_ok-push.ensures.items c.in_ok-part_built.ensures c.loop-q.invariant
 
 pub all_built-returns : goal.all_built-returns
 all_built-returns t c =
