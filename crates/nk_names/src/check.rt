@@ -92,13 +92,26 @@ pub(crate) fn first_unknown(fields: &Fields, lets: &Lets, ast: &Ast) -> Option<N
     }
 }
 
+/// The first of these in a part. Most parts are tests, ranges and assignments, which are told here without a call.
+#[cycle(unknown)]
+#[inline(always)]
+fn first_unknown_part(fields: &Fields, lets: &Lets, part: &Ast) -> Option<NamesError>
+    ensures { result ≡ unknown_in fields.now lets.now.entries.items (tree_of part.now) }
+{
+    match part {
+        Ast::Test(w, n) | Ast::Set(w, n) => no_value(fields, w, *n),
+        Ast::Range(w, low, high) => no_range(fields, w, *low, *high),
+        _ => first_unknown(fields, lets, part),
+    }
+}
+
 /// The first name of no policy, name of no field or number out of range in the parts, from left to right.
 #[cycle(unknown)]
 fn first_unknown_among(fields: &Fields, lets: &Lets, parts: &[Ast]) -> Option<NamesError>
     ensures { result ≡ unknown_among fields.now lets.now.entries.items (trees_of parts.now) }
 {
     for q in parts {
-        let fault = first_unknown(fields, lets, q);
+        let fault = first_unknown_part(fields, lets, q);
         if fault.is_some() {
             return fault;
         }
