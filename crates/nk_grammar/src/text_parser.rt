@@ -1,5 +1,5 @@
 //! A program's text, read token by token.
-ghost use Rattle.std.specs.Prelude.{◌≡◌, ◌++◌, ◌∷◌, ◌≤◌, [], List, None, Ok, All, IfOk, OnErr, OnOk, map};
+ghost use Rattle.std.specs.Prelude.{◌≡◌, ◌++◌, ◌∷◌, ◌≤◌, [], List, None, Ok, All, IfOk, IsOk, OnErr, OnOk, false, map, true};
 ghost use Rattle.nk_lex.specs.declared.token.Token.{Token};
 ghost use Rattle.nk_lex.specs.Lex.{largest};
 ghost use Rattle.nk_grammar.specs.File.{Declaration, IsWritten, declaration_of};
@@ -91,21 +91,21 @@ impl TextParser {
         }
     }
 
-    /// A fault is kept, and nothing is completed; where memory ran out nothing changes.
+    /// A fault is kept; where memory ran out nothing changes.
     #[inline(never)]
-    fn fault(&mut self, error: GrammarError) -> Result<Option<Decl>, AllocError>
-        ensures ok { IfOk result
-            (λ o. (o ≡ None) × (self.new ≡ Stopped error) × (error ≡ GrammarError.NoMemory → ⊥)) }
+    fn fault(&mut self, error: GrammarError) -> Result<(), AllocError>
+        ensures ok { OnOk result
+            ((self.new ≡ Stopped error) × (error ≡ GrammarError.NoMemory → ⊥)) }
         ensures err { OnErr result ((error ≡ GrammarError.NoMemory) × (self.new ≡ self.old)) }
     {
         match error {
             GrammarError::Unexpected { line } => {
                 self.known.stop(GrammarError::Unexpected { line });
-                Ok(None)
+                Ok(())
             }
             GrammarError::TooDeep { line } => {
                 self.known.stop(GrammarError::TooDeep { line });
-                Ok(None)
+                Ok(())
             }
             GrammarError::NoMemory => Err(AllocError),
         }
@@ -126,12 +126,36 @@ impl TextParser {
                 self.line = token.line;
                 Ok(done)
             }
-            Err(error) => self.fault(error),
+            Err(error) => match self.fault(error) {
+                Ok(()) => Ok(None),
+                Err(error) => Err(error),
+            },
+        }
+    }
+
+    /// One more token inside a policy, if it goes on with it, or the first fault; else nothing changes.
+    #[tactic(auto, using(crate::proofs::TextReading::takes_inside, crate::proofs::TextReading::takes_fault, crate::proofs::TextReading::takes_nothing, crate::proofs::TextReading::takes_no_memory, crate::proofs::TextReading::no_fault_after))]
+    fn put_inside(&mut self, alloc: Global, token: &Token) -> Result<bool, AllocError>
+        ensures taken { IfOk result
+            (λ taken. taken ≡ true → TakesTextOn self.old token.now self.new []) }
+        ensures others { IfOk result (λ taken. taken ≡ false → self.new ≡ self.old) }
+        ensures stopped { IsTextStopped self.old → IsOk result × (self.new ≡ self.old) }
+        ensures err { OnErr result (self.new ≡ self.old) }
+    {
+        match self.known.take_inside(alloc, token) {
+            Ok(true) => {
+                self.line = token.line;
+                Ok(true)
+            }
+            Ok(false) => Ok(false),
+            Err(error) => match self.fault(error) {
+                Ok(()) => Ok(true),
+                Err(error) => Err(error),
+            },
         }
     }
 
     /// One more token, and what it completes.
-    #[tactic(auto, using(crate::proofs::TextReading::takes_inside, crate::proofs::TextReading::takes_fault, crate::proofs::TextReading::takes_nothing, crate::proofs::TextReading::takes_no_memory, crate::proofs::TextReading::no_fault_after))]
     fn put(&mut self, alloc: Global, token: &Token) -> Result<Option<Decl>, AllocError>
         ensures taken { IfOk result
             (λ o. TakesTextOn self.old token.now self.new (declaration_done o)) }
@@ -139,14 +163,24 @@ impl TextParser {
         ensures stopped { IsTextStopped self.old → (result ≡ Ok None) × (self.new ≡ self.old) }
         ensures err { OnErr result (self.new ≡ self.old) }
     {
-        match self.known.take_inside(alloc, token) {
-            Ok(true) => {
-                self.line = token.line;
-                Ok(None)
-            }
+        match self.put_inside(alloc, token) {
+            Ok(true) => Ok(None),
             Ok(false) => self.put_other(alloc, token),
-            Err(error) => self.fault(error),
+            Err(error) => Err(error),
         }
+    }
+
+    /// Reads one more token inside a policy, and says whether it was taken; it completes nothing then. Else nothing changed, and `take`
+    /// reads the token. A fault of the grammar is taken and kept. The only error is that memory ran out, and then nothing changed.
+    pub fn take_inside(&mut self, alloc: Global, token: &Token) -> Result<bool, AllocError>
+        ensures taken { (ts : List Token) (ds : List Declaration) → IsTextRead ts ds self.old
+            → IfOk result (λ taken. taken ≡ true
+            → IsTextRead (ts ++ token.now ∷ []) ds self.new) }
+        ensures others { IfOk result (λ taken. taken ≡ false → self.new ≡ self.old) }
+        ensures stopped { IsTextStopped self.old → IsOk result × (self.new ≡ self.old) }
+        ensures err { OnErr result (self.new ≡ self.old) }
+    {
+        self.put_inside(alloc, token)
     }
 
     /// Reads one more token, and hands out the declaration that it completes. A fault of the grammar is no error here: it is kept, and

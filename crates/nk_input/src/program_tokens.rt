@@ -64,8 +64,9 @@ impl ProgramTokens {
         })
     }
 
-    /// One more token. A fault of the tokens is no error here.
-    pub(crate) fn take_token(&mut self, alloc: Global, token: &Token) -> Result<(), AllocError>
+    /// One more token that no policy takes. It stands apart from what policies take, of which most of a text is made.
+    #[inline(never)]
+    fn take_other(&mut self, alloc: Global, token: &Token) -> Result<(), AllocError>
         ensures { (ts : List Token) → AreTaken ts self.old
             → OnOk result (AreTaken (ts ++ token.now ∷ []) self.new) }
     {
@@ -73,6 +74,19 @@ impl ProgramTokens {
         match done {
             Some(decl) => self.program.declare(alloc, &decl),
             None => Ok(()),
+        }
+    }
+
+    /// One more token. A fault of the tokens is no error here.
+    pub(crate) fn take_token(&mut self, alloc: Global, token: &Token) -> Result<(), AllocError>
+        ensures { (ts : List Token) → AreTaken ts self.old
+            → OnOk result (AreTaken (ts ++ token.now ∷ []) self.new) }
+    {
+        let taken = self.grammar.take_inside(alloc, token)?;
+        if taken {
+            Ok(())
+        } else {
+            self.take_other(alloc, token)
         }
     }
 }
