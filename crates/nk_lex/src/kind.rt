@@ -84,6 +84,7 @@ pub fn kind_of_name(name: &str) -> Kind
 }
 
 /// The kind of a text that is none of the first five keywords.
+#[inline(always)]
 fn kind_past_declarations(name: &[u8]) -> Kind
     ensures { result ≡ (if bytes_eq name.now (codes "let") then kind.Let
         else if bytes_eq name.now (codes "certificate") then kind.Certificate
@@ -118,6 +119,7 @@ fn kind_past_declarations(name: &[u8]) -> Kind
 }
 
 /// The kind of a text that is none of the first ten keywords.
+#[inline(always)]
 fn kind_past_certificates(name: &[u8]) -> Kind
     ensures { result ≡ (if bytes_eq name.now (codes "drop") then kind.Drop
         else if bytes_eq name.now (codes "dup") then kind.Dup
@@ -147,6 +149,7 @@ fn kind_past_certificates(name: &[u8]) -> Kind
 }
 
 /// The kind of a text that is none of the first fifteen keywords.
+#[inline(always)]
 fn kind_past_tables(name: &[u8]) -> Kind
     ensures { result ≡ (if bytes_eq name.now (codes "out") then kind.Out
         else if bytes_eq name.now (codes "in") then kind.In
