@@ -36,6 +36,7 @@ pub fn front_at(first: u8, rest: &[u8]) -> Front
     }
 }
 
+#[inline(always)]
 fn symbol(first: u8, rest: &[u8]) -> Front
     ensures symbol { result ≡ symbol_of first rest.now }
     ensures fits { FitsIn result (length rest.now + 1) }
