@@ -160,6 +160,22 @@ impl PolicyReader {
         true
     }
 
+    /// A test, a range or an assignment ended, which was the last token, and with it each `~` before it. There is room for the factor
+    /// among the others, so it needn't stand apart.
+    #[tactic(auto, using(crate::proofs::Trees::trees_push))]
+    fn put_atom(&mut self, atom: Ast) -> bool
+        requires last { self.old.last ≡ None }
+        requires room { HasRoom self.old }
+        ensures state { reader_state self.new ≡ atom_ended (tree_of atom) (stack_in self.old)
+            (terms_in self.old) (factors_in self.old) }
+        ensures taken { result ≡ true }
+    {
+        let factor = close_negations(&mut self.frames, atom);
+        self.factors.push_reserved(factor);
+        self.place.set(Place::After(false));
+        true
+    }
+
     /// A `~` or a parenthesis opens. There is room for it.
     #[tactic(auto, using(crate::proofs::Stack::stack_push))]
     fn open(&mut self, frame: Frame) -> bool
@@ -450,7 +466,7 @@ impl PolicyReader {
         match replace(&mut self.place, Place::Want) {
             Place::Named(word) => self.after_name(alloc, word, token),
             Place::Tested(word) => match number_of(token) {
-                Some(number) => Ok(self.take_atom(Ast::Test(word, number))),
+                Some(number) => Ok(self.put_atom(Ast::Test(word, number))),
                 None => Ok(self.stay(Place::Tested(word))),
             },
             Place::Ranged(word) => match number_of(token) {
@@ -469,11 +485,11 @@ impl PolicyReader {
                 }
             }
             Place::RangedTo(word, low) => match number_of(token) {
-                Some(high) => Ok(self.take_atom(Ast::Range(word, low, high))),
+                Some(high) => Ok(self.put_atom(Ast::Range(word, low, high))),
                 None => Ok(self.stay(Place::RangedTo(word, low))),
             },
             Place::Assigned(word) => match number_of(token) {
-                Some(number) => Ok(self.take_atom(Ast::Set(word, number))),
+                Some(number) => Ok(self.put_atom(Ast::Set(word, number))),
                 None => Ok(self.stay(Place::Assigned(word))),
             },
             Place::Linked(quad) => Ok(self.after_quad(quad, token)),
