@@ -105,7 +105,7 @@ const MOST: usize = 2048;
 
 /// How many tokens room is made for where so many bytes follow.
 pub fn room_for(bytes: usize) -> usize {
-    (bytes / 3).min(MOST)
+    (bytes / 2).min(MOST)
 }
 
 /// Puts a token at the end, with the error of a text. The first token makes room for those that so many bytes usually have. A list that
