@@ -1,2 +1,3 @@
-pub mod PlaceLemmas
+pub mod ChildLemmas
+pub mod PortLemmas
 pub mod SetLemmas

@@ -1,2 +1,4 @@
-pub mod PacketSets
+pub mod Children
 pub mod Edges
+pub mod PacketSets
+pub mod Ports

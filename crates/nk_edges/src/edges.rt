@@ -1,13 +1,13 @@
 //! Where packets start and where they may leave, as sets of packets.
-ghost use Rattle.std.specs.Prelude.{◌≤◌, is_some, slice_index, IfOk};
-ghost use Rattle.nk_topo.specs.Topology.{is_port, link_from};
+ghost use Rattle.std.specs.Prelude.{◌≤◌, slice_index, IfOk};
+ghost use Rattle.nk_topo.specs.Topology.{is_port, is_edge};
 ghost use Rattle.nk_store.specs.StoreState.{Grows};
 ghost use Rattle.nk_apply.specs.Predicates.{IsPredicate};
 ghost use Rattle.nk_edges.specs.PacketSets.{IsSetInRange};
 ghost use Rattle.nk_edges.specs.Edges.{is_start, is_no_edge};
 
-use crate::places::{ports, sources};
-use crate::sets::{at_places, in_both, outside, passing, with_value};
+use crate::ports::at_ports;
+use crate::sets::{in_both, outside, passing, with_value};
 use nk_field::Fid;
 use nk_store::{Id, Store};
 use nk_topo::Topo;
@@ -22,21 +22,19 @@ fn located(st: &mut Store, topo: &Topo) -> Result<Id, AllocError>
         (λ d. IsSetInRange st.new d
         (λ pk. is_port topo.now (slice_index pk 0) (slice_index pk 1))) }
 {
-    let places = ports(st.alloc(), topo)?;
-    at_places(st, places.as_slice())
+    at_ports(st, topo, false)
 }
 
-/// The packets at a port where a link begins.
-fn at_links(st: &mut Store, topo: &Topo) -> Result<Id, AllocError>
+/// The packets at an edge port.
+fn at_edges(st: &mut Store, topo: &Topo) -> Result<Id, AllocError>
     requires switch { 65535 ≤ slice_index st.old.maxes 0 }
     requires port { 65535 ≤ slice_index st.old.maxes 1 }
     ensures grows { Grows st.old st.new }
     ensures set { IfOk result
         (λ d. IsSetInRange st.new d
-        (λ pk. is_some (link_from topo.now (slice_index pk 0) (slice_index pk 1)))) }
+        (λ pk. is_edge topo.now (slice_index pk 0) (slice_index pk 1))) }
 {
-    let places = sources(st.alloc(), topo)?;
-    at_places(st, places.as_slice())
+    at_ports(st, topo, true)
 }
 
 /// The packets that are at no edge port: at a port where a link begins, or at none that is
@@ -48,10 +46,7 @@ pub fn off_edges(st: &mut Store, topo: &Topo) -> Result<Id, AllocError>
     ensures set { IfOk result (λ d. IsSetInRange st.new d (is_no_edge topo.now)) }
     ensures predicate { IfOk result (λ d. IsPredicate st.new d) }
 {
-    let links = at_links(st, topo)?;
-    let free = outside(st, links)?;
-    let ports = located(st, topo)?;
-    let edges = in_both(st, ports, free)?;
+    let edges = at_edges(st, topo)?;
     outside(st, edges)
 }
 
