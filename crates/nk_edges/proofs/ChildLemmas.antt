@@ -8,8 +8,13 @@ use Rattle.std.proofs.lemmas.List.Elements.{All-head, All-tail, All-weaker}
 use Rattle.nk_store.specs.Nodes.{child_at, Rises, Each, InRange}
 use Rattle.nk_store.specs.StoreState.{StoreState, IsStorePacket, look, root_field, Grows, HasLeaves, IsChild, AreParts}
 use Rattle.nk_store.proofs.Same.{child-first, child-rest}
-use Rattle.nk_edges.specs.Children.{beside, part_below, part_to, parts_between, IsBeside}
+use Rattle.nk_edges.specs.Children.{beside, part_below, part_to, IsBeside}
 use Rattle.nk_edges.specs.PacketSets.{has_some_out, IsSetInRange}
+
+-- the parts for the values from low to high: each child at its value, the other one elsewhere
+abbrev pub parts_between : ℕ → ℕ → ℕ → List (ℕ × ℕ) → List (ℕ × ℕ)
+parts_between high other low [] = part_to low high other
+parts_between high other low (c ∷ cs) = part_below low c.0 other ++ (c.0, c.1) ∷ parts_between high other (c.0 + 1) cs
 
 -- the values rise from low on, up to high at most
 abbrev pub Rising : ℕ → ℕ → List (ℕ × ℕ) → Type 0

@@ -8,7 +8,7 @@ pub record IsSetInRange (st : StoreState) (d : ℕ) (test : List ℕ → Bool) :
   pub id : IsId st d
   pub at : (pk : List ℕ) → IsStorePacket st pk → has_some_out (look st d pk) ≡ test pk
 
--- the set of all packets, or that of none
+-- the set of all packets, or the set of none, as a leaf
 pub record IsConstantSet (st : StoreState) (d : ℕ) (all : Bool) : Type 0 where
   pub set : IsSetInRange st d (λ pk. all)
   pub root_field_is : root_field st d ≡ 18

@@ -8,8 +8,8 @@ use nk_field::{Fid, List};
 use nk_store::{Id, Store};
 use std::alloc::AllocError;
 
-/// The diagram that is at each value of the field the child beside it, and `other` at the values
-/// that stand with no child. The values ascend. The only error is that memory ran out.
+/// The diagram that tests the field: each of these values leads to its child, and all other values
+/// lead to `other`. The values ascend. The only error is that memory ran out.
 pub(crate) fn by_values(
     st: &mut Store,
     f: Fid,

@@ -1,6 +1,6 @@
 use Rattle.std.proofs.Common.{◌≡◌, ℕ, ◌≤◌, ◌++◌, take, drop}
 use Rattle.std.specs.Prelude.{All}
-use Rattle.nk_edges.specs.Children.{parts_between}
+use Rattle.nk_edges.proofs.ChildLemmas.{parts_between}
 use Rattle.nk_edges.proofs.children.all_parts.Given as goal
 
 -- the parts so far, and those of the children that are left, are all parts
