@@ -9,8 +9,8 @@ returns-then-taken c = λ ts h. record {
   said = h.said;
 }
 
-pub returns : goal.returns
-returns c = λ ts h. c.take_other.ensures ts (record {
+pub returns-else-taken : goal.returns-else-taken
+returns-else-taken c = λ ts h. c.take_other.ensures ts (record {
   declarations = h.declarations;
   read = subst (IsTextRead ts h.declarations) (sym (c.in_ok-taken.ensures.others c.if-taken.false)) h.read;
   said = h.said;
