@@ -4,9 +4,9 @@ use Rattle.nk_store.specs.StoreState.{StoreState, IsWhole, IsStorePacket, Grows}
 use Rattle.nk_store.proofs.Stores.{grows_on}
 use Rattle.nk_sets.specs.PacketSets.{is_in, IsSet}
 use Rattle.nk_sets.proofs.SetLemmas.{set_grows}
+use Rattle.nk_sets.proofs.Kept.{Has, packet_on, packet_back, has_on, has_back}
 use Rattle.nk_determ.specs.Pairs.{Under, Once}
 use Rattle.nk_goal.specs.Entries.{HaveSets, IsAdded, IsRest}
-use Rattle.nk_outs.proofs.Kept.{Has, packet_on, packet_back, has_on, has_back}
 use Rattle.nk_goal.proofs.Growing.{each_weaker, under_on, under_back}
 use Rattle.nk_backward.specs.Closures.{AreFound, IsGained}
 use Rattle.nk_backward.proofs.Listing.{under_or_not}

@@ -9,7 +9,7 @@ use Rattle.nk_store.specs.StoreState.{StoreState, IsId, HasLeaves, look, Grows}
 use Rattle.nk_apply.specs.Leaves.{merged}
 use Rattle.nk_apply.specs.Unions.{AreIds, unions}
 use Rattle.nk_apply.proofs.Members.{merged_members}
-use Rattle.nk_outs.proofs.Kept.{get_or_same}
+use Rattle.nk_sets.proofs.Kept.{get_or_same}
 use Rattle.nk_backward.specs.Predecessors.{diagram_at, HaveDiagrams, ShowsBelow, Shows, FindDiagrams, IsRunOfSet, IsWithFound, IsSetJoined, AreSetsJoined}
 
 -- an out of all leaves is one of a leaf's

@@ -10,10 +10,10 @@ use Rattle.nk_store.specs.StoreState.{StoreState, IsId, IsWhole, IsStorePacket, 
 use Rattle.nk_store.proofs.Stores.{grows_on}
 use Rattle.nk_apply.specs.Leaves.{guarded}
 use Rattle.nk_sets.specs.PacketSets.{has_some_out, is_in, IsImage}
-use Rattle.nk_outs.specs.declared.outs.OutPackets.{OutPackets}
-use Rattle.nk_outs.specs.Outs.{entry}
-use Rattle.nk_outs.proofs.Kept.{packet_on, has_on, get_or_same}
-use Rattle.nk_outs.proofs.OutEntries.{entry_at}
+use Rattle.nk_sets.specs.declared.outs.OutPackets.{OutPackets}
+use Rattle.nk_sets.specs.Outs.{entry}
+use Rattle.nk_sets.proofs.Kept.{packet_on, has_on, get_or_same}
+use Rattle.nk_sets.proofs.OutEntries.{entry_at}
 use Rattle.nk_steps.proofs.Locals.{acts_in_range}
 use Rattle.nk_backward.specs.declared.transitions.Transitions.{Transitions}
 use Rattle.nk_backward.specs.Transitions.{transitions_at, OutsSuitStore}

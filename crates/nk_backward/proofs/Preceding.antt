@@ -10,9 +10,9 @@ use Rattle.nk_store.specs.StoreState.{StoreState, IsStorePacket, HasLeaves, look
 use Rattle.nk_store.proofs.Stores.{grows_on}
 use Rattle.nk_apply.specs.Leaves.{guarded}
 use Rattle.nk_sets.specs.PacketSets.{is_in}
-use Rattle.nk_outs.specs.declared.outs.OutPackets.{OutPackets}
-use Rattle.nk_outs.specs.Outs.{IsByOut, sent_to}
-use Rattle.nk_outs.proofs.Kept.{packet_on, packet_back, has_back}
+use Rattle.nk_sets.specs.declared.outs.OutPackets.{OutPackets}
+use Rattle.nk_sets.specs.Outs.{IsByOut, sent_to}
+use Rattle.nk_sets.proofs.Kept.{packet_on, packet_back, has_back}
 use Rattle.nk_witness.proofs.PreimageSteps.{out_is}
 use Rattle.nk_backward.specs.declared.transitions.Transitions.{Transitions}
 use Rattle.nk_backward.specs.declared.predecessors.Predecessors.{Predecessors}

@@ -8,9 +8,9 @@ use Rattle.nk_apply.specs.Predicates.{IsPredicate}
 use Rattle.nk_apply.specs.Unions.{unions}
 use Rattle.nk_sets.specs.PacketSets.{has_some_out, is_in, IsSet}
 use Rattle.nk_sets.proofs.SetLemmas.{merged_out}
+use Rattle.nk_sets.proofs.Kept.{Has, has_on, has_back, get_or_same}
 use Rattle.nk_determ.specs.Pairs.{Under, Once, EachPair}
 use Rattle.nk_goal.specs.Entries.{HaveSets}
-use Rattle.nk_outs.proofs.Kept.{Has, has_on, has_back, get_or_same}
 use Rattle.nk_goal.proofs.Adding.{either_true, left_true, right_true}
 use Rattle.nk_goal.proofs.Places.{each_at, under_at, entry_of}
 use Rattle.nk_backward.specs.Predecessors.{diagram_at, HaveDiagrams, IsRunOfSet}

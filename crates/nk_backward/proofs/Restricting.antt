@@ -8,9 +8,9 @@ use Rattle.nk_apply.specs.Predicates.{IsPass, IsPredicate}
 use Rattle.nk_apply.proofs.Predicates.{pass_guarded}
 use Rattle.nk_sets.specs.PacketSets.{has_some_out, is_in, IsSet}
 use Rattle.nk_sets.proofs.SetLemmas.{guarded_out, both_pass, pass_both}
+use Rattle.nk_sets.proofs.Kept.{Has, packet_on}
 use Rattle.nk_determ.specs.Pairs.{Under, IsPair}
 use Rattle.nk_goal.specs.Entries.{IsAdded}
-use Rattle.nk_outs.proofs.Kept.{Has, packet_on}
 use Rattle.nk_goal.proofs.Growing.{under_on, under_back}
 use Rattle.nk_goal.proofs.Adding.{under_append, under_left, under_right, named_left, named_right}
 use Rattle.nk_witness.specs.Backs.{AreViolationsSoFar}

@@ -10,6 +10,7 @@ use Rattle.nk_apply.specs.Leaves.{guarded}
 use Rattle.nk_apply.specs.Predicates.{IsPredicate}
 use Rattle.nk_sets.specs.PacketSets.{has_some_out, is_in, IsSet}
 use Rattle.nk_sets.proofs.SetLemmas.{guarded_out, both_pass, pass_both, set_grows}
+use Rattle.nk_sets.proofs.Kept.{Has, packet_on, has_on, has_back}
 use Rattle.nk_determ.specs.Sets.{SetsGrow, HasEachSetOnce}
 use Rattle.nk_determ.specs.Pairs.{Node, Under, Once, EachPair, AreLabelsBelow, IsPair, ArePairs, IsStep, IsGood}
 use Rattle.nk_determ.specs.Levels.{At, AreLevels}
@@ -17,7 +18,6 @@ use Rattle.nk_determ.specs.Counterexamples.{Walks}
 use Rattle.nk_witness.specs.Finds.{target_of}
 use Rattle.nk_witness.specs.Backs.{AreViolationsSoFar}
 use Rattle.nk_witness.specs.declared.found.Side.{Side}
-use Rattle.nk_outs.proofs.Kept.{Has, packet_on, has_on, has_back}
 use Rattle.nk_goal.proofs.Growing.{sets_known, sets_same, under_on, under_back, under_named, named_known, packets_of, pair_on, each_weaker}
 use Rattle.nk_goal.proofs.Adding.{not_found, found_under, under_found}
 use Rattle.nk_witness.proofs.PreimageSteps.{empty_not}

@@ -9,11 +9,11 @@ use Rattle.nk_store.specs.StoreState.{StoreState, IsStorePacket, Grows}
 use Rattle.nk_store.proofs.Stores.{grows_on}
 use Rattle.nk_sets.specs.PacketSets.{is_in, IsSet, IsPacketSetOf}
 use Rattle.nk_sets.proofs.SetLemmas.{both_pass, pass_both}
+use Rattle.nk_sets.specs.declared.outs.OutPackets.{OutPackets}
+use Rattle.nk_sets.specs.Outs.{AllSuitStore, SuitsStore, sent_to}
+use Rattle.nk_sets.proofs.Kept.{Has, packet_on, has_on, has_back}
+use Rattle.nk_sets.proofs.OutEntries.{suits_at, gives_on, gives_back, gives_more, gives_less, gives_last}
 use Rattle.nk_determ.specs.Pairs.{Under, Named, Once}
-use Rattle.nk_outs.specs.declared.outs.OutPackets.{OutPackets}
-use Rattle.nk_outs.specs.Outs.{AllSuitStore, SuitsStore, sent_to}
-use Rattle.nk_outs.proofs.Kept.{Has, packet_on, has_on, has_back}
-use Rattle.nk_outs.proofs.OutEntries.{suits_at, gives_on, gives_back, gives_more, gives_less, gives_last}
 use Rattle.nk_goal.specs.Entries.{HaveSets}
 use Rattle.nk_goal.proofs.Growing.{under_on, under_back, under_named}
 use Rattle.nk_goal.proofs.Adding.{not_found, found_under, under_found, under_append, under_left, under_right, each_append}

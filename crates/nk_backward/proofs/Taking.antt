@@ -7,11 +7,11 @@ use Rattle.nk_store.specs.StoreState.{StoreState, IsStorePacket, Grows}
 use Rattle.nk_store.proofs.Stores.{grows_on}
 use Rattle.nk_sets.specs.PacketSets.{is_in, IsSet, IsPacketSetOf}
 use Rattle.nk_sets.proofs.SetLemmas.{both_pass, pass_both}
+use Rattle.nk_sets.specs.declared.outs.OutPackets.{OutPackets}
+use Rattle.nk_sets.specs.Outs.{entry, AllSuitStore}
+use Rattle.nk_sets.proofs.Kept.{Has, packet_on, has_on, has_back}
 use Rattle.nk_determ.specs.Pairs.{Under, Once}
-use Rattle.nk_outs.specs.declared.outs.OutPackets.{OutPackets}
-use Rattle.nk_outs.specs.Outs.{entry, AllSuitStore}
 use Rattle.nk_goal.specs.Entries.{HaveSets, IsMerged}
-use Rattle.nk_outs.proofs.Kept.{Has, packet_on, has_on, has_back}
 use Rattle.nk_goal.proofs.Growing.{under_on, under_back}
 use Rattle.nk_goal.proofs.Adding.{under_append, under_left, under_right, each_append}
 use Rattle.nk_steps.proofs.Locals.{acts_in_range}

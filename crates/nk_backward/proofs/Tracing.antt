@@ -8,15 +8,15 @@ use Rattle.nk_store.specs.Leaves.{Suits}
 use Rattle.nk_store.specs.StoreState.{StoreState, IsStorePacket, Grows, look}
 use Rattle.nk_store.proofs.Stores.{grows_on}
 use Rattle.nk_determ.specs.Sets.{SetsGrow}
-use Rattle.nk_outs.specs.declared.outs.OutPackets.{OutPackets}
+use Rattle.nk_sets.specs.declared.outs.OutPackets.{OutPackets}
 use Rattle.nk_determ.specs.Pairs.{AreStates, IsPair, IsStep}
-use Rattle.nk_outs.specs.Outs.{AllSuitStore, GivesAny, IsByOut}
-use Rattle.nk_outs.specs.Outs.{sent_to}
+use Rattle.nk_sets.specs.Outs.{AllSuitStore, GivesAny, IsByOut}
+use Rattle.nk_sets.specs.Outs.{sent_to}
 use Rattle.nk_steps.specs.Local.{IsStateAt}
-use Rattle.nk_outs.proofs.Kept.{packet_on, has_on}
+use Rattle.nk_sets.proofs.Kept.{packet_on, has_on}
 use Rattle.nk_goal.proofs.Growing.{sets_known, sets_same, under_named, step_on, step_back}
 use Rattle.nk_goal.proofs.Adding.{under_append, named_append}
-use Rattle.nk_outs.proofs.OutEntries.{all_suit_on, gives_on, gives_back}
+use Rattle.nk_sets.proofs.OutEntries.{all_suit_on, gives_on, gives_back}
 use Rattle.nk_steps.proofs.Locals.{acts_in_range}
 use Rattle.nk_backward.specs.declared.transitions.Transitions.{Transitions}
 use Rattle.nk_backward.specs.Transitions.{transitions_at, OutsSuitStore, IsLed, AreStepsFrom, AreTransitions}

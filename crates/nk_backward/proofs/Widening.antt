@@ -6,9 +6,9 @@ use Rattle.nk_store.specs.StoreState.{StoreState, IsStorePacket, IsWhole, HasLea
 use Rattle.nk_apply.specs.Unions.{unions}
 use Rattle.nk_sets.specs.PacketSets.{is_in}
 use Rattle.nk_sets.proofs.SetLemmas.{both_pass}
+use Rattle.nk_sets.proofs.Kept.{Has, packet_on, has_back}
 use Rattle.nk_determ.specs.Pairs.{Under, Once}
 use Rattle.nk_goal.specs.Entries.{HaveSets, IsAdded}
-use Rattle.nk_outs.proofs.Kept.{Has, packet_on, has_back}
 use Rattle.nk_goal.proofs.Growing.{under_on, under_back}
 use Rattle.nk_goal.proofs.Adding.{found_set, found_under, under_found}
 use Rattle.nk_backward.specs.Predecessors.{diagram_at, IsRunOfSet}

@@ -3,8 +3,8 @@
 use Rattle.std.specs.Prelude.{◌≡◌, ℕ, ◌+◌, ◌<◌, ◌⊎◌, true, List, length}
 use Rattle.nk_store.specs.StoreState.{StoreState, IsStorePacket}
 use Rattle.nk_sets.specs.PacketSets.{is_in}
-use Rattle.nk_outs.specs.declared.outs.OutPackets.{OutPackets}
-use Rattle.nk_outs.specs.Outs.{entry}
+use Rattle.nk_sets.specs.declared.outs.OutPackets.{OutPackets}
+use Rattle.nk_sets.specs.Outs.{entry}
 use Rattle.nk_determ.specs.Pairs.{Under, Once}
 use Rattle.nk_goal.specs.Entries.{HaveSets}
 use Rattle.nk_backward.specs.declared.transitions.Transitions.{Transitions}

@@ -6,8 +6,8 @@ use Rattle.nk_field.specs.Act.{applied}
 use Rattle.nk_store.specs.declared.node.Out.{Out}
 use Rattle.nk_store.specs.StoreState.{StoreState, IsId, IsWhole, IsStorePacket, look}
 use Rattle.nk_sets.specs.PacketSets.{is_in}
-use Rattle.nk_outs.specs.declared.outs.OutPackets.{OutPackets}
-use Rattle.nk_outs.specs.Outs.{entry, AllSuitStore, GivesAny, sent_to}
+use Rattle.nk_sets.specs.declared.outs.OutPackets.{OutPackets}
+use Rattle.nk_sets.specs.Outs.{entry, AllSuitStore, GivesAny, sent_to}
 use Rattle.nk_backward.specs.declared.transitions.Transitions.{Transitions}
 use Rattle.nk_backward.specs.Transitions.{transitions_at}
 

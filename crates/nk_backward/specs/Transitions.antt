@@ -3,10 +3,10 @@ use Rattle.std.specs.Prelude.{◌≡◌, ℕ, zero, suc, ◌+◌, ◌<◌, true,
 use Rattle.nk_field.specs.Act.{applied}
 use Rattle.nk_store.specs.StoreState.{StoreState, IsStorePacket}
 use Rattle.nk_sets.specs.PacketSets.{is_in}
+use Rattle.nk_sets.specs.Outs.{AllSuitStore, GivesAny}
+use Rattle.nk_sets.specs.Outs.{sent_to}
+use Rattle.nk_sets.specs.declared.outs.OutPackets.{OutPackets}
 use Rattle.nk_determ.specs.Pairs.{Node, Under, Named, IsStep}
-use Rattle.nk_outs.specs.Outs.{AllSuitStore, GivesAny}
-use Rattle.nk_outs.specs.Outs.{sent_to}
-use Rattle.nk_outs.specs.declared.outs.OutPackets.{OutPackets}
 use Rattle.nk_backward.specs.declared.transitions.Transitions.{Transitions}
 
 -- the entries of all levels, in turn

@@ -3,8 +3,8 @@ ghost use Rattle.std.specs.Prelude.{◌≡◌, ◌&&◌, [], true, IfOk, IfSome,
 ghost use Rattle.nk_field.specs.Act.{applied};
 ghost use Rattle.nk_store.specs.StoreState.{Grows};
 ghost use Rattle.nk_sets.specs.PacketSets.{is_in, IsSet, IsPacketSetOf};
+ghost use Rattle.nk_sets.specs.Outs.{AllSuitStore};
 ghost use Rattle.nk_determ.specs.Pairs.{Under, Once};
-ghost use Rattle.nk_outs.specs.Outs.{AllSuitStore};
 ghost use Rattle.nk_goal.specs.Entries.{HaveSets};
 ghost use Rattle.nk_backward.specs.Transitions.{OutsSuitStore};
 ghost use Rattle.nk_backward.specs.Predecessors.{ArePlacesBelow, ArePredecessors};
@@ -20,8 +20,7 @@ use nk_apply::{both, union_all};
 use nk_determ::SetId;
 use nk_field::List;
 use nk_goal::{Entries, add, add_level, unvisited};
-use nk_outs::OutPackets;
-use nk_sets::{is_empty, preimage};
+use nk_sets::{OutPackets, is_empty, preimage};
 use nk_store::{Id, Store};
 use std::alloc::{AllocError, Global};
 

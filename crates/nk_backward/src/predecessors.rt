@@ -3,7 +3,7 @@ ghost use Rattle.std.specs.Prelude.{◌≡◌, ◌+◌, ◌<◌, ◌⊎◌, ◌�
 ghost use Rattle.std.specs.Map.{lookup};
 ghost use Rattle.nk_store.specs.StoreState.{IsId, Grows, HasLeaves};
 ghost use Rattle.nk_sets.specs.PacketSets.{IsSet};
-ghost use Rattle.nk_outs.specs.Outs.{SuitsStore};
+ghost use Rattle.nk_sets.specs.Outs.{SuitsStore};
 ghost use Rattle.nk_backward.specs.Transitions.{OutsSuitStore};
 ghost use Rattle.nk_backward.specs.Predecessors.{ArePlacesBelow, place_at, transition_out, diagram_at, HaveDiagrams, FindDiagrams, IsMarked, AreMarked, IsRunOfSet, IsWithFound, IsSetJoined, AreSetsJoined, ArePredecessors, AreShownAt};
 
@@ -11,8 +11,7 @@ use crate::transitions::Transitions;
 use nk_apply::{union, union_all};
 use nk_determ::SetId;
 use nk_field::{Act, List};
-use nk_outs::{OutPackets, packets_by_out};
-use nk_sets::{at_packets, image};
+use nk_sets::{OutPackets, at_packets, image, packets_by_out};
 use nk_store::{Id, Out, Store};
 use std::alloc::{AllocError, Global};
 use std::collections::HashMap;

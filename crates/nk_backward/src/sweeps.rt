@@ -2,8 +2,8 @@
 ghost use Rattle.std.specs.Prelude.{◌≡◌, ◌&&◌, ℕ, [], true, Some, IfOk, OnOk, length};
 ghost use Rattle.nk_store.specs.StoreState.{Grows};
 ghost use Rattle.nk_sets.specs.PacketSets.{is_in, IsSet};
+ghost use Rattle.nk_sets.specs.Outs.{AllSuitStore};
 ghost use Rattle.nk_determ.specs.Pairs.{Under, Once};
-ghost use Rattle.nk_outs.specs.Outs.{AllSuitStore};
 ghost use Rattle.nk_goal.specs.Entries.{HaveSets};
 ghost use Rattle.nk_backward.specs.Transitions.{OutsSuitStore};
 ghost use Rattle.nk_backward.specs.Places.{AreAllPlaces};
@@ -19,8 +19,7 @@ use nk_apply::union_all;
 use nk_determ::SetId;
 use nk_field::List;
 use nk_goal::{add, packets_of_set};
-use nk_outs::OutPackets;
-use nk_sets::is_empty;
+use nk_sets::{OutPackets, is_empty};
 use nk_store::{Id, Store};
 use std::alloc::AllocError;
 

@@ -9,7 +9,7 @@ ghost use Rattle.nk_backward.specs.Transitions.{explored_entries, AreStepsFrom, 
 use crate::entries::all_entries;
 use nk_determ::{Levels, SetId, Sets};
 use nk_field::List;
-use nk_outs::{OutPackets, packets_by_out};
+use nk_sets::{OutPackets, packets_by_out};
 use nk_steps::local_state;
 use nk_store::{Id, Store};
 use std::alloc::AllocError;

@@ -12,13 +12,13 @@ use Rattle.nk_store.specs.declared.node.Out.{Out}
 use Rattle.nk_store.specs.StoreState.{StoreState, Grows, AreTidy}
 use Rattle.nk_store.proofs.Stores.{grows_on}
 use Rattle.nk_sets.specs.PacketSets.{is_in}
+use Rattle.nk_sets.proofs.Kept.{has_on}
 use Rattle.nk_determ.specs.Sets.{HasEachSetOnce}
 use Rattle.nk_determ.specs.Pairs.{AreStates}
 use Rattle.nk_determ.specs.Levels.{AreLevels}
 use Rattle.nk_reach.specs.Sides.{alone, ends_of}
 use Rattle.nk_determ.specs.Counterexamples.{IsCounterexampleWithTarget, IsCounterexample}
 use Rattle.nk_goal.proofs.Growing.{states_grow}
-use Rattle.nk_outs.proofs.Kept.{has_on}
 use Rattle.nk_runs.proofs.Stands.{packet_back, are_states}
 use Rattle.nk_witness.specs.Finds.{first_set, first_packets, found_of, target_of as witness_target}
 use Rattle.nk_witness.specs.declared.found.Side.{Side}

@@ -9,9 +9,9 @@ use Rattle.nk_field.proofs.Ascending.{all_from_members}
 use Rattle.nk_policy.specs.After.{id_policy}
 use Rattle.nk_store.specs.StoreState.{StoreState, IsStorePacket, Grows, HasLeaves}
 use Rattle.nk_sets.specs.PacketSets.{has_some_out, is_in, IsSet}
+use Rattle.nk_sets.proofs.Kept.{packet_on}
 use Rattle.nk_determ.specs.Pairs.{Under, Named}
 use Rattle.nk_goal.specs.Entries.{HaveSets, IsMerged}
-use Rattle.nk_outs.proofs.Kept.{packet_on}
 use Rattle.nk_goal.proofs.Growing.{under_on, under_back, under_named}
 use Rattle.nk_goal.proofs.Adding.{not_found, found_set, found_under, under_found}
 use Rattle.nk_tag.specs.Numbers.{later_level, AreEntries, AreLaterSets}

@@ -11,12 +11,12 @@ use Rattle.nk_store.specs.StoreState.{StoreState, IsStorePacket}
 use Rattle.nk_store.proofs.InRange.{packet_in_range, packet_of_fields}
 use Rattle.nk_determ.specs.Sets.{HasAscendingSets}
 use Rattle.nk_sets.specs.PacketSets.{is_in}
+use Rattle.nk_sets.proofs.Kept.{get_or_same}
+use Rattle.nk_sets.proofs.Rising.{rising_one}
 use Rattle.nk_determ.specs.Pairs.{AreLabelsBelow}
 use Rattle.nk_goal.specs.Goals.{PairHasViolation, PairHasNoViolation}
 use Rattle.nk_goal.proofs.Places.{under_at, entry_of}
-use Rattle.nk_outs.proofs.Kept.{get_or_same}
 use Rattle.nk_goal.proofs.Growing.{place_of, step_places}
-use Rattle.nk_outs.proofs.Rising.{rising_one}
 use Rattle.nk_runs.proofs.Stands.{are_states}
 use Rattle.nk_cert.specs.declared.certificate.CertPart.{CertPart}
 use Rattle.nk_cert.specs.declared.certificate.CertPart.TheVariants.{Position, Start, Finals, Hop}

@@ -4,13 +4,13 @@ use Rattle.std.proofs.lemmas.Bool.Decides.{eqb_tells}
 use Rattle.nk_store.specs.declared.node.Out.{Out}
 use Rattle.nk_store.specs.StoreState.{StoreState, Grows}
 use Rattle.nk_sets.specs.PacketSets.{is_in}
+use Rattle.nk_sets.proofs.Kept.{packet_on, packet_back, has_on, has_back}
 use Rattle.nk_apply.specs.Unions.{AreIds}
 use Rattle.nk_determ.specs.Sets.{SetsGrow}
 use Rattle.nk_determ.specs.Pairs.{Node, Under, Within, AreStates, AreLabelsBelow, IsPair, ArePairs, IsStep}
 use Rattle.nk_goal.specs.Goals.{PairHasViolation, PairHasNoViolation, MeetsViolation, MeetsNoViolation}
 use Rattle.nk_reach.specs.Rounds.{IsNextLevel}
 use Rattle.nk_reach.specs.Sides.{alone, ends_of, ends_same, IsPropertyOfEnds, property_grows}
-use Rattle.nk_outs.proofs.Kept.{packet_on, packet_back, has_on, has_back}
 use Rattle.nk_goal.proofs.Growing.{sets_refl, sets_same, packets_of, pairs_on, within_on, within_back, within_or_not, states_grow, step_on, step_back}
 use Rattle.nk_goal.proofs.Violations.{none_back}
 use Rattle.nk_reach.proofs.Round.{first_node}

@@ -14,12 +14,12 @@ use Rattle.nk_apply.specs.Leaves.{absent}
 use Rattle.nk_apply.specs.Predicates.{IsPredicate}
 use Rattle.nk_sets.specs.PacketSets.{has_some_out, is_in}
 use Rattle.nk_sets.proofs.SetLemmas.{absent_out}
+use Rattle.nk_sets.proofs.Kept.{packet_back}
 use Rattle.nk_auto.specs.Complements.{NegatesPredicates, AllNegatePredicates}
 use Rattle.nk_auto.specs.Plain.{Sends}
 use Rattle.nk_auto.specs.Continued.{IsSilent}
 use Rattle.nk_auto.proofs.Predicates.{predicate_assigns}
 use Rattle.nk_auto.proofs.Silences.{not_silent, twice_silent}
-use Rattle.nk_outs.proofs.Kept.{packet_back}
 use Rattle.nk_cert.specs.Levelled.{HasEach}
 use Rattle.nk_check.specs.Judged.{IsPacketsOf}
 

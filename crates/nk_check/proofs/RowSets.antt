@@ -16,10 +16,10 @@ use Rattle.nk_policy.specs.Tree.{tree_of}
 use Rattle.nk_policy.specs.declared.policy.Pol.{Pol}
 use Rattle.nk_store.specs.StoreState.{StoreState, Grows}
 use Rattle.nk_sets.proofs.SetLemmas.{set_grows}
+use Rattle.nk_sets.proofs.Kept.{packet_back, has_on, has_back}
 use Rattle.nk_determ.specs.Sets.{SetsGrow, IsSetOf}
 use Rattle.nk_determ.specs.Pairs.{AreLabelsBelow, IsPair, EachPair}
 use Rattle.nk_goal.specs.Entries.{IsMerged}
-use Rattle.nk_outs.proofs.Kept.{packet_back, has_on, has_back}
 use Rattle.nk_goal.proofs.Growing.{sets_same, pair_on, packets_of, pairs_of, named_known, under_on, under_back}
 use Rattle.nk_cert.specs.Certificates.{at_dups, RowValue}
 use Rattle.nk_cert.specs.Checked.{IsSetAt}

@@ -6,7 +6,7 @@ use Rattle.nk_store.proofs.Stores.{grows_on}
 use Rattle.nk_apply.specs.Unions.{AreIds}
 use Rattle.nk_determ.specs.Pairs.{AreStates, AreLabelsBelow}
 use Rattle.nk_determ.specs.Levels.{AreLevels}
-use Rattle.nk_outs.proofs.Kept.{packet_back, has_on}
+use Rattle.nk_sets.proofs.Kept.{packet_back, has_on}
 use Rattle.nk_reach.specs.Sides.{alone, ends_of, AreOneSided}
 use Rattle.nk_witness.specs.Finds.{first_set, first_packets}
 use Rattle.nk_witness.proofs.Settling.{levels_now}

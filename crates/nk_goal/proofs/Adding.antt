@@ -9,9 +9,9 @@ use Rattle.nk_apply.specs.Leaves.{merged}
 use Rattle.nk_apply.specs.Predicates.{IsPredicate}
 use Rattle.nk_sets.specs.PacketSets.{has_some_out, is_in, IsSet, IsPacketSetOf}
 use Rattle.nk_sets.proofs.SetLemmas.{set_grows, merged_out}
+use Rattle.nk_sets.proofs.Kept.{Has, packet_on, has_on, has_back}
 use Rattle.nk_determ.specs.Pairs.{Under, Named, Once, EachPair}
 use Rattle.nk_goal.specs.Entries.{HaveSets, IsJoined, IsMerged, IsAdded, IsRest}
-use Rattle.nk_outs.proofs.Kept.{Has, packet_on, has_on, has_back}
 use Rattle.nk_goal.proofs.Growing.{under_on, under_back, under_named, each_weaker}
 
 -- a set that isn't found has no entry

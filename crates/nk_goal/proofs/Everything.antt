@@ -6,7 +6,7 @@ use Rattle.nk_apply.proofs.Members.{Has as Among}
 use Rattle.nk_apply.proofs.Members.{has_contains}
 use Rattle.nk_determ.specs.Pairs.{Node, AreLabelsBelow}
 use Rattle.nk_goal.proofs.Growing.{place_of}
-use Rattle.nk_outs.proofs.Rising.{RisesFrom, rises_from}
+use Rattle.nk_sets.proofs.Rising.{RisesFrom, rises_from}
 
 -- an item of the first list is one of both together
 pub among_left : {A : Type 0} (xs ys : List A) (a : A) → Among xs a → Among (xs ++ ys) a

@@ -5,13 +5,13 @@ use Rattle.std.proofs.lemmas.List.{get_or_append_left, get_or_default}
 use Rattle.nk_store.specs.StoreState.{StoreState, IsStorePacket, Grows}
 use Rattle.nk_sets.specs.PacketSets.{is_in, IsSet}
 use Rattle.nk_sets.proofs.SetLemmas.{set_grows}
+use Rattle.nk_sets.proofs.Kept.{packet_on, packet_back, has_on, has_back}
 use Rattle.nk_determ.specs.Sets.{SetsGrow}
 use Rattle.nk_determ.specs.States.{StateLeads}
 use Rattle.nk_determ.specs.Pairs.{Node, Under, Named, EachPair, Within, AreStates, AreLabelsBelow, IsPair, ArePairs, IsStep}
 use Rattle.nk_determ.specs.Levels.{IsFilled}
 pub use Rattle.nk_determ.proofs.Sending.{sends_on, sends_back}
 use Rattle.nk_goal.specs.Entries.{HaveSets}
-use Rattle.nk_outs.proofs.Kept.{packet_on, packet_back, has_on, has_back}
 
 -- a number of a set stays one as the sets grow
 pub sets_known : (a b : List (List ℕ)) (i : ℕ) → SetsGrow a b → i < length a → i < length b

@@ -2,7 +2,7 @@
 use Rattle.std.proofs.Common.{◌≡◌, ℕ, suc, zero, ◌<◌, inl, inr, sym, ap, subst, arith, List, [], ◌∷◌, length, get_or}
 use Rattle.nk_store.specs.StoreState.{StoreState}
 use Rattle.nk_determ.specs.Pairs.{Under, EachPair}
-use Rattle.nk_outs.proofs.Kept.{Has}
+use Rattle.nk_sets.proofs.Kept.{Has}
 
 -- an entry by its place
 pub each_at : (P : ℕ × ℕ → Type 0) (ps : List (ℕ × ℕ)) (k : ℕ) (p : ℕ × ℕ) → EachPair P ps → k < length ps → p ≡ get_or ps k p → P p

@@ -4,9 +4,9 @@ use Rattle.nk_store.specs.declared.node.Out.{Out}
 use Rattle.nk_store.specs.StoreState.{StoreState, IsId, IsWhole, IsStorePacket, look, Grows, HasLeaves}
 use Rattle.nk_apply.specs.Leaves.{guarded}
 use Rattle.nk_sets.specs.PacketSets.{has_some_out, is_in, IsSet}
+use Rattle.nk_sets.proofs.Kept.{get_or_same, packet_on, packet_back, has_on, has_back}
 use Rattle.nk_goal.specs.Goals.{MeetsViolation, MeetsNoViolation, PairHasViolation, PairHasNoViolation}
 use Rattle.std.proofs.lemmas.Bool.Decides.{eqb_tells}
-use Rattle.nk_outs.proofs.Kept.{get_or_same, packet_on, packet_back, has_on, has_back}
 use Rattle.nk_goal.proofs.Places.{under_at, entry_of}
 
 -- where a guard lets pass and nothing is left, nothing was there

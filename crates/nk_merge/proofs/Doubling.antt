@@ -12,7 +12,7 @@ use Rattle.nk_determ.specs.Exact.{Sends}
 use Rattle.nk_determ.specs.Targets.{option_out, out_by_table, retargeted}
 use Rattle.nk_determ.specs.Pairs.{AreLabelsBelow, AreStates}
 use Rattle.nk_reach.specs.Sides.{alone, ends_of, AreOneSided, IsPropertyOfEnds}
-use Rattle.nk_outs.proofs.Kept.{packet_on, packet_back}
+use Rattle.nk_sets.proofs.Kept.{packet_on, packet_back}
 use Rattle.nk_goal.proofs.Growing.{sends_on, sends_back, states_grow}
 use Rattle.nk_merge.specs.DisjointCopies.{again, label_count, AreDisjointCopies, IsDisjointCopy, IsDisjointCopyUpTo, IsMadeBy, AreMadeBy}
 use Rattle.nk_merge.specs.declared.disjoint_copy.DisjointCopy.{DisjointCopy}

@@ -10,7 +10,7 @@ use Rattle.nk_determ.specs.Counterexamples.{Walks}
 use Rattle.nk_reach.specs.Sides.{alone, ends_of, ends_same, property_grows, EndsAt, AreOneSided, IsPropertyOfEnds}
 use Rattle.nk_witness.specs.declared.found.Side.{Side}
 use Rattle.nk_witness.specs.declared.found.Side.TheVariants.{Left, Right}
-use Rattle.nk_outs.proofs.Kept.{packet_on, packet_back}
+use Rattle.nk_sets.proofs.Kept.{packet_on, packet_back}
 use Rattle.nk_goal.proofs.Growing.{place_of, sends_on, sends_back, leads_on, leads_back, states_grow, step_on, step_back, step_places}
 use Rattle.nk_merge.specs.Alike.{SetGives, AreAlike}
 use Rattle.nk_merge.specs.Distinguish.{IsOfFirst, IsOfOne, IsLeastOfOne}

@@ -4,13 +4,13 @@ use Rattle.std.specs.Prelude.{slice_index_or}
 use Rattle.nk_field.specs.Order.{Found, IsLeast}
 use Rattle.nk_store.specs.StoreState.{StoreState, IsId, IsStorePacket, Grows, AreTidy}
 use Rattle.nk_sets.specs.PacketSets.{is_in}
+use Rattle.nk_sets.proofs.Kept.{packet_back, has_on}
 use Rattle.nk_determ.specs.Pairs.{AreLabelsBelow, AreStates}
 use Rattle.nk_determ.specs.Counterexamples.{IsCounterexampleWithTarget, IsCounterexample}
 use Rattle.nk_determ.specs.Levels.{AreLevels}
 use Rattle.nk_reach.specs.Sides.{alone, ends_of, ends_same}
 use Rattle.nk_witness.specs.Finds.{first_set, first_packets, target_of}
 use Rattle.nk_witness.specs.declared.found.Side.{Side}
-use Rattle.nk_outs.proofs.Kept.{packet_back, has_on}
 use Rattle.nk_witness.proofs.Settling.{levels_now}
 use Rattle.nk_merge.specs.Alike.{labels_after, AreAlike}
 use Rattle.nk_merge.specs.Distinguish.{IsLeastOfOne}

@@ -11,7 +11,7 @@ use Rattle.nk_determ.specs.Sets.{SetsGrow}
 use Rattle.nk_determ.specs.States.{StateLeads}
 use Rattle.nk_determ.specs.Pairs.{Node, AreLabelsBelow, AreStates, IsStep}
 use Rattle.nk_determ.proofs.Sending.{unions_has, has_unions}
-use Rattle.nk_outs.proofs.Kept.{packet_on, packet_back}
+use Rattle.nk_sets.proofs.Kept.{packet_on, packet_back}
 use Rattle.nk_goal.proofs.Growing.{sends_on, sends_back, leads_on, leads_back, sets_same}
 use Rattle.nk_merge.specs.Alike.{SetGives, AreAlike, labels_after, tag_set}
 use Rattle.nk_merge.specs.Seen.{DoesTogether, IsSeenAt, AreSeenDiagrams}

@@ -10,7 +10,7 @@ use Rattle.nk_goal.specs.Goals.{MeetsViolation, MeetsNoViolation}
 use Rattle.nk_reach.specs.Rounds.{IsNextLevel}
 use Rattle.nk_goal.specs.Entries.{IsMerged}
 use Rattle.nk_goal.proofs.Graphs.{complete}
-use Rattle.nk_outs.proofs.Kept.{packet_on, packet_back, get_or_same}
+use Rattle.nk_sets.proofs.Kept.{packet_on, packet_back, get_or_same}
 use Rattle.nk_goal.proofs.Growing.{sets_refl, sets_same, within_places, step_on, within_or_not}
 use Rattle.nk_goal.proofs.Going.{Going, level_on, level_back, going_on}
 use Rattle.nk_reach.proofs.Round.{going_next}

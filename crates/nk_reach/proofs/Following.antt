@@ -4,7 +4,7 @@ use Rattle.nk_store.specs.StoreState.{StoreState, Grows}
 use Rattle.nk_determ.specs.Sets.{SetsGrow, HasEachSetOnce}
 use Rattle.nk_determ.specs.Pairs.{Node, AreStates, AreLabelsBelow, IsPair, IsStep}
 use Rattle.nk_reach.specs.Rounds.{IsRaw, IsFollowed, IsSoFar}
-use Rattle.nk_outs.proofs.Kept.{packet_on, packet_back, has_on, has_back}
+use Rattle.nk_sets.proofs.Kept.{packet_on, packet_back, has_on, has_back}
 use Rattle.nk_goal.proofs.Growing.{sets_known, sets_same, under_named, pairs_of, step_on, step_back}
 use Rattle.nk_goal.proofs.Adding.{under_append, under_left, under_right}
 

@@ -3,11 +3,11 @@ use Rattle.std.proofs.Common.{◌≡◌, ℕ, ◌+◌, true, false, inl, inr, sy
 use Rattle.nk_store.specs.StoreState.{StoreState, IsWhole, Grows}
 use Rattle.nk_sets.specs.PacketSets.{is_in, IsSet}
 use Rattle.nk_sets.proofs.SetLemmas.{set_grows}
+use Rattle.nk_sets.proofs.Kept.{Has, packet_on, has_on, has_back}
 use Rattle.nk_determ.specs.Pairs.{Under, Named}
 use Rattle.nk_determ.specs.Levels.{IsFilled}
 use Rattle.nk_goal.specs.Entries.{HaveSets, IsRest}
 use Rattle.nk_reach.specs.Rounds.{IsFresh}
-use Rattle.nk_outs.proofs.Kept.{Has, packet_on, has_on, has_back}
 use Rattle.nk_goal.proofs.Growing.{under_on, under_back, each_weaker, filled_on}
 use Rattle.nk_goal.proofs.Adding.{under_append, under_left, under_right, named_append, named_left, named_right, each_append, once_push}
 

@@ -4,7 +4,7 @@ use Rattle.nk_store.specs.StoreState.{StoreState, Grows}
 use Rattle.nk_determ.specs.Sets.{SetsGrow}
 use Rattle.nk_determ.specs.Pairs.{Under, Named, ArePairs}
 use Rattle.nk_reach.specs.Rounds.{IsNextLevel, IsRaw, IsFresh}
-use Rattle.nk_outs.proofs.Kept.{packet_on}
+use Rattle.nk_sets.proofs.Kept.{packet_on}
 use Rattle.nk_goal.proofs.Growing.{sets_known, sets_same, named_known, under_named, under_on, under_back, pairs_of, packets_of}
 
 -- what a level leads to, without what was visited, is the next level

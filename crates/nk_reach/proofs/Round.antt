@@ -6,13 +6,13 @@ use Rattle.nk_store.specs.StoreState.{StoreState, IsStorePacket, Grows}
 use Rattle.nk_store.proofs.Stores.{grows_on, grows_same}
 use Rattle.nk_apply.proofs.Members.{Has as Among}
 use Rattle.nk_sets.specs.PacketSets.{IsSet}
+use Rattle.nk_sets.proofs.Kept.{packet_on, packet_back}
 use Rattle.nk_determ.specs.Sets.{SetsGrow}
 use Rattle.nk_determ.specs.Pairs.{Node, EachPair, Within, AreStates, AreLabelsBelow, ArePairs, IsStart, IsStep, IsGood}
 use Rattle.nk_determ.specs.Levels.{InLevel, IsLaterLevel, IsFilled, IsViolation}
 use Rattle.nk_goal.specs.Entries.{HaveSets, IsMerged}
 use Rattle.nk_reach.specs.Rounds.{IsNextLevel}
 use Rattle.nk_goal.proofs.Graphs.{IsNext, exact_push, exact_start}
-use Rattle.nk_outs.proofs.Kept.{packet_on, packet_back}
 use Rattle.nk_goal.proofs.Growing.{sets_refl, named_known, pairs_of, packets_of, pairs_on, within_on, within_back, within_places, step_on, step_back, step_places, filled_on}
 use Rattle.nk_goal.proofs.Everything.{all_nodes, among_nodes}
 use Rattle.nk_goal.proofs.Going.{Going, level_old, level_new, level_on, level_back, going_on}

@@ -6,15 +6,15 @@ use Rattle.nk_store.specs.StoreState.{StoreState, IsWhole, IsStorePacket, look, 
 use Rattle.nk_store.proofs.Stores.{grows_on}
 use Rattle.nk_sets.specs.PacketSets.{is_in, IsSet, IsImage}
 use Rattle.nk_sets.proofs.SetLemmas.{set_grows}
-use Rattle.nk_outs.specs.declared.outs.OutPackets.{OutPackets}
+use Rattle.nk_sets.specs.declared.outs.OutPackets.{OutPackets}
+use Rattle.nk_sets.specs.Outs.{AllSuitStore, GivesAny, IsByOut, sent_to}
+use Rattle.nk_sets.proofs.Kept.{Has, packet_on, packet_back, has_on, has_back}
+use Rattle.nk_sets.proofs.OutEntries.{is_set_at, gives_more, gives_less, gives_last}
 use Rattle.nk_determ.specs.Pairs.{Node, Under, Once, Within, AreStates, AreLabelsBelow, IsStep}
-use Rattle.nk_outs.specs.Outs.{AllSuitStore, GivesAny, IsByOut, sent_to}
 use Rattle.nk_steps.specs.Local.{IsStateAt}
 use Rattle.nk_goal.specs.Entries.{HaveSets, IsAdded}
 use Rattle.nk_reach.specs.Rounds.{IsFollowed, IsSent, IsAllSent}
-use Rattle.nk_outs.proofs.Kept.{Has, packet_on, packet_back, has_on, has_back}
 use Rattle.nk_goal.proofs.Growing.{under_on, under_back, each_weaker, step_places}
-use Rattle.nk_outs.proofs.OutEntries.{is_set_at, gives_more, gives_less, gives_last}
 
 -- an image without packets sends nothing
 pub sent_empty : (st mid : StoreState) (o : Out) (p r : ℕ) (ps : List (ℕ × ℕ)) → HaveSets st ps → Once ps → Grows st mid → IsImage st o.act p mid r → ((pk : List ℕ) → IsWhole pk → is_in mid r pk ≡ false) → IsSent st o p ps mid ps

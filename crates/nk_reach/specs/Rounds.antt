@@ -4,12 +4,12 @@ use Rattle.nk_field.specs.Act.{applied}
 use Rattle.nk_store.specs.declared.node.Out.{Out}
 use Rattle.nk_store.specs.StoreState.{StoreState, IsStorePacket}
 use Rattle.nk_sets.specs.PacketSets.{is_in}
+use Rattle.nk_sets.specs.Outs.{GivesOut, sent_to}
+use Rattle.nk_sets.specs.declared.outs.OutPackets.{OutPackets}
 use Rattle.nk_determ.specs.Sets.{HasEachSetOnce}
 use Rattle.nk_determ.specs.Pairs.{Node, Under, Named, Once, EachPair, Within, ArePairs, AreLabelsBelow, IsStep}
 use Rattle.nk_determ.specs.Levels.{IsFilled}
 use Rattle.nk_goal.specs.Entries.{HaveSets}
-use Rattle.nk_outs.specs.Outs.{GivesOut, sent_to}
-use Rattle.nk_outs.specs.declared.outs.OutPackets.{OutPackets}
 
 -- the level has exactly what the last level leads to and was not visited
 pub record IsNextLevel (st : StoreState) (ss : List (List ℕ)) (states : List ℕ) (visited last : List (ℕ × ℕ)) (new : StoreState) (nss : List (List ℕ)) (level : List (ℕ × ℕ)) : Type 0 where

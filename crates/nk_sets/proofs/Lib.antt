@@ -7,3 +7,10 @@ pub mod LeastPackets
 pub mod Printing
 pub mod SetLemmas
 pub mod SetTrees
+pub mod Kept
+pub mod Rising
+pub mod OutEntries
+pub mod Stretches
+pub mod ByOut
+pub mod Running
+pub mod Grouping

@@ -6,3 +6,4 @@ pub mod PolicyOf
 pub mod Predicate
 pub mod Trees
 pub mod Cuts
+pub mod Outs

@@ -7,7 +7,7 @@ use Rattle.nk_store.specs.StoreState.{StoreState, IsId, look, AreTidy}
 use Rattle.nk_apply.specs.Unions.{AreIds, unions}
 use Rattle.nk_apply.proofs.Sorted.{merged_strict}
 use Rattle.nk_apply.proofs.Members.{Has, merged_left, merged_right, merged_has, strict_same}
-use Rattle.nk_outs.proofs.Kept.{get_or_same}
+use Rattle.nk_sets.proofs.Kept.{get_or_same}
 
 -- among diagrams of the store are diagrams of the store
 pub ids_alike : (st : StoreState) (xs ys : List ℕ) → ((d : ℕ) → Contains xs d → Contains ys d) → AreIds st ys → AreIds st xs

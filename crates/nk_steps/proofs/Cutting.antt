@@ -4,13 +4,13 @@ use Rattle.nk_store.specs.declared.node.Out.{Out}
 use Rattle.nk_store.specs.StoreState.{StoreState, IsId, IsWhole, IsStorePacket, look, Grows, HasLeaves}
 use Rattle.nk_apply.specs.Leaves.{guarded}
 use Rattle.nk_sets.specs.PacketSets.{has_some_out}
+use Rattle.nk_sets.specs.Outs.{sent_to}
+use Rattle.nk_sets.proofs.Kept.{Has}
 use Rattle.nk_determ.specs.Sets.{HasAscendingSets}
 use Rattle.nk_determ.specs.Exact.{Sends}
 use Rattle.nk_determ.specs.States.{HaveEach, SomeLeads, StateLeads, AreLedTo}
 use Rattle.nk_determ.proofs.StatesAt.{at_state, from_state}
 use Rattle.nk_determ.specs.Pairs.{IsStep}
-use Rattle.nk_outs.specs.Outs.{sent_to}
-use Rattle.nk_outs.proofs.Kept.{Has}
 
 -- what the states of labels have at the packets of x alone
 abbrev pub cut_each : StoreState → List ℕ → List ℕ → ℕ → ℕ → List ℕ → List Out

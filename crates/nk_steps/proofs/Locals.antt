@@ -11,15 +11,15 @@ use Rattle.nk_store.proofs.Ordered.{every_member}
 use Rattle.nk_store.proofs.Stores.{grows_on}
 use Rattle.nk_apply.specs.Leaves.{guarded}
 use Rattle.nk_sets.specs.PacketSets.{has_some_out}
+use Rattle.nk_sets.specs.Outs.{sent_to}
+use Rattle.nk_sets.proofs.Kept.{Has, packet_on, packet_back}
+use Rattle.nk_sets.proofs.Rising.{rising_one}
 use Rattle.nk_determ.specs.Sets.{HasAscendingSets}
 use Rattle.nk_determ.specs.Exact.{Sends}
 use Rattle.nk_determ.specs.States.{HaveEach, SomeLeads, AreLedTo}
 use Rattle.nk_determ.proofs.StatesAt.{leads_states, met_same}
 use Rattle.nk_determ.specs.Pairs.{Node, IsStep}
-use Rattle.nk_outs.specs.Outs.{sent_to}
 use Rattle.nk_steps.specs.Local.{IsStateAt}
-use Rattle.nk_outs.proofs.Kept.{Has, packet_on, packet_back}
-use Rattle.nk_outs.proofs.Rising.{rising_one}
 use Rattle.nk_steps.proofs.Cutting.{cut_each, guard_in, guard_out, leads_cut, led_step}
 
 -- an act in range leads from packets in range to packets in range

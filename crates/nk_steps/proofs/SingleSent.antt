@@ -9,7 +9,7 @@ use Rattle.nk_determ.specs.Exact.{Sends}
 use Rattle.nk_determ.specs.Sets.{place_in}
 use Rattle.nk_determ.specs.States.{SomeLeads, AreLedTo}
 use Rattle.nk_determ.proofs.Interned.{sets_same, place_holds}
-use Rattle.nk_outs.specs.Outs.{sent_to}
+use Rattle.nk_sets.specs.Outs.{sent_to}
 use Rattle.nk_steps.specs.Single.{single_to, IsSingle}
 use Rattle.nk_steps.proofs.SingleLeaves.{stepped_has, has_stepped}
 

@@ -7,8 +7,8 @@ use Rattle.nk_store.specs.StoreState.{StoreState, IsStorePacket, Grows}
 use Rattle.nk_apply.specs.Unions.{AreIds}
 use Rattle.nk_determ.specs.Exact.{Sends}
 use Rattle.nk_determ.specs.States.{SomeLeads, AreLedTo}
-use Rattle.nk_outs.specs.Outs.{sent_to}
-use Rattle.nk_outs.proofs.Kept.{packet_on}
+use Rattle.nk_sets.specs.Outs.{sent_to}
+use Rattle.nk_sets.proofs.Kept.{packet_on}
 
 -- the diagrams of one store record what those of the other do
 abbrev pub RecordSame : StoreState → List ℕ → StoreState → List ℕ → Type 0

@@ -3,8 +3,8 @@ use Rattle.std.specs.Prelude.{◌≡◌, ℕ, ◌+◌, ◌<◌, true, List, [], 
 use Rattle.nk_field.specs.Act.{applied}
 use Rattle.nk_store.specs.StoreState.{StoreState, IsId, IsStorePacket, look}
 use Rattle.nk_sets.specs.PacketSets.{is_in}
+use Rattle.nk_sets.specs.Outs.{sent_to}
 use Rattle.nk_determ.specs.Pairs.{Node, IsStep}
-use Rattle.nk_outs.specs.Outs.{sent_to}
 
 -- its outs but the finals are the steps of the set at the packets of x
 pub record IsStateAt (st : StoreState) (states set : List ℕ) (x : ℕ) (new : StoreState) (nss : List (List ℕ)) (d : ℕ) : Type 0 where

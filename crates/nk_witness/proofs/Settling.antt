@@ -6,7 +6,7 @@ use Rattle.nk_determ.specs.Reach.{Reach}
 use Rattle.nk_determ.specs.Pairs.{Node, AreStates, AreLabelsBelow, ArePairs, IsStart, IsStep}
 use Rattle.nk_determ.specs.Levels.{At, IsViolation, InLevel, AreLevels}
 use Rattle.nk_witness.proofs.Stable.{levels_on}
-use Rattle.nk_outs.proofs.Kept.{packet_on, packet_back, has_on, has_back}
+use Rattle.nk_sets.proofs.Kept.{packet_on, packet_back, has_on, has_back}
 use Rattle.nk_goal.proofs.Growing.{step_on, step_back, step_places, within_places}
 use Rattle.nk_witness.specs.Finds.{first_set, first_packets}
 use Rattle.nk_witness.specs.Laws.{LevelsStay}

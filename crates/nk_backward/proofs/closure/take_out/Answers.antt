@@ -1,7 +1,7 @@
 use Rattle.std.proofs.Common.{◌<◌, length, sym, subst}
 use Rattle.nk_store.proofs.Stores.{grows_same}
-use Rattle.nk_outs.proofs.OutEntries.{entry_at, is_set_at}
-use Rattle.nk_outs.specs.Outs.{AllSuitStore}
+use Rattle.nk_sets.proofs.OutEntries.{entry_at, is_set_at}
+use Rattle.nk_sets.specs.Outs.{AllSuitStore}
 use Rattle.nk_backward.specs.declared.transitions.Transitions.{Transitions}
 use Rattle.nk_backward.specs.Closures.{IsTakenOut}
 use Rattle.nk_backward.proofs.Tracing.{at_place}

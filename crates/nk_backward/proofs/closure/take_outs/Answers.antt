@@ -1,7 +1,7 @@
 use Rattle.std.proofs.Common.{◌<◌, length, arith}
 use Rattle.nk_store.proofs.Stores.{grows_on, grows_same}
 use Rattle.nk_sets.proofs.SetLemmas.{set_grows}
-use Rattle.nk_outs.proofs.OutEntries.{is_set_at, entry_at}
+use Rattle.nk_sets.proofs.OutEntries.{is_set_at, entry_at}
 use Rattle.nk_backward.specs.Closures.{IsTakenBelow}
 use Rattle.nk_backward.proofs.Tracing.{outs_suit_on}
 use Rattle.nk_backward.proofs.Gaining.{found_nothing}

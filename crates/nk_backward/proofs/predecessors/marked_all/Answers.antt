@@ -1,9 +1,9 @@
 use Rattle.std.proofs.Common.{◌≡◌, ◌<◌, ℕ, length, sym, ◌∙◌, ap, subst, arith}
 use Rattle.nk_store.proofs.Stores.{grows_on, grows_same}
 use Rattle.std.proofs.lemmas.List.{get_or_default}
-use Rattle.nk_outs.proofs.OutEntries.{suits_on}
-use Rattle.nk_outs.specs.Outs.{SuitsStore}
-use Rattle.nk_outs.specs.declared.outs.OutPackets.{OutPackets}
+use Rattle.nk_sets.proofs.OutEntries.{suits_on}
+use Rattle.nk_sets.specs.Outs.{SuitsStore}
+use Rattle.nk_sets.specs.declared.outs.OutPackets.{OutPackets}
 use Rattle.nk_backward.specs.declared.transitions.Transitions.{Transitions}
 use Rattle.nk_backward.specs.Predecessors.{out_at, place_at, AreMarked}
 use Rattle.nk_backward.proofs.Tracing.{at_place}

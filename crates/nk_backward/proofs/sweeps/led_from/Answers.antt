@@ -1,7 +1,7 @@
 use Rattle.std.proofs.Common.{◌≡◌, ◌<◌, [], length, sym, subst, arith}
 use Rattle.nk_store.proofs.Stores.{grows_on, grows_same}
 use Rattle.nk_sets.proofs.SetLemmas.{set_grows}
-use Rattle.nk_outs.proofs.OutEntries.{is_set_at}
+use Rattle.nk_sets.proofs.OutEntries.{is_set_at}
 use Rattle.nk_backward.specs.Closures.{AreFound}
 use Rattle.nk_backward.specs.Sweeps.{IsLedBy}
 use Rattle.nk_backward.proofs.Gaining.{sets_on, found_nothing}

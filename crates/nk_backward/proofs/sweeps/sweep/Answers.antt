@@ -1,7 +1,7 @@
 use Rattle.std.proofs.Common.{◌<◌, ◌+◌, length, sym, subst, arith}
 use Rattle.nk_store.proofs.Stores.{grows_same}
-use Rattle.nk_outs.specs.Outs.{AllSuitStore}
-use Rattle.nk_outs.proofs.OutEntries.{all_suit_on}
+use Rattle.nk_sets.specs.Outs.{AllSuitStore}
+use Rattle.nk_sets.proofs.OutEntries.{all_suit_on}
 use Rattle.nk_backward.specs.declared.transitions.Transitions.{Transitions}
 use Rattle.nk_backward.specs.Sweeps.{IsTakenBack}
 use Rattle.nk_backward.proofs.Tracing.{at_place}

@@ -2,8 +2,8 @@ use Rattle.std.proofs.Common.{◌≡◌, suc, ◌+◌, ◌-◌, ◌<◌, [], len
 use Rattle.nk_store.proofs.Stores.{grows_on, grows_same}
 use Rattle.nk_sets.specs.PacketSets.{IsSet}
 use Rattle.nk_sets.proofs.SetLemmas.{set_grows}
+use Rattle.nk_sets.proofs.Kept.{get_or_same}
 use Rattle.nk_goal.specs.Entries.{HaveSets}
-use Rattle.nk_outs.proofs.Kept.{get_or_same}
 use Rattle.nk_goal.proofs.Growing.{each_weaker}
 use Rattle.nk_cert.specs.Later.{AreLaterPackets}
 use Rattle.nk_cert.proofs.Making.{none_later, later_more, later_done}

@@ -1,5 +1,5 @@
 use Rattle.std.proofs.Common.{◌∙◌}
-use Rattle.nk_outs.proofs.Kept.{get_or_same}
+use Rattle.nk_sets.proofs.Kept.{get_or_same}
 use Rattle.nk_check.proofs.judge.entry_of.Goals as goal
 
 pub returns : goal.returns

@@ -1,6 +1,6 @@
 use Rattle.std.proofs.Common.{◌≡◌, false, [], get_or, refl, arith}
 use Rattle.nk_witness.specs.Finds.{found_of}
-use Rattle.nk_outs.proofs.Kept.{packet_back}
+use Rattle.nk_sets.proofs.Kept.{packet_back}
 use Rattle.nk_merge.proofs.Growing.{disjoint_on, twice_with}
 use Rattle.nk_merge.proofs.Levelling.{rows_stand, same_before, least_before}
 use Rattle.nk_merge.proofs.distinguishing.distinguish.Goals as goal

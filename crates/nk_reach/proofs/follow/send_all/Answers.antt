@@ -1,6 +1,6 @@
 use Rattle.std.proofs.Common.{◌<◌, length, arith}
 use Rattle.nk_store.proofs.Stores.{grows_on}
-use Rattle.nk_outs.proofs.OutEntries.{suits_on, suits_at}
+use Rattle.nk_sets.proofs.OutEntries.{suits_on, suits_at}
 use Rattle.nk_reach.proofs.Sending.{all_sent_push}
 use Rattle.nk_reach.proofs.follow.send_all.Goals as goal
 

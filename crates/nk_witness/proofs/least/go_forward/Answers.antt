@@ -2,7 +2,7 @@ use Rattle.std.proofs.Common.{◌≡◌, ◌-◌, ℕ, List, [], length, get_or,
 use Rattle.nk_store.proofs.Stores.{grows_on}
 use Rattle.nk_determ.proofs.Interned.{sets_on}
 use Rattle.nk_determ.specs.Pairs.{AreLabelsBelow}
-use Rattle.nk_outs.proofs.Kept.{packet_on, packet_back}
+use Rattle.nk_sets.proofs.Kept.{packet_on, packet_back}
 use Rattle.nk_goal.proofs.Growing.{states_grow}
 use Rattle.nk_witness.proofs.Backing.{backs_on}
 use Rattle.nk_witness.proofs.Forwards.{start_sets, start_held, start_first, start_forward, round_here, round_next, round_under, round_ahead, round_on, end_known, end_places, end_bad, end_breaks, end_least, end_left}

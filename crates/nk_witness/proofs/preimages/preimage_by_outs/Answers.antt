@@ -2,8 +2,8 @@ use Rattle.std.proofs.Common.{◌<◌, length, arith}
 use Rattle.nk_store.proofs.Stores.{grows_on}
 use Rattle.nk_sets.specs.PacketSets.{IsSet}
 use Rattle.nk_sets.proofs.SetLemmas.{set_grows}
+use Rattle.nk_sets.proofs.OutEntries.{suits_on, suits_at}
 use Rattle.nk_goal.proofs.Growing.{each_weaker}
-use Rattle.nk_outs.proofs.OutEntries.{suits_on, suits_at}
 use Rattle.nk_witness.proofs.PreimageSteps.{preimage_by_none, preimage_by_push}
 use Rattle.nk_witness.proofs.preimages.preimage_by_outs.Goals as goal
 
