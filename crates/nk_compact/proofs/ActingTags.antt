@@ -8,9 +8,9 @@ use Rattle.nk_field.proofs.Lists.{In, in_either, in_left, in_right, in_mapped, f
 use Rattle.nk_field.proofs.Ascending.{Rising}
 use Rattle.nk_store.specs.StoreState.{StoreState}
 use Rattle.nk_apply.specs.PacketSets.{is_in}
-use Rattle.nk_switches.specs.declared.switch_tags.ActingTag.{ActingTag}
-use Rattle.nk_switches.specs.declared.switch_tags.ClassHere.{ClassHere}
-use Rattle.nk_switches.specs.Classed.{acting_tag}
+use Rattle.nk_group.specs.declared.switch_tags.ActingTag.{ActingTag}
+use Rattle.nk_group.specs.declared.switch_tags.ClassHere.{ClassHere}
+use Rattle.nk_group.specs.Classed.{acting_tag}
 use Rattle.nk_compact.specs.ClassesAtSwitches.{is_of_class, packets_of, acting_of, class_among, classes_among}
 
 module _ (classes met : List ℕ) (c : ℕ) where

@@ -20,9 +20,9 @@ use Rattle.nk_store.proofs.InRange.{packet_in_range, packet_of_fields}
 use Rattle.nk_determ.specs.Automaton.{IsAutomaton}
 use Rattle.nk_witness.specs.declared.found.Side.{Side}
 use Rattle.nk_witness.specs.declared.found.Side.TheVariants.{Left, Right}
-use Rattle.nk_switches.specs.Matched.{Matched}
-use Rattle.nk_switches.specs.Tagged.{set_of_tag}
-use Rattle.nk_switches.proofs.Matching.{of_second, matched_maps}
+use Rattle.nk_group.specs.Matched.{Matched}
+use Rattle.nk_group.specs.Tagged.{set_of_tag}
+use Rattle.nk_group.proofs.Matching.{of_second, matched_maps}
 use Rattle.nk_merge.specs.Alike.{SetGives, AreAlike, AreTagsAlike, labels_after}
 use Rattle.nk_merge.specs.Distinguish.{IsOfFirst, IsOfOne, IsLeastOfOne}
 use Rattle.nk_merge.specs.Classes.{AreClasses, AreFirsts}

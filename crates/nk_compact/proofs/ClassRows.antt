@@ -18,17 +18,17 @@ use Rattle.nk_store.proofs.InRange.{packet_in_range}
 use Rattle.nk_apply.specs.PacketSets.{is_in}
 use Rattle.nk_extract.specs.Buckets.{bucket_of, AreBuckets}
 use Rattle.nk_group.specs.Groups.{groups_of, rows_after}
+use Rattle.nk_group.specs.declared.switch_tags.ActingTag.{ActingTag}
+use Rattle.nk_group.specs.declared.switch_tags.ClassHere.{ClassHere}
+use Rattle.nk_group.specs.declared.switch_tags.SwitchClasses.{SwitchClasses}
+use Rattle.nk_group.specs.declared.switch_tags.SwitchTags.{SwitchTags}
+use Rattle.nk_group.specs.Matched.{Matched}
+use Rattle.nk_group.specs.Tagged.{set_of_tag, members_of}
+use Rattle.nk_group.specs.Made.{IsTagAt}
+use Rattle.nk_group.specs.Classed.{class_of, acting_tag, LeadsTo, IsActingAt, IsClassAt, AreSwitchClasses, IsClassTreeAt, IsClassTableAt}
+use Rattle.nk_group.proofs.Matching.{of_second, matched_maps}
 use Rattle.nk_table.specs.declared.Table.{Table}
 use Rattle.nk_table.specs.declared.Tables.{Tables}
-use Rattle.nk_switches.specs.declared.switch_tags.ActingTag.{ActingTag}
-use Rattle.nk_switches.specs.declared.switch_tags.ClassHere.{ClassHere}
-use Rattle.nk_switches.specs.declared.switch_tags.SwitchClasses.{SwitchClasses}
-use Rattle.nk_switches.specs.declared.switch_tags.SwitchTags.{SwitchTags}
-use Rattle.nk_switches.specs.Matched.{Matched}
-use Rattle.nk_switches.specs.Tagged.{set_of_tag, members_of}
-use Rattle.nk_switches.specs.Made.{IsTagAt}
-use Rattle.nk_switches.specs.Classed.{class_of, acting_tag, LeadsTo, IsActingAt, IsClassAt, AreSwitchClasses, IsClassTreeAt, IsClassTableAt}
-use Rattle.nk_switches.proofs.Matching.{of_second, matched_maps}
 use Rattle.nk_compile.specs.Comings.{ComesTo, HasComing}
 use Rattle.nk_compile.specs.MetUnder.{IsMetUnder}
 use Rattle.nk_compile.specs.PrintedTable.{IsNumberedList}

@@ -31,8 +31,8 @@ use Rattle.nk_determ.specs.Sets.{SetsGrow, HasAscendingSets}
 use Rattle.nk_determ.proofs.Naming.{named_within}
 use Rattle.nk_runs.specs.Labels.{IsAmong}
 use Rattle.nk_runs.proofs.Stands.{stands, are_states}
-use Rattle.nk_switches.specs.Tagged.{set_of_tag}
-use Rattle.nk_switches.proofs.Growing.{set_kept, known_kept, tag_set_kept}
+use Rattle.nk_group.specs.Tagged.{set_of_tag}
+use Rattle.nk_group.proofs.Growing.{set_kept, known_kept, tag_set_kept}
 use Rattle.nk_merge.specs.Alike.{labels_after, AreAlike, AreTagsAlike}
 use Rattle.nk_merge.specs.Classes.{AreClasses, AreFirsts}
 use Rattle.nk_compile.specs.declared.prepared.Prepared.{Prepared}

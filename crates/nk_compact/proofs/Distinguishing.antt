@@ -8,8 +8,8 @@ use Rattle.nk_determ.specs.Sets.{SetsGrow}
 use Rattle.nk_determ.specs.Pairs.{AreLabelsBelow}
 use Rattle.nk_witness.specs.declared.found.Found as declared
 use Rattle.nk_goal.proofs.Growing.{states_grow}
-use Rattle.nk_switches.proofs.Growing.{set_kept, sets_grow_on, known_kept}
-use Rattle.nk_switches.proofs.Matching.{matched_push}
+use Rattle.nk_group.proofs.Growing.{set_kept, sets_grow_on, known_kept}
+use Rattle.nk_group.proofs.Matching.{matched_push}
 use Rattle.nk_merge.specs.Alike.{AreAlike, labels_after}
 use Rattle.nk_merge.specs.Distinguish.{Distinguishes, IsLeastOfOne}
 use Rattle.nk_merge.specs.Classes.{AreFirsts}

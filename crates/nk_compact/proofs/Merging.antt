@@ -22,7 +22,7 @@ use Rattle.nk_names.proofs.Named.{let_named}
 use Rattle.nk_store.specs.Diagram.{leaf_at}
 use Rattle.nk_table.specs.declared.Tables.{Tables}
 use Rattle.nk_table.specs.declared.Table.{Table}
-use Rattle.nk_switches.specs.Classed.{class_of}
+use Rattle.nk_group.specs.Classed.{class_of}
 use Rattle.nk_compile.specs.Carries.{Carries}
 use Rattle.nk_compile.specs.WholeTable.{HasRowsAt, TagTree}
 use Rattle.nk_compile.proofs.ActingTags.{GivesAs, Acts, Numbering}

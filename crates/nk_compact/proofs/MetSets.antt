@@ -12,8 +12,8 @@ use Rattle.nk_apply.specs.PacketSets.{has_some_out, is_in}
 use Rattle.nk_apply.proofs.Members.{Has, merged_has, merged_left, merged_right}
 use Rattle.nk_determ.specs.Sets.{IsSetOf, SetsGrow, HasEachSetOnce}
 use Rattle.nk_determ.specs.Pairs.{Under, EachPair}
-use Rattle.nk_switches.specs.Tagged.{set_of_tag}
-use Rattle.nk_switches.proofs.Growing.{set_kept, sets_longer}
+use Rattle.nk_group.specs.Tagged.{set_of_tag}
+use Rattle.nk_group.proofs.Growing.{set_kept, sets_longer}
 use Rattle.nk_merge.specs.Alike.{labels_after}
 use Rattle.nk_compact.specs.MetPackets.{entries_of, AreUnder, AreMet}
 

@@ -1,9 +1,9 @@
 -- Which classes have rows at a switch, by the tags that come there; and which of these act for a class at which packets.
 use Rattle.std.specs.Prelude.{◌==◌, ℕ, zero, suc, ◌+◌, Bool, false, List, [], ◌∷◌, ◌++◌, if◌then◌else◌, length, slice_index}
-use Rattle.nk_switches.specs.declared.switch_tags.SwitchTags.{SwitchTags}
-use Rattle.nk_switches.specs.declared.switch_tags.ActingTag.{ActingTag}
-use Rattle.nk_switches.specs.declared.switch_tags.ClassHere.{ClassHere}
-use Rattle.nk_switches.specs.declared.switch_tags.SwitchClasses.{SwitchClasses}
+use Rattle.nk_group.specs.declared.switch_tags.SwitchTags.{SwitchTags}
+use Rattle.nk_group.specs.declared.switch_tags.ActingTag.{ActingTag}
+use Rattle.nk_group.specs.declared.switch_tags.ClassHere.{ClassHere}
+use Rattle.nk_group.specs.declared.switch_tags.SwitchClasses.{SwitchClasses}
 
 -- whether the tag is of the class; tag 0 is of none
 abbrev pub is_of_class : List ℕ → ℕ → ℕ → Bool

@@ -7,7 +7,7 @@ use Rattle.nk_policy.specs.Ranges.{IsInRange}
 use Rattle.nk_names.specs.Accepted.{IsStartPacket}
 use Rattle.nk_store.specs.StoreState.{StoreState, IsId}
 use Rattle.nk_apply.specs.PacketSets.{is_in}
-use Rattle.nk_switches.specs.Tagged.{set_of_tag}
+use Rattle.nk_group.specs.Tagged.{set_of_tag}
 use Rattle.nk_merge.specs.Classes.{AreFirsts}
 use Rattle.nk_compile.specs.MetUnder.{IsMetUnder}
 use Rattle.nk_compile.specs.OffEdge.{EndsOnEdges}

@@ -14,7 +14,7 @@ use Rattle.nk_table.specs.declared.Bucket.{Bucket}
 use Rattle.nk_table.specs.declared.Table.{Table}
 use Rattle.nk_table.specs.declared.Tables.{Tables}
 use Rattle.nk_group.specs.Groups.{groups_of, rows_after}
-use Rattle.nk_switches.specs.Classed.{class_of}
+use Rattle.nk_group.specs.Classed.{class_of}
 use Rattle.nk_merge.specs.Classes.{AreClasses}
 use Rattle.nk_compile.specs.PrintedTable.{IsNumberedList}
 use Rattle.nk_compile.specs.MetUnder.{IsMetUnder}

@@ -5,7 +5,7 @@ use Rattle.nk_determ.specs.Sets.{SetsGrow}
 use Rattle.nk_determ.specs.Pairs.{AreLabelsBelow, AreStates}
 use Rattle.nk_witness.specs.declared.found.Side.{Side}
 use Rattle.nk_witness.specs.declared.found.Side.TheVariants.{Left, Right}
-use Rattle.nk_switches.specs.Matched.{Matched}
+use Rattle.nk_group.specs.Matched.{Matched}
 use Rattle.nk_merge.specs.Alike.{labels_after, tag_set}
 use Rattle.nk_merge.specs.Distinguish.{IsLeastOfOne}
 use Rattle.nk_compile.specs.Refusals.{found_from}

@@ -2,7 +2,7 @@
 ghost use Rattle.std.specs.Prelude.{◌≡◌, ℕ, ◌<◌, ◌+◌, ◌^◌, List as Items, [], ◌∷◌, ◌++◌, All, IfOk, OnOk, length, map, slice_index, slice_index_or};
 ghost use Rattle.nk_store.specs.StoreState.{StoreState, IsId, Grows};
 ghost use Rattle.nk_determ.specs.Sets.{IsSetOf, SetsGrow};
-ghost use Rattle.nk_switches.specs.Tagged.{set_of_tag};
+ghost use Rattle.nk_group.specs.Tagged.{set_of_tag};
 ghost use Rattle.nk_merge.specs.Alike.{labels_after};
 ghost use Rattle.nk_compact.specs.MetPackets.{entries_of, HaveIds, AreUnder, AreMet};
 

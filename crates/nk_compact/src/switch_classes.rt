@@ -1,11 +1,11 @@
 //! Which classes have rows at which switch.
 ghost use Rattle.std.specs.Prelude.{◌≡◌, ◌<◌, ◌≤◌, [], ◌∷◌, ◌++◌, All, IfOk, OnOk, length, map};
-ghost use Rattle.nk_switches.specs.declared.switch_tags.SwitchClasses.{SwitchClasses};
+ghost use Rattle.nk_group.specs.declared.switch_tags.SwitchClasses.{SwitchClasses};
 ghost use Rattle.nk_compact.specs.ClassesAtSwitches.{acting_of, class_among, classes_among, switch_classes_of};
 
 use nk_field::List;
+use nk_group::{ActingTag, ClassHere, SwitchClasses, SwitchTags};
 use nk_store::Id;
-use nk_switches::{ActingTag, ClassHere, SwitchClasses, SwitchTags};
 use std::alloc::{AllocError, Global};
 
 /// For each switch its classes with rows there: class 0, and each class to which one of the tags belongs that come there. These

@@ -16,7 +16,7 @@ use Rattle.nk_store.specs.Diagram.{Diagram, leaf_at}
 use Rattle.nk_table.specs.declared.Bucket.{Bucket}
 use Rattle.nk_table.specs.declared.Table.{Table}
 use Rattle.nk_table.specs.declared.Tables.{Tables}
-use Rattle.nk_switches.specs.Classed.{class_of}
+use Rattle.nk_group.specs.Classed.{class_of}
 use Rattle.nk_compile.specs.WholeTable.{TagTree}
 use Rattle.nk_compact.specs.declared.compact.Compact.{Compact}
 use Rattle.nk_compact.specs.Compacted.{IsCompacted}

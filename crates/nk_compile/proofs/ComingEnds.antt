@@ -3,8 +3,8 @@ use Rattle.std.proofs.Common.{◌≡◌, ℕ, ◌+◌, ◌<◌, Option, Some, No
 use Rattle.std.proofs.lemmas.List.{get_or-map, length-map}
 use Rattle.nk_topo.specs.Topology.{Topology, SwitchPorts, IsTopology, numbers_of}
 use Rattle.std.specs.Prelude.{All, AllPairs, map, slice_index_or, Result, Ok, Err, OnOk}
-use Rattle.nk_switches.specs.declared.switch_tags.SwitchTags.{SwitchTags}
-use Rattle.nk_switches.specs.Tagged.{set_of_tag}
+use Rattle.nk_group.specs.declared.switch_tags.SwitchTags.{SwitchTags}
+use Rattle.nk_group.specs.Tagged.{set_of_tag}
 use Rattle.nk_compile.specs.Comings.{first_end, HasComing, with_end}
 use Rattle.nk_compile.proofs.ComingSteps.{all_more, all_same, switches_stay}
 

@@ -7,8 +7,8 @@ use Rattle.std.proofs.lemmas.List.{get_or-map, get_or_default, length-map}
 use Rattle.std.proofs.lemmas.Bool.Decides.{nat_tests}
 use Rattle.nk_field.proofs.Lists.{In, in_from_contains, contains_from_in, in_either, in_left, in_right, in_mapped, numbers_decided}
 use Rattle.nk_field.proofs.Ascending.{Rising, rising_from, increasing_from, members_from_all, all_from_members}
-use Rattle.nk_switches.specs.declared.switch_tags.SwitchTags.{SwitchTags}
-use Rattle.nk_switches.specs.Tagged.{set_of_tag}
+use Rattle.nk_group.specs.declared.switch_tags.SwitchTags.{SwitchTags}
+use Rattle.nk_group.specs.Tagged.{set_of_tag}
 use Rattle.nk_compile.specs.Comings.{first_end, ComesTo, HasComing, with_tag}
 use Rattle.nk_compile.proofs.Reached.{same_some}
 

@@ -7,7 +7,7 @@ use Rattle.nk_topo.specs.Topology.{Topology}
 use Rattle.nk_policy.specs.Policy.{Policy}
 use Rattle.nk_table.specs.declared.Tables.{Tables}
 use Rattle.nk_determ.specs.Sets.{SetsGrow}
-use Rattle.nk_switches.proofs.Growing.{set_kept}
+use Rattle.nk_group.proofs.Growing.{set_kept}
 use Rattle.nk_compile.specs.NumberedAfter.{tags_after, IsTableAfter}
 use Rattle.nk_compile.specs.Ready.{sets_of}
 use Rattle.nk_compile.specs.WholeTable.{IsTableOf}

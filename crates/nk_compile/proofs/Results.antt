@@ -24,10 +24,10 @@ use Rattle.nk_store.proofs.InRange.{packet_in_range}
 use Rattle.nk_determ.specs.States.{StateLeads}
 use Rattle.nk_extract.specs.Buckets.{AreBuckets}
 use Rattle.nk_group.specs.Groups.{groups_of, rows_after}
+use Rattle.nk_group.specs.declared.switch_tags.SwitchTags.{SwitchTags}
+use Rattle.nk_group.specs.Tagged.{set_of_tag, members_of, LeadsWith}
+use Rattle.nk_group.specs.Made.{TagTree, rows_of_trees, IsTagTree, IsTableAt, IsTagAt}
 use Rattle.nk_table.specs.declared.Table.{Table}
-use Rattle.nk_switches.specs.declared.switch_tags.SwitchTags.{SwitchTags}
-use Rattle.nk_switches.specs.Tagged.{set_of_tag, members_of, LeadsWith}
-use Rattle.nk_switches.specs.Made.{TagTree, rows_of_trees, IsTagTree, IsTableAt, IsTagAt}
 use Rattle.nk_compile.specs.PrintedTable.{IsOfTag, StateRecords, IsResult, IsTreeOfTag}
 use Rattle.nk_compile.specs.WholeTable.{HasRowsAt, IsSwitchTable}
 use Rattle.nk_compile.specs.Ready.{sets_of, IsClear, IsReady}

@@ -23,8 +23,8 @@ use Rattle.nk_store.proofs.Same.{set_in_range}
 use Rattle.nk_apply.specs.Unions.{AreIds}
 use Rattle.nk_determ.specs.States.{StateLeads}
 use Rattle.nk_auto.specs.Automaton.{IsState, IsAutomaton}
-use Rattle.nk_switches.specs.States.{StayAt}
-use Rattle.nk_switches.specs.Tagged.{set_of_tag, members_of}
+use Rattle.nk_group.specs.States.{StayAt}
+use Rattle.nk_group.specs.Tagged.{set_of_tag, members_of}
 use Rattle.nk_compile.proofs.TagFree.{uses_others, assigns_only, keeps_field, records_field, ends_stay, first_records_stay}
 
 -- what is left at a position after a dup

@@ -16,11 +16,11 @@ use Rattle.nk_names.specs.Accepted.{IsStartPacket}
 use Rattle.nk_store.specs.StoreState.{StoreState}
 use Rattle.nk_table.specs.declared.Table.{Table}
 use Rattle.nk_table.specs.declared.Tables.{Tables}
-use Rattle.nk_switches.specs.declared.switch_tags.SwitchTags.{SwitchTags}
-use Rattle.nk_switches.specs.Matched.{Matched}
-use Rattle.nk_switches.specs.Tagged.{set_of_tag, AreOnce}
-use Rattle.nk_switches.specs.Made.{IsTableAt, AreSwitchTags}
-use Rattle.nk_switches.proofs.Matching.{of_second, matched_maps}
+use Rattle.nk_group.specs.declared.switch_tags.SwitchTags.{SwitchTags}
+use Rattle.nk_group.specs.Matched.{Matched}
+use Rattle.nk_group.specs.Tagged.{set_of_tag, AreOnce}
+use Rattle.nk_group.specs.Made.{IsTableAt, AreSwitchTags}
+use Rattle.nk_group.proofs.Matching.{of_second, matched_maps}
 use Rattle.nk_compile.specs.NumberedAfter.{tags_after, IsTableAfter}
 use Rattle.nk_compile.specs.WholeTable.{HasRowsAt, IsSwitchTable, link_end}
 use Rattle.nk_compile.specs.Ready.{sets_of, IsClear, IsReady}

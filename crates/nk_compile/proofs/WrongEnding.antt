@@ -24,7 +24,7 @@ use Rattle.nk_witness.specs.Finds.{first_set, first_packets}
 use Rattle.nk_witness.proofs.Settling.{settled}
 use Rattle.nk_store.proofs.Stores.{grows_same}
 use Rattle.nk_goal.proofs.Growing.{sets_refl}
-use Rattle.nk_switches.proofs.Growing.{set_kept}
+use Rattle.nk_group.proofs.Growing.{set_kept}
 use Rattle.nk_edges.specs.Edges.{is_start, is_no_edge}
 use Rattle.nk_compile.specs.Levelled.{IsLevelled, IsLeastOff}
 use Rattle.nk_edges.specs.PacketSets.{IsSetInRange}

@@ -7,9 +7,9 @@ use Rattle.nk_policy.specs.Policy.{Policy, Policies, test, range, assign, sum_of
 use Rattle.nk_table.specs.declared.Table.{Table}
 use Rattle.nk_table.specs.declared.Tables.{Tables}
 use Rattle.nk_group.specs.Groups.{groups_of, rows_after}
+pub use Rattle.nk_group.specs.Made.{TagTree, rows_of_trees}
 use Rattle.nk_policy.specs.Tags.{AreTags}
 use Rattle.nk_compile.specs.PrintedTable.{IsTreeOfTag}
-pub use Rattle.nk_switches.specs.Made.{TagTree, rows_of_trees}
 
 abbrev pub first_number : Option ℕ → Option ℕ → Option ℕ
 first_number None o = o

@@ -18,7 +18,7 @@ pub use compilation::{compile, compile_counted, compile_policy, hand_tables, num
 pub use counted::Counted;
 pub use ends::link_ends;
 pub use nk_extract::RowSink;
-pub use nk_switches::TableSink;
+pub use nk_group::TableSink;
 pub use numbered::Numbered;
 pub use pair::{TablePair, compile_pair};
 pub use prepared::Prepared;

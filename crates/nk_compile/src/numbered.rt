@@ -17,8 +17,8 @@ use crate::tables::{numbers, prepare};
 use crate::tagging::{print_to, tables_over};
 use nk_determ::SetId;
 use nk_field::{Fields, List};
+use nk_group::{TableList, TableSink};
 use nk_policy::Pol;
-use nk_switches::{TableList, TableSink};
 use nk_topo::Topo;
 use std::alloc::{AllocError, Global};
 

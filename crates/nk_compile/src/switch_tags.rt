@@ -2,12 +2,12 @@
 ghost use Rattle.std.specs.Prelude.{◌≡◌, ℕ, ◌<◌, ◌≤◌, None, [], ◌∷◌, nat_lt, map, All, AllPairs, IfOk, OnOk, IfSome, IfNone, length, slice_index, slice_index_or, slice_set};
 ghost use Rattle.std.specs.List.{prefix_len};
 ghost use Rattle.nk_topo.specs.Topology.{numbers_of};
-ghost use Rattle.nk_switches.specs.declared.switch_tags.SwitchTags.{SwitchTags};
+ghost use Rattle.nk_group.specs.declared.switch_tags.SwitchTags.{SwitchTags};
 ghost use Rattle.nk_compile.specs.Comings.{first_end, HasComing, longer, with_tag, with_end};
 
 use nk_determ::{SetId, Sets};
 use nk_field::List;
-use nk_switches::SwitchTags;
+use nk_group::SwitchTags;
 use nk_topo::Topo;
 use std::alloc::{AllocError, Global};
 

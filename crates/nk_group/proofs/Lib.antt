@@ -1,3 +1,14 @@
 pub mod Choice
 pub mod Kept
 pub mod Taken
+pub mod Matching
+pub mod Cutting
+pub mod Growing
+pub mod Exacting
+pub mod Printing
+pub mod Tagging
+pub mod Stating
+pub mod Trees
+pub mod Finishing
+pub mod Fronting
+pub mod ClassTables

@@ -18,7 +18,7 @@ use Rattle.nk_table.specs.declared.Table.{Table}
 use Rattle.nk_table.specs.declared.Tables.{Tables}
 use Rattle.nk_extract.specs.Buckets.{IsBucketBefore}
 use Rattle.nk_group.specs.Groups.{groups_of, rows_after}
-use Rattle.nk_switches.specs.Classed.{class_of}
+use Rattle.nk_group.specs.Classed.{class_of}
 use Rattle.nk_compile.specs.PrintedTable.{IsNumberedList}
 use Rattle.nk_compile.specs.Refusals.{found_from}
 use Rattle.nk_compile.specs.WholeTable.{TagTree, rows_of_trees}

@@ -3,8 +3,8 @@ use Rattle.std.specs.Prelude.{All, slice_index}
 use Rattle.nk_policy.specs.Tree.{tree_of}
 use Rattle.nk_names.specs.Accepted.{IsStartPacket, most_tags}
 use Rattle.nk_store.proofs.Stores.{grows_on}
-use Rattle.nk_switches.proofs.Growing.{sets_grow_on}
-use Rattle.nk_switches.specs.Tagged.{set_of_tag}
+use Rattle.nk_group.proofs.Growing.{sets_grow_on}
+use Rattle.nk_group.specs.Tagged.{set_of_tag}
 use Rattle.nk_merge.specs.Classes.{AreFirsts}
 use Rattle.nk_compile.specs.Ready.{sets_of}
 use Rattle.nk_compile.proofs.Levelled.{prepared_unopposed, prepared_compilable}

@@ -1,6 +1,6 @@
 use Rattle.std.proofs.Common.{arith, sym, append-nil, []}
 use Rattle.nk_store.proofs.Stores.{grows_same, grows_on}
-use Rattle.nk_switches.proofs.Growing.{sets_grow_on}
+use Rattle.nk_group.proofs.Growing.{sets_grow_on}
 use Rattle.nk_compact.proofs.Distinguishing.{base_on, base_here, alike_then, told_more, row_start}
 use Rattle.nk_compact.proofs.histories.distinguish_from_later.Goals as goal
 

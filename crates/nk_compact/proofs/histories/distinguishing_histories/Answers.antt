@@ -1,6 +1,6 @@
 use Rattle.std.proofs.Common.{length}
 use Rattle.nk_store.proofs.Stores.{grows_on}
-use Rattle.nk_switches.proofs.Growing.{sets_grow_on}
+use Rattle.nk_group.proofs.Growing.{sets_grow_on}
 use Rattle.nk_compact.specs.Told.{first_pairs}
 use Rattle.nk_compact.proofs.Distinguishing.{base_on, base_here, alike_then, rows_more}
 use Rattle.nk_compact.proofs.histories.distinguishing_histories.Goals as goal

@@ -2,9 +2,9 @@ use Rattle.std.proofs.Common.{◌≡◌, List, ℕ, ◌<◌, ◌≤◌, ◌∙�
 use Rattle.std.specs.Prelude.{All, map}
 use Rattle.std.proofs.lemmas.Result.{IfOk-weaker}
 use Rattle.nk_policy.specs.Tree.{tree_of}
-use Rattle.nk_switches.specs.declared.switch_tags.SwitchTags.{SwitchTags}
-use Rattle.nk_switches.specs.Classed.{AreSwitchClasses, IsClassTableAt}
-use Rattle.nk_switches.specs.Matched.{Matched}
+use Rattle.nk_group.specs.declared.switch_tags.SwitchTags.{SwitchTags}
+use Rattle.nk_group.specs.Classed.{AreSwitchClasses, IsClassTableAt}
+use Rattle.nk_group.specs.Matched.{Matched}
 use Rattle.nk_compile.specs.Comings.{HasComing}
 use Rattle.nk_compile.proofs.Reached.{same_some}
 use Rattle.nk_compile.proofs.StatesOfPositions.{state_ids}

@@ -3,7 +3,7 @@ use Rattle.std.specs.Prelude.{slice_index}
 use Rattle.std.proofs.lemmas.Result.{IfOk-weaker}
 use Rattle.std.proofs.lemmas.List.{get_or-map}
 use Rattle.nk_determ.specs.Sets.{IsSetOf}
-use Rattle.nk_switches.specs.Tagged.{set_of_tag}
+use Rattle.nk_group.specs.Tagged.{set_of_tag}
 use Rattle.nk_merge.specs.Alike.{labels_after}
 use Rattle.nk_compact.specs.MetPackets.{AreMet}
 use Rattle.nk_compact.proofs.MetSets.{set_met}

@@ -1,6 +1,6 @@
 use Rattle.std.proofs.Common.{◌∙◌, ◌+◌, ap, length}
 use Rattle.nk_determ.proofs.Together.{length_more}
-use Rattle.nk_switches.proofs.Growing.{sets_grow_on}
+use Rattle.nk_group.proofs.Growing.{sets_grow_on}
 use Rattle.nk_compact.proofs.MetSets.{following_more}
 use Rattle.nk_compact.proofs.met.sets_after.Goals as goal
 

@@ -1,7 +1,7 @@
 use Rattle.std.proofs.Common.{◌≡◌, ◌<◌, ℕ, length}
 use Rattle.std.specs.Prelude.{slice_index}
 use Rattle.nk_determ.specs.Sets.{IsSetOf, SetsGrow}
-use Rattle.nk_switches.specs.Tagged.{set_of_tag}
+use Rattle.nk_group.specs.Tagged.{set_of_tag}
 use Rattle.nk_merge.specs.Alike.{labels_after}
 use Rattle.nk_compact.proofs.met.sets_after.Given as goal
 

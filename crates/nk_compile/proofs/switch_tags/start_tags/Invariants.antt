@@ -1,6 +1,6 @@
 use Rattle.std.proofs.Common.{◌≡◌, take, [], ◌∷◌}
 use Rattle.std.specs.Prelude.{map, All}
-use Rattle.nk_switches.specs.declared.switch_tags.SwitchTags.{SwitchTags}
+use Rattle.nk_group.specs.declared.switch_tags.SwitchTags.{SwitchTags}
 use Rattle.nk_compile.proofs.switch_tags.start_tags.Given as goal
 
 -- the switches so far

@@ -1,8 +1,8 @@
 use Rattle.std.proofs.Common.{◌≡◌, ◌+◌, ◌∙◌, [], sym, subst, ap, arith, length, get_or}
 use Rattle.std.specs.Prelude.{All, map}
 use Rattle.std.proofs.lemmas.List.{get_or_default}
-use Rattle.nk_switches.specs.declared.switch_tags.SwitchTags.{SwitchTags}
-use Rattle.nk_switches.specs.Tagged.{set_of_tag}
+use Rattle.nk_group.specs.declared.switch_tags.SwitchTags.{SwitchTags}
+use Rattle.nk_group.specs.Tagged.{set_of_tag}
 use Rattle.nk_compile.specs.Comings.{first_end, HasComing, with_end}
 use Rattle.nk_compile.proofs.ComingEnds.{coming_on, switches_on, numbers_ascend}
 use Rattle.nk_compile.proofs.switch_tags.tags_at_switches.Goals as goal

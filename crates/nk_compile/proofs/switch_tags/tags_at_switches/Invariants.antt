@@ -1,7 +1,7 @@
 use Rattle.std.proofs.Common.{◌≡◌}
 use Rattle.std.specs.Prelude.{map, All}
 use Rattle.nk_topo.specs.Topology.{numbers_of}
-use Rattle.nk_switches.specs.declared.switch_tags.SwitchTags.{SwitchTags}
+use Rattle.nk_group.specs.declared.switch_tags.SwitchTags.{SwitchTags}
 use Rattle.nk_compile.specs.Comings.{HasComing}
 use Rattle.nk_compile.proofs.switch_tags.tags_at_switches.Given as goal
 

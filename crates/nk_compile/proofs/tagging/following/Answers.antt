@@ -1,7 +1,7 @@
 use Rattle.std.proofs.Common.{◌<◌, ◌∙◌, sym, subst, ap, length}
 use Rattle.std.specs.Prelude.{All}
 use Rattle.std.proofs.lemmas.Result.{IfOk-weaker}
-use Rattle.nk_switches.proofs.Growing.{known_kept}
+use Rattle.nk_group.proofs.Growing.{known_kept}
 use Rattle.nk_compile.specs.Ready.{sets_of}
 use Rattle.nk_compile.proofs.Padding.{padded_sets, padded_known}
 use Rattle.nk_compile.proofs.tagging.following.Goals as goal

@@ -1,8 +1,8 @@
 use Rattle.std.proofs.Common.{◌∙◌, sym, subst, ap, length, get_or}
 use Rattle.std.specs.Prelude.{All, map}
 use Rattle.std.proofs.lemmas.Result.{on_ok_weaker}
-use Rattle.nk_switches.specs.declared.switch_tags.SwitchTags.{SwitchTags}
-use Rattle.nk_switches.specs.Made.{AreSwitchTags}
+use Rattle.nk_group.specs.declared.switch_tags.SwitchTags.{SwitchTags}
+use Rattle.nk_group.specs.Made.{AreSwitchTags}
 use Rattle.nk_compile.specs.Comings.{HasComing}
 use Rattle.nk_compile.proofs.Reached.{same_some}
 use Rattle.nk_compile.proofs.StatesOfPositions.{state_ids}

@@ -1,0 +1,16 @@
+use Rattle.nk_store.proofs.Stores.{grows_on}
+use Rattle.nk_group.proofs.Growing.{sets_grow_on, known_kept}
+use Rattle.nk_group.proofs.Stating.{ids_kept, all_more}
+use Rattle.nk_group.proofs.tag_states.all_states.Goals as goal
+
+pub loop-switch_entry-preserved : goal.loop-switch_entry-preserved
+loop-switch_entry-preserved c = record {
+  grows = grows_on _ _ _ c.loop-switch_entry.invariant.grows c.switch_states.ensures.grows;
+  sets = sets_grow_on c.args.ss.now c.loop-switch_entry.ss c.switch_states.new.ss c.loop-switch_entry.invariant.sets c.switch_states.ensures.sets;
+  made =
+      all_more c.loop-switch_entry.st c.switch_states.new.st c.loop-switch_entry.ss c.switch_states.new.ss c.args.states.now c.args.tags.now c.args.by_switch.now c.loop-switch_entry.switch_entry-index
+      c.switch_entry-item.result c.in_ok-tag_states.tag_states c.loop-switch_entry.all c.push.new.self
+      c.switch_states.ensures.grows c.switch_states.ensures.sets (ids_kept c.args.st.now c.loop-switch_entry.st c.args.states.now c.loop-switch_entry.invariant.grows c.requires.states)
+      (known_kept c.args.ss.now c.loop-switch_entry.ss c.args.tags.now c.loop-switch_entry.invariant.sets c.requires.known) c.loop-switch_entry-test.true c.switch_entry-item.is c.in_ok-push.ensures.ok
+      c.in_ok-tag_states.ensures.tag_states c.loop-switch_entry.invariant.made;
+}
