@@ -31,9 +31,9 @@ use Rattle.nk_runs.proofs.Stands.{stands}
 use Rattle.nk_runs.proofs.Ends.{none_ends}
 use Rattle.nk_runs.proofs.Breaking.{is_alert, breaks_given}
 use Rattle.nk_runs.proofs.TagSets.{are_tags, many_tags}
-use Rattle.nk_edges.specs.Edges.{is_start, is_no_edge}
+use Rattle.nk_compile.specs.Edges.{is_start, is_no_edge}
 use Rattle.nk_compile.specs.Levelled.{IsLevelled, IsLeastOff}
-use Rattle.nk_edges.specs.PacketSets.{IsSetInRange}
+use Rattle.nk_compile.specs.PacketSets.{IsSetInRange}
 use Rattle.nk_compile.specs.NumberedAfter.{tags_after}
 use Rattle.nk_compile.specs.OffEdge.{EndsOffEdge, EndsOnEdges}
 use Rattle.nk_compile.specs.PairAnswers.{IsUnopposed}

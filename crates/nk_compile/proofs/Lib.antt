@@ -40,3 +40,6 @@ pub mod TagsNumberedAfter
 pub mod TooMany
 pub mod WaitingCopies
 pub mod WrongEnding
+pub mod ChildLemmas
+pub mod PortLemmas
+pub mod SetLemmas

@@ -7,7 +7,7 @@ use Rattle.nk_field.specs.Packet.{FieldTable, IsFieldTable, IsPacket, without}
 use Rattle.nk_topo.specs.Topology.{Topology, is_port}
 use Rattle.nk_names.specs.Accepted.{IsStartPacket}
 use Rattle.nk_store.specs.Nodes.{InRange}
-use Rattle.nk_edges.specs.Edges.{is_start}
+use Rattle.nk_compile.specs.Edges.{is_start}
 
 -- both parts of a conjunction that holds
 both_hold : (a b : Bool) → a && b ≡ true → (a ≡ true) × (b ≡ true)

@@ -25,9 +25,9 @@ use Rattle.nk_witness.proofs.Settling.{settled}
 use Rattle.nk_store.proofs.Stores.{grows_same}
 use Rattle.nk_goal.proofs.Growing.{sets_refl}
 use Rattle.nk_group.proofs.Growing.{set_kept}
-use Rattle.nk_edges.specs.Edges.{is_start, is_no_edge}
+use Rattle.nk_compile.specs.Edges.{is_start, is_no_edge}
 use Rattle.nk_compile.specs.Levelled.{IsLevelled, IsLeastOff}
-use Rattle.nk_edges.specs.PacketSets.{IsSetInRange}
+use Rattle.nk_compile.specs.PacketSets.{IsSetInRange}
 use Rattle.nk_compile.specs.WrongEnds.{end_leaf, wrong_leaf, HaveEndsOf, wrong_on}
 use Rattle.nk_compile.proofs.EndsOfStates.{of_wrong, in_wrong}
 

@@ -14,8 +14,8 @@ use Rattle.nk_compile.specs.declared.refusal.Refusal.TheVariants as refusal
 use Rattle.nk_field.specs.Order.{Found, IsLeast}
 use Rattle.nk_determ.specs.Counterexamples.{IsCounterexample}
 use Rattle.nk_runs.specs.Wrong.{AreWrongEnds}
-use Rattle.nk_edges.specs.Edges.{is_start, is_no_edge}
-use Rattle.nk_edges.specs.PacketSets.{IsSetInRange}
+use Rattle.nk_compile.specs.Edges.{is_start, is_no_edge}
+use Rattle.nk_compile.specs.PacketSets.{IsSetInRange}
 use Rattle.nk_compile.specs.Refusals.{found_from}
 
 -- the levels of these states from the start packets; they are broken where a member ends at no edge port

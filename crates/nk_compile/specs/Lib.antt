@@ -16,3 +16,7 @@ pub mod Refusals
 pub mod Smallest
 pub mod WholeTable
 pub mod WrongEnds
+pub mod Children
+pub mod Edges
+pub mod PacketSets
+pub mod Ports

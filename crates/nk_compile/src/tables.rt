@@ -14,12 +14,12 @@ ghost use Rattle.nk_compile.specs.declared.refusal.CompileError.TheVariants as c
 ghost use Rattle.nk_compile.specs.declared.refusal.Refusal.TheVariants as refusal;
 ghost use Rattle.nk_compile.specs.Preparing.{IsPrepared, IsEarlyError};
 
+use crate::edges::{off_edges, starts};
 use crate::prepared::Prepared;
 use crate::refusal::{CompileError, Refusal};
 use crate::wrong_ends::wrong_ends;
 use nk_auto::policy_automaton;
 use nk_determ::{Levels, SetId, Sets};
-use nk_edges::{off_edges, starts};
 use nk_field::{Fid, Fields, List};
 use nk_policy::Pol;
 use nk_reach::levels;

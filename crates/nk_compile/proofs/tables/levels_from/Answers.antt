@@ -4,8 +4,8 @@ use Rattle.nk_sets.proofs.SetLemmas.{predicate_grows, set_grows as grown_set}
 use Rattle.nk_determ.specs.Sets.{IsSetOf as IsLabels}
 use Rattle.nk_goal.proofs.Growing.{states_grow}
 use Rattle.nk_group.proofs.Stating.{ids_kept}
-use Rattle.nk_edges.proofs.SetLemmas.{set_grows}
 use Rattle.nk_witness.specs.Finds.{found_of}
+use Rattle.nk_compile.proofs.SetLemmas.{set_grows}
 use Rattle.nk_compile.specs.Levelled.{IsOffFault}
 use Rattle.nk_compile.specs.WrongEnds.{wrong_leaf, HaveEndsOf}
 use Rattle.nk_compile.proofs.WrongEnding.{levels_are, levels_later, least_is}

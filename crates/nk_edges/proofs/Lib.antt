@@ -1,3 +1,0 @@
-pub mod ChildLemmas
-pub mod PortLemmas
-pub mod SetLemmas

@@ -1,4 +1,0 @@
-pub mod Children
-pub mod Edges
-pub mod PacketSets
-pub mod Ports
