@@ -3,8 +3,8 @@ ghost use Rattle.std.specs.Prelude.{◌≡◌, ℕ, ◌+◌, ◌<◌, ◌^◌, t
 ghost use Rattle.std.specs.List.Sorted.{IsStrictlyIncreasing};
 ghost use Rattle.nk_determ.specs.Sets.{SetsGrow, IsSetOf, HasEachSetOnce, HasAscendingSets, holds, with_set, place_in};
 
-use indexmap::IndexSet;
 use nk_field::List;
+use nk_store::UniqueTable;
 use std::alloc::{AllocError, Global};
 use std::marker::Model;
 
@@ -58,7 +58,7 @@ impl SetId {
 
 /// Sets of labels, as ascending lists, each once, numbered in the order in which they came.
 pub struct Sets {
-    sets: IndexSet<List<u64>>,
+    sets: UniqueTable<List<u64>>,
 }
 
 impl Drop for Sets {
@@ -73,9 +73,9 @@ impl Model for Sets {
 
     ghost Value = { Items (Items ℕ) };
 
-    ghost view = { λ s. s.sets.keys };
+    ghost view = { λ s. s.sets };
 
-    ghost invariant = { λ s. HasAscendingSets s.sets.keys };
+    ghost invariant = { λ s. HasAscendingSets s.sets };
 }
 
 impl Sets {
@@ -84,7 +84,7 @@ impl Sets {
         ensures { result ≡ [] }
     {
         Sets {
-            sets: IndexSet::new(alloc),
+            sets: UniqueTable::new(alloc),
         }
     }
 
@@ -98,7 +98,7 @@ impl Sets {
         ensures sets { OnOk result (self.new ≡ with_set self.old labels) }
         ensures err { OnErr result (self.new ≡ self.old) }
     {
-        let (place, _) = self.sets.insert_full(labels)?;
+        let place = self.sets.intern(labels)?;
         Ok(SetId { place })
     }
 
@@ -108,7 +108,7 @@ impl Sets {
         ensures is { result.now ≡ slice_index_or self.now s [] }
         ensures ascend { IsStrictlyIncreasing result.now }
     {
-        self.sets[s.place].as_slice()
+        self.sets.at(s.place).as_slice()
     }
 
     /// How many sets there are.

@@ -6,6 +6,8 @@ pub mod Joins
 pub mod Table
 pub mod InRange
 pub mod Ordered
+pub mod KeyOrder
 pub mod Kept
 pub mod Children
 pub mod Trees
+pub mod UniqueTables

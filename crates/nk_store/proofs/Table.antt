@@ -4,7 +4,7 @@ use Rattle.std.specs.List.{list_any}
 use Rattle.std.proofs.lemmas.Option.{get_or_from_slice_get, slice_get_cases}
 use Rattle.std.proofs.lemmas.List.Folds.{list_any_at}
 use Rattle.std.proofs.lemmas.List.{length-reverse}
-use Rattle.indexmap.specs.IndexSet.{insert_key}
+use Rattle.nk_store.specs.UniqueTables.{with_item}
 use Rattle.nk_store.specs.declared.node.Node.{Node}
 use Rattle.nk_store.specs.declared.node.Node.TheVariants.{Leaf}
 use Rattle.nk_store.specs.Nodes.{Fits, IsAbsent, Sound}
@@ -30,7 +30,7 @@ pub data Put (xs ys : List Node) (n : Node) : Type 0 where
   comes : ys ≡ xs ++ n ∷ [] → IsAbsent n (reverse xs) → Put xs ys n
 
 -- what the table does with a node: it stays as it is, or the node comes last
-pub put : (xs ys : List Node) (n : Node) → ys ≡ insert_key ghosts.eq xs n → Put xs ys n
+pub put : (xs ys : List Node) (n : Node) → ys ≡ with_item ghosts.eq xs n → Put xs ys n
 put xs ys n e = by (list_any (ghosts.eq n) xs) refl
   where
     by : (b : Bool) → list_any (ghosts.eq n) xs ≡ b → Put xs ys n

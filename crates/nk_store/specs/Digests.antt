@@ -1,4 +1,4 @@
--- The number that a node, or what an answer is found by, is hashed by.
+-- The number by which a node, a list of numbers, or what an answer is kept under, is found.
 use Rattle.std.specs.Prelude.{ℕ, ◌+◌, ◌*◌, ◌/◌, ◌%◌, ◌^◌, List, [], ◌∷◌, length, nat_eq, if◌then◌else◌}
 use Rattle.std.specs.Int.{w64, from_le_bytes}
 use Rattle.nk_store.specs.declared.node.Node.{Node}
@@ -27,6 +27,11 @@ folded x y = (halves_mixed (x * y / 2 ^ 64) ((x * y) % 2 ^ 64) + y) % 2 ^ 64
 -- two numbers mixed into another
 abbrev pub mixed : ℕ → ℕ → ℕ → ℕ
 mixed n a b = folded (((n + a) % 2 ^ 64 + b) % 2 ^ 64) (factor a b)
+
+-- numbers mixed into a number
+abbrev pub numbers_mixed : ℕ → List ℕ → ℕ
+numbers_mixed n [] = n
+numbers_mixed n (m ∷ ms) = numbers_mixed (mixed n m 0) ms
 
 -- assignments mixed into a number
 abbrev pub sets_mixed : ℕ → List (ℕ × ℕ) → ℕ

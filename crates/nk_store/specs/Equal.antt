@@ -1,7 +1,7 @@
--- `==` of nodes, and of what answers are found by, tells whether they are one.
-use Rattle.std.proofs.Common.{◌≡◌, ℕ, Bool, true, false, ◌&&◌, refl, ap, ◌∙◌, eqb, eqb-true, eq-eqb, IsTrue}
+-- `==` of nodes, of lists of numbers, and of what answers are found by, tells whether they are one.
+use Rattle.std.proofs.Common.{◌≡◌, ℕ, Bool, true, false, ◌&&◌, List, nat_eq, refl, ap, ◌∙◌, eqb, eqb-true, eq-eqb, IsTrue}
 use Rattle.std.specs.Bool.{Decides}
-use Rattle.std.specs.Cmp.Lexicographic.{pointwise_decides}
+use Rattle.std.specs.Cmp.Lexicographic.{pointwise, pointwise_decides}
 use Rattle.std.proofs.lemmas.Bool.Decides.{Decides-eqb, Decides-and, Decides-like}
 use Rattle.nk_store.specs.declared.node.Node.{Node}
 use Rattle.nk_store.specs.declared.node.Node.TheVariants.{Leaf, Case}
@@ -37,6 +37,10 @@ node_eq_decides (Case f ps) (Case g qs) =
 -- nodes that are equal are one
 pub node_same : (a b : Node) → IsTrue (ghosts.eq a b) → a ≡ b
 node_same a b h = (node_eq_decides a b).0 h
+
+-- lists of numbers that are equal are one
+pub numbers_same : (a b : List ℕ) → IsTrue (pointwise nat_eq a b) → a ≡ b
+numbers_same a b h = (pointwise_decides Decides-eqb a b).0 h
 
 -- operations that are equal are one
 operation_same : (a b : Operation) → operation_impl.ghosts.eq a b ≡ true → a ≡ b

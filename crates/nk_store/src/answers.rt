@@ -7,24 +7,26 @@ ghost use Rattle.nk_store.specs.Keys.{key_of, key_eq, with_answer};
 use crate::identity_hasher::IdentityHasher;
 use crate::node::Id;
 use crate::operation::{Key, Operation};
-use indexmap::IndexMap;
 use std::alloc::{AllocError, Global};
+use std::collections::HashMap;
 use std::hash::BuildHasherDefault;
 use std::marker::Model;
 
-/// Answers, each found by its operation and its diagrams. An operation on one diagram has it twice.
+/// Answers, each found by its operation and its diagrams. An operation on one diagram has it twice. The contract value has them
+/// in the order of what they are found by, whatever order the map has.
 #[derive(Drop)]
 pub(crate) struct Answers {
-    answers: IndexMap<Key, Id, BuildHasherDefault<IdentityHasher>>,
+    answers: HashMap<Key, Id, BuildHasherDefault<IdentityHasher>>,
 }
 
 impl Model for Answers {
     ghost use Rattle.std.specs.Prelude.{ℕ, List};
     ghost use Rattle.nk_store.specs.declared.operation.Key.{Key};
+    ghost use Rattle.nk_store.specs.Keys.{arranged};
 
     ghost Value = { List (Key × ℕ) };
 
-    ghost view = { λ s. s.answers.entries };
+    ghost view = { λ s. arranged s.answers.entries };
 }
 
 impl Answers {
@@ -33,7 +35,7 @@ impl Answers {
         ensures { result ≡ [] }
     {
         Answers {
-            answers: IndexMap::with_hasher(alloc, BuildHasherDefault::new()),
+            answers: HashMap::with_hasher(alloc, BuildHasherDefault::new()),
         }
     }
 

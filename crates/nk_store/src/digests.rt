@@ -1,33 +1,49 @@
-//! By what nodes are hashed, and what answers are found by: one number each, so that the hasher is called once.
+//! By what number nodes, lists of numbers, and what answers are kept under are found: one number each, so that a hasher is called once.
 ghost use Rattle.std.specs.Prelude.{◌≡◌};
 ghost use Rattle.std.specs.Hash as fed;
 ghost use Rattle.std.proofs.Common.{ap};
-ghost use Rattle.nk_store.specs.Digests.{factor, odd, halves_mixed, folded, mixed, sets_mixed, parts_mixed, outs_mixed, digest, operation_number, key_mixed};
-ghost use Rattle.nk_store.specs.Equal.{node_same, key_same};
+ghost use Rattle.nk_store.specs.Digests.{factor, odd, halves_mixed, folded, mixed, numbers_mixed, sets_mixed, parts_mixed, outs_mixed, digest, operation_number, key_mixed};
+ghost use Rattle.nk_store.specs.Equal.{node_same, key_same, numbers_same};
 
 use crate::node::{Id, Node, Out};
 use crate::operation::{Key, Operation};
-use nk_field::Fid;
+use crate::unique_table::Digest;
+use nk_field::{Fid, List};
 use std::hash::{Hash, Hasher};
 
-impl Hash for Node {
-    ghost hash_input = { λ n. fed.u64 (digest n) };
+impl Digest for Node {
+    ghost number = { λ n. digest n };
 
-    ghost respects_eq = { λ n m h. ap (λ k. fed.u64 (digest k)) (node_same n m h) };
+    ghost respects_eq = { λ n m h. ap (λ k. digest k) (node_same n m h) };
 
-    fn hash<H: Hasher>(&self, state: &mut H) {
-        state.write_u64(digest(self));
+    fn digest(&self) -> u64 {
+        match self {
+            Node::Leaf(outs) => outs_mixed(0, outs.as_slice()),
+            Node::Case(f, parts) => parts_mixed(f.place() as u64, parts.as_slice()),
+        }
     }
 }
 
-/// The number that stands for a node where it is hashed.
-fn digest(node: &Node) -> u64
-    ensures { result ≡ digest node.now }
-{
-    match node {
-        Node::Leaf(outs) => outs_mixed(0, outs.as_slice()),
-        Node::Case(f, parts) => parts_mixed(f.place() as u64, parts.as_slice()),
+/// A list of numbers, as the labels of a set.
+impl Digest for List<u64> {
+    ghost number = { λ ns. numbers_mixed 0 ns };
+
+    ghost respects_eq = { λ ns ms h. ap (λ k. numbers_mixed 0 k) (numbers_same ns ms h) };
+
+    fn digest(&self) -> u64 {
+        numbers_mixed(0, self.as_slice())
     }
+}
+
+/// Numbers mixed into a number.
+fn numbers_mixed(n: u64, numbers: &[u64]) -> u64
+    ensures { result ≡ numbers_mixed n numbers.now }
+{
+    let mut all = n;
+    for number in numbers {
+        all = mixed(all, *number, 0);
+    }
+    all
 }
 
 /// Outs mixed into a number.

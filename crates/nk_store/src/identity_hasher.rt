@@ -4,7 +4,7 @@ ghost use Rattle.std.specs.Int.{w64, from_le_bytes};
 
 use std::hash::Hasher;
 
-/// Nodes, and what answers are found by, are hashed by one number into which all is mixed: it is taken as it is.
+/// Digests, and what answers are found by, are hashed by one number into which all is mixed: it is taken as it is.
 #[derive(Clone, Copy)]
 pub(crate) struct IdentityHasher {
     number: u64,

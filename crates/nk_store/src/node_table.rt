@@ -9,21 +9,19 @@ ghost use Rattle.nk_store.specs.Keys.{key_eq, key_of};
 ghost use Rattle.nk_store.specs.KeptAnswers.{keeping};
 
 use crate::answers::Answers;
-use crate::identity_hasher::IdentityHasher;
 use crate::node::{Id, Node, Out};
 use crate::operation::Operation;
 use crate::parts::{in_whole, part_child};
-use indexmap::IndexSet;
+use crate::unique_table::UniqueTable;
 use nk_field::{Fid, Fields, List, Packet};
 use std::alloc::{AllocError, Global};
-use std::hash::BuildHasherDefault;
 use std::marker::Model;
 
 /// The nodes, each once, in the order in which they were made, what is kept of the fields, and the answers of operations
 /// that are kept, whatever they are.
 #[derive(Drop)]
 pub(crate) struct NodeTable {
-    nodes: IndexSet<Node, BuildHasherDefault<IdentityHasher>>,
+    nodes: UniqueTable<Node>,
     maxes: [u64; 18],
     width: usize,
     tag: Option<Fid>,
@@ -37,10 +35,10 @@ impl Model for NodeTable {
 
     ghost Value = { StoreState };
 
-    ghost view = { λ s. record { nodes = reverse s.nodes.keys; maxes = s.maxes; width = s.width; tag = s.tag; kept = s.answers } };
+    ghost view = { λ s. record { nodes = reverse s.nodes; maxes = s.maxes; width = s.width; tag = s.tag; kept = s.answers } };
 
-    ghost invariant = { λ s. HasFields (record { nodes = reverse s.nodes.keys; maxes = s.maxes; width = s.width; tag = s.tag; kept = s.answers })
-        × Sound s.maxes (reverse s.nodes.keys) };
+    ghost invariant = { λ s. HasFields (record { nodes = reverse s.nodes; maxes = s.maxes; width = s.width; tag = s.tag; kept = s.answers })
+        × Sound s.maxes (reverse s.nodes) };
 }
 
 impl NodeTable {
@@ -54,7 +52,7 @@ impl NodeTable {
     {
         let _few = fields.declared();
         Ok(NodeTable {
-            nodes: IndexSet::with_hasher(alloc, BuildHasherDefault::new()),
+            nodes: UniqueTable::new(alloc),
             maxes: maxima(fields),
             width: fields.len(),
             tag: fields.tag(),
@@ -107,7 +105,7 @@ impl NodeTable {
         ensures reduced { IsReduced self.now d }
         ensures tidy { AreTidy self.now }
     {
-        &self.nodes[d.place()]
+        self.nodes.at(d.place())
     }
 
     /// Tells whether two diagrams give each packet the same leaf: their numbers are equal exactly then.
@@ -163,7 +161,7 @@ impl NodeTable {
 
     /// The allocator of the nodes.
     pub(crate) fn alloc(&self) -> Global {
-        *self.nodes.allocator()
+        self.nodes.alloc()
     }
 
     /// The diagram that gives a packet the leaf of the part that holds the field's value. The parts are pairs of an
@@ -189,7 +187,7 @@ impl NodeTable {
             (λ pk. look self.old (child_at 0 parts (slice_index pk field)) pk)) }
         ensures later { IfOk result (λ d. field ≤ root_field self.new d) }
     {
-        let kept = in_whole(*self.nodes.allocator(), parts)?;
+        let kept = in_whole(self.nodes.alloc(), parts)?;
         if kept.len() == 1 {
             return Ok(kept.at(0).1);
         }
@@ -237,7 +235,7 @@ impl NodeTable {
         ensures kept { self.new.kept ≡ self.old.kept }
         ensures ok { IfOk result (λ d. IsId self.new d × (node_of self.new d ≡ node)) }
     {
-        let (place, _) = self.nodes.insert_full(node)?;
+        let place = self.nodes.intern(node)?;
         Ok(Id::new(place))
     }
 }

@@ -4,4 +4,4 @@ use Rattle.nk_determ.proofs.Interned.{distinct_differ}
 use Rattle.nk_determ.proofs.sets.Sets.differ.Goals as goal
 
 pub returns-clause-differ : goal.returns-clause-differ
-returns-clause-differ c = subst HasEachSetOnce c.self.view_is (distinct_differ c.self.inside.sets.keys c.len-count.ensures.unique)
+returns-clause-differ c = subst HasEachSetOnce c.self.view_is (distinct_differ c.self.inside.sets c.len-count.ensures.unique)
