@@ -15,11 +15,10 @@ use crate::predecessors::{
 };
 use crate::sweeps::sweep_some;
 use crate::transitions::Transitions;
-use indexmap::IndexMap;
 use nk_apply::{both, union_all};
 use nk_determ::SetId;
 use nk_field::List;
-use nk_goal::{Entries, add, add_level, unvisited};
+use nk_goal::Entries;
 use nk_sets::{OutPackets, is_empty, preimage};
 use nk_store::{Id, Store};
 use std::alloc::{AllocError, Global};
@@ -41,10 +40,10 @@ pub(crate) fn close_back(
     ensures pre { OnOk result
         (IfSome pre.new (λ p. ArePredecessors st.new ts.now p.places p.into.entries)) }
 {
-    let mut back = IndexMap::new(st.alloc());
-    add_level(st, &mut back, &goal)?;
+    let mut back = Entries::new(st.alloc());
+    back.add_level(st, &goal)?;
     close_all(st, ts, pre, &mut back)?;
-    Ok(Entries::new(back))
+    Ok(back)
 }
 
 /// Adds all packets from where transitions lead into the entries.
@@ -52,14 +51,14 @@ fn close_all(
     st: &mut Store,
     ts: &List<Transitions>,
     pre: &mut Option<Predecessors>,
-    back: &mut IndexMap<SetId, Id>,
+    back: &mut Entries,
 ) -> Result<(), AllocError>
     requires suits_store { OutsSuitStore st.old ts.now }
     requires pre { IfSome pre.old (λ p. ArePredecessors st.old ts.now p.places p.into.entries) }
-    requires back { HaveSets st.old back.old.entries }
-    requires once { Once back.old.entries }
+    requires back { HaveSets st.old back.old }
+    requires once { Once back.old }
     ensures grows { Grows st.old st.new }
-    ensures ok { OnOk result (IsClosure st.old ts.now back.old.entries st.new back.new.entries) }
+    ensures ok { OnOk result (IsClosure st.old ts.now back.old st.new back.new) }
     ensures pre { OnOk result
         (IfSome pre.new (λ p. ArePredecessors st.new ts.now p.places p.into.entries)) }
 {
@@ -77,14 +76,14 @@ fn close_rest(
     st: &mut Store,
     ts: &List<Transitions>,
     pre: &mut Option<Predecessors>,
-    back: &mut IndexMap<SetId, Id>,
+    back: &mut Entries,
 ) -> Result<(), AllocError>
     requires suits_store { OutsSuitStore st.old ts.now }
     requires pre { IfSome pre.old (λ p. ArePredecessors st.old ts.now p.places p.into.entries) }
-    requires back { HaveSets st.old back.old.entries }
-    requires once { Once back.old.entries }
+    requires back { HaveSets st.old back.old }
+    requires once { Once back.old }
     ensures grows { Grows st.old st.new }
-    ensures ok { OnOk result (IsClosure st.old ts.now back.old.entries st.new back.new.entries) }
+    ensures ok { OnOk result (IsClosure st.old ts.now back.old st.new back.new) }
     ensures pre { OnOk result
         (IfSome pre.new (λ p. ArePredecessors st.new ts.now p.places p.into.entries)) }
 {
@@ -103,28 +102,25 @@ fn close_by(
     st: &mut Store,
     ts: &List<Transitions>,
     pre: &Predecessors,
-    back: &mut IndexMap<SetId, Id>,
+    back: &mut Entries,
 ) -> Result<(), AllocError>
     requires suits_store { OutsSuitStore st.old ts.now }
     requires pre { ArePredecessors st.old ts.now pre.now.places pre.now.into.entries }
-    requires back { HaveSets st.old back.old.entries }
-    requires once { Once back.old.entries }
+    requires back { HaveSets st.old back.old }
+    requires once { Once back.old }
     ensures grows { Grows st.old st.new }
-    ensures ok { OnOk result (IsClosure st.old ts.now back.old.entries st.new back.new.entries) }
+    ensures ok { OnOk result (IsClosure st.old ts.now back.old st.new back.new) }
 {
     let all = entries_of(st.alloc(), back)?;
     take_all_back(st, ts, pre, all, back)
 }
 
 /// The entries as a list.
-fn entries_of(alloc: Global, pairs: &IndexMap<SetId, Id>) -> Result<List<(SetId, Id)>, AllocError>
-    ensures { IfOk result (λ ps. ps ≡ pairs.now.entries) }
+fn entries_of(alloc: Global, pairs: &Entries) -> Result<List<(SetId, Id)>, AllocError>
+    ensures { IfOk result (λ ps. ps ≡ pairs.now) }
 {
-    let mut all = List::new(alloc);
-    for (s, x) in pairs.iter() {
-        all.push((*s, *x))?;
-    }
-    Ok(all)
+    let all = Vec::from_slice(alloc, pairs.as_slice())?;
+    Ok(List::from_vec(all))
 }
 
 /// Adds all packets from where transitions lead into the entries. The frontier has what is not yet taken back, at first all of
@@ -134,15 +130,15 @@ fn take_all_back(
     ts: &List<Transitions>,
     pre: &Predecessors,
     all: List<(SetId, Id)>,
-    back: &mut IndexMap<SetId, Id>,
+    back: &mut Entries,
 ) -> Result<(), AllocError>
     requires suits_store { OutsSuitStore st.old ts.now }
     requires pre { ArePredecessors st.old ts.now pre.now.places pre.now.into.entries }
-    requires frontier { IsWholeFrontier st.old all back.old.entries }
-    requires back { HaveSets st.old back.old.entries }
-    requires once { Once back.old.entries }
+    requires frontier { IsWholeFrontier st.old all back.old }
+    requires back { HaveSets st.old back.old }
+    requires once { Once back.old }
     ensures grows { Grows st.old st.new }
-    ensures ok { OnOk result (IsClosure st.old ts.now back.old.entries st.new back.new.entries) }
+    ensures ok { OnOk result (IsClosure st.old ts.now back.old st.new back.new) }
 {
     let mut frontier = all;
     'passes: loop {
@@ -160,17 +156,17 @@ fn pass_back(
     ts: &List<Transitions>,
     pre: &Predecessors,
     frontier: &List<(SetId, Id)>,
-    back: &mut IndexMap<SetId, Id>,
+    back: &mut Entries,
 ) -> Result<List<(SetId, Id)>, AllocError>
     requires suits_store { OutsSuitStore st.old ts.now }
     requires pre { ArePredecessors st.old ts.now pre.now.places pre.now.into.entries }
     requires frontier { HaveSets st.old frontier.now }
-    requires back { HaveSets st.old back.old.entries }
-    requires once { Once back.old.entries }
+    requires back { HaveSets st.old back.old }
+    requires once { Once back.old }
     ensures grows { Grows st.old st.new }
     ensures ok { IfOk result
         (λ next. IsGained st.old
-        (IsLedInto st.old ts.now frontier.now) back.old.entries [] st.new back.new.entries next) }
+        (IsLedInto st.old ts.now frontier.now) back.old [] st.new back.new next) }
 {
     let found = led_into(st, ts, pre, frontier)?;
     let ordered = in_order(found);
@@ -291,17 +287,17 @@ pub(crate) fn preimage_by_out(st: &mut Store, o: &OutPackets, x: Id) -> Result<I
 fn put_all_new(
     st: &mut Store,
     found: &[(SetId, Id)],
-    back: &mut IndexMap<SetId, Id>,
+    back: &mut Entries,
 ) -> Result<List<(SetId, Id)>, AllocError>
     requires found { HaveSets st.old found.now }
-    requires back { HaveSets st.old back.old.entries }
-    requires once { Once back.old.entries }
+    requires back { HaveSets st.old back.old }
+    requires once { Once back.old }
     ensures grows { Grows st.old st.new }
     ensures ok { IfOk result
         (λ next. IsGained st.old
-        (Under st.old found.now) back.old.entries [] st.new back.new.entries next) }
+        (Under st.old found.now) back.old [] st.new back.new next) }
 {
-    let mut next = IndexMap::new(st.alloc());
+    let mut next = Entries::new(st.alloc());
     let mut from = 0;
     while from < found.len() {
         let (to, run) = run_of_set(st.alloc(), found, from)?;
@@ -309,8 +305,7 @@ fn put_all_new(
         put_new(st, set_at(found, from), y, back, &mut next)?;
         from = to;
     }
-    let all = listed(st.alloc(), next)?;
-    Ok(all)
+    Ok(next.into_list())
 }
 
 /// Adds those of the packets that don't stand under a set yet, to all entries and to what came new.
@@ -318,39 +313,25 @@ fn put_new(
     st: &mut Store,
     s: SetId,
     y: Id,
-    back: &mut IndexMap<SetId, Id>,
-    next: &mut IndexMap<SetId, Id>,
+    back: &mut Entries,
+    next: &mut Entries,
 ) -> Result<(), AllocError>
     requires packets { IsSet st.old y }
-    requires back { HaveSets st.old back.old.entries }
-    requires once { Once back.old.entries }
-    requires next { HaveSets st.old next.old.entries }
-    requires next_once { Once next.old.entries }
+    requires back { HaveSets st.old back.old }
+    requires once { Once back.old }
+    requires next { HaveSets st.old next.old }
+    requires next_once { Once next.old }
     ensures grows { Grows st.old st.new }
     ensures ok { OnOk result
         (IsGained st.old (λ i z. (i ≡ s)
-        × (is_in st.old y z ≡ true)) back.old.entries next.old.entries st.new back.new.entries
-        next.new.entries) }
+        × (is_in st.old y z ≡ true)) back.old next.old st.new back.new
+        next.new) }
 {
-    let rest = unvisited(st, back, s, y)?;
+    let rest = back.unvisited(st, s, y)?;
     if is_empty(st, rest) {
         return Ok(());
     }
-    add(st, back, s, rest)?;
-    add(st, next, s, rest)?;
+    back.add(st, s, rest)?;
+    next.add(st, s, rest)?;
     Ok(())
-}
-
-/// The entries in the order in which their sets came.
-pub(crate) fn listed(
-    alloc: Global,
-    pairs: IndexMap<SetId, Id>,
-) -> Result<List<(SetId, Id)>, AllocError>
-    ensures { IfOk result (λ ps. ps ≡ pairs.entries) }
-{
-    let mut all = List::new(alloc);
-    for pair in pairs {
-        all.push(pair)?;
-    }
-    Ok(all)
 }

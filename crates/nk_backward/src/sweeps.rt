@@ -14,11 +14,10 @@ use crate::closure::preimage_by_out;
 use crate::postorder::{Rank, in_postorder};
 use crate::predecessors::{run_of_set, set_at};
 use crate::transitions::Transitions;
-use indexmap::IndexMap;
 use nk_apply::union_all;
 use nk_determ::SetId;
 use nk_field::List;
-use nk_goal::{add, packets_of_set};
+use nk_goal::Entries;
 use nk_sets::{OutPackets, is_empty};
 use nk_store::{Id, Store};
 use std::alloc::AllocError;
@@ -31,14 +30,14 @@ const SWEEPS: usize = 4;
 pub(crate) fn sweep_some(
     st: &mut Store,
     ts: &List<Transitions>,
-    back: &mut IndexMap<SetId, Id>,
+    back: &mut Entries,
 ) -> Result<bool, AllocError>
     requires suits_store { OutsSuitStore st.old ts.now }
-    requires back { HaveSets st.old back.old.entries }
-    requires once { Once back.old.entries }
+    requires back { HaveSets st.old back.old }
+    requires once { Once back.old }
     ensures grows { Grows st.old st.new }
     ensures ok { IfOk result
-        (λ closed. IsSwept st.old ts.now back.old.entries st.new back.new.entries closed) }
+        (λ closed. IsSwept st.old ts.now back.old st.new back.new closed) }
 {
     let order = in_postorder(st.alloc(), ts)?;
     'sweeps: for _ in 0..SWEEPS {
@@ -55,15 +54,15 @@ fn sweep(
     st: &mut Store,
     ts: &List<Transitions>,
     order: &List<(Rank, usize)>,
-    back: &mut IndexMap<SetId, Id>,
+    back: &mut Entries,
 ) -> Result<bool, AllocError>
     requires suits_store { OutsSuitStore st.old ts.now }
     requires order { AreAllPlaces (length ts.now) order.now }
-    requires back { HaveSets st.old back.old.entries }
-    requires once { Once back.old.entries }
+    requires back { HaveSets st.old back.old }
+    requires once { Once back.old }
     ensures grows { Grows st.old st.new }
     ensures ok { IfOk result
-        (λ closed. IsSwept st.old ts.now back.old.entries st.new back.new.entries closed) }
+        (λ closed. IsSwept st.old ts.now back.old st.new back.new closed) }
 {
     let mut closed = true;
     for k in 0..order.len() {
@@ -83,17 +82,13 @@ fn both_hold(a: bool, b: bool) -> bool
 }
 
 /// Takes the entries back along the transitions of one place. The answer is true only if no packet is new.
-fn sweep_one(
-    st: &mut Store,
-    t: &Transitions,
-    back: &mut IndexMap<SetId, Id>,
-) -> Result<bool, AllocError>
+fn sweep_one(st: &mut Store, t: &Transitions, back: &mut Entries) -> Result<bool, AllocError>
     requires suits_store { AllSuitStore st.old t.now.outs }
-    requires back { HaveSets st.old back.old.entries }
-    requires once { Once back.old.entries }
+    requires back { HaveSets st.old back.old }
+    requires once { Once back.old }
     ensures grows { Grows st.old st.new }
     ensures ok { IfOk result
-        (λ none. IsTakenBack st.old t.now back.old.entries st.new back.new.entries none) }
+        (λ none. IsTakenBack st.old t.now back.old st.new back.new none) }
 {
     let found = led_from(st, t, back)?;
     let none = put_all(st, found.as_slice(), back)?;
@@ -102,17 +97,13 @@ fn sweep_one(
 
 /// Adds the found packets under their sets. The answer is true only if none is new there. Those of one set that stand next to each
 /// other go in at once.
-fn put_all(
-    st: &mut Store,
-    found: &[(SetId, Id)],
-    back: &mut IndexMap<SetId, Id>,
-) -> Result<bool, AllocError>
+fn put_all(st: &mut Store, found: &[(SetId, Id)], back: &mut Entries) -> Result<bool, AllocError>
     requires found { HaveSets st.old found.now }
-    requires back { HaveSets st.old back.old.entries }
-    requires once { Once back.old.entries }
+    requires back { HaveSets st.old back.old }
+    requires once { Once back.old }
     ensures grows { Grows st.old st.new }
     ensures ok { IfOk result (λ none. IsWidened st.old
-        (Under st.old found.now) back.old.entries st.new back.new.entries none) }
+        (Under st.old found.now) back.old st.new back.new none) }
 {
     let mut none = true;
     let mut from = 0;
@@ -127,20 +118,20 @@ fn put_all(
 }
 
 /// Adds packets under a set. The answer is true only if none is new there: the set's diagram stays the same.
-fn put(st: &mut Store, s: SetId, y: Id, back: &mut IndexMap<SetId, Id>) -> Result<bool, AllocError>
+fn put(st: &mut Store, s: SetId, y: Id, back: &mut Entries) -> Result<bool, AllocError>
     requires packets { IsSet st.old y }
-    requires back { HaveSets st.old back.old.entries }
-    requires once { Once back.old.entries }
+    requires back { HaveSets st.old back.old }
+    requires once { Once back.old }
     ensures grows { Grows st.old st.new }
     ensures ok { IfOk result (λ none. IsWidened st.old (λ i z. (i ≡ s)
-        × (is_in st.old y z ≡ true)) back.old.entries st.new back.new.entries none) }
+        × (is_in st.old y z ≡ true)) back.old st.new back.new none) }
 {
     if is_empty(st, y) {
         return Ok(true);
     }
-    let before = packets_of_set(back, s);
-    add(st, back, s, y)?;
-    let after = packets_of_set(back, s);
+    let before = back.packets_of_set(s);
+    back.add(st, s, y)?;
+    let after = back.packets_of_set(s);
     Ok(is_same(before, after))
 }
 
@@ -158,15 +149,15 @@ fn is_same(before: Option<Id>, after: Option<Id>) -> bool
 fn led_from(
     st: &mut Store,
     t: &Transitions,
-    back: &IndexMap<SetId, Id>,
+    back: &Entries,
 ) -> Result<List<(SetId, Id)>, AllocError>
     requires suits_store { AllSuitStore st.old t.now.outs }
-    requires back { HaveSets st.old back.now.entries }
-    requires once { Once back.now.entries }
+    requires back { HaveSets st.old back.now }
+    requires once { Once back.now }
     ensures grows { Grows st.old st.new }
     ensures ok { IfOk result
         (λ found. AreFound st.old
-        (IsLedBy st.old t.now (length t.now.outs) back.now.entries) [] st.new found) }
+        (IsLedBy st.old t.now (length t.now.outs) back.now) [] st.new found) }
 {
     let mut found = List::new(st.alloc());
     for i in 0..t.outs.len() {
@@ -180,21 +171,21 @@ fn push_led(
     st: &mut Store,
     s: SetId,
     o: &OutPackets,
-    back: &IndexMap<SetId, Id>,
+    back: &Entries,
     found: &mut List<(SetId, Id)>,
 ) -> Result<(), AllocError>
     requires from { IsSet st.old o.now.packets }
-    requires back { HaveSets st.old back.now.entries }
-    requires once { Once back.now.entries }
+    requires back { HaveSets st.old back.now }
+    requires once { Once back.now }
     requires found { HaveSets st.old found.old }
     ensures grows { Grows st.old st.new }
     ensures ok { OnOk result
-        (AreFound st.old (IsLedOut st.old s o.now back.now.entries) found.old st.new found.new) }
+        (AreFound st.old (IsLedOut st.old s o.now back.now) found.old st.new found.new) }
 {
     if o.out.target == 0 {
         return Ok(());
     }
-    let Some(x) = packets_of_set(back, SetId::from_target(o.out.target)) else {
+    let Some(x) = back.packets_of_set(SetId::from_target(o.out.target)) else {
         return Ok(());
     };
     let led = preimage_by_out(st, o, x)?;

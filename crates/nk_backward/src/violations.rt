@@ -8,11 +8,9 @@ ghost use Rattle.nk_goal.specs.Entries.{HaveSets, IsAdded};
 ghost use Rattle.nk_witness.specs.Backs.{AreViolationsSoFar};
 ghost use Rattle.nk_backward.specs.CounterexampleStarts.{of_side};
 
-use crate::closure::listed;
-use indexmap::IndexMap;
 use nk_determ::{SetId, Sets, retarget};
 use nk_field::List;
-use nk_goal::{Goal, add};
+use nk_goal::{Entries, Goal};
 use nk_sets::{at_packets, is_empty};
 use nk_store::{Id, Store};
 use nk_witness::Side;
@@ -38,33 +36,27 @@ pub(crate) fn violations<G: Goal>(
         ((st : StoreState) (set pk : Items ℕ)
         → G.violations_of g.new st set pk ≡ G.violations_of g.old st set pk) }
 {
-    let mut back = IndexMap::new(st.alloc());
+    let mut back = Entries::new(st.alloc());
     for k in 0..entries.len() {
         let (s, x) = *entries.at(k);
         let bad = side_violations(st, ss, s, x, g, side)?;
         add_some(st, &mut back, s, bad)?;
     }
-    let all = listed(st.alloc(), back)?;
-    Ok(all)
+    Ok(back.into_list())
 }
 
 /// Adds packets under a set, if there are any.
-fn add_some(
-    st: &mut Store,
-    back: &mut IndexMap<SetId, Id>,
-    s: SetId,
-    y: Id,
-) -> Result<(), AllocError>
-    requires back { HaveSets st.old back.old.entries }
-    requires once { Once back.old.entries }
+fn add_some(st: &mut Store, back: &mut Entries, s: SetId, y: Id) -> Result<(), AllocError>
+    requires back { HaveSets st.old back.old }
+    requires once { Once back.old }
     requires packets { IsSet st.old y }
     ensures grows { Grows st.old st.new }
-    ensures ok { OnOk result (IsAdded st.old back.old.entries s y st.new back.new.entries) }
+    ensures ok { OnOk result (IsAdded st.old back.old s y st.new back.new) }
 {
     if is_empty(st, y) {
         return Ok(());
     }
-    add(st, back, s, y)
+    back.add(st, s, y)
 }
 
 /// The packets of x at which one side has a violation of a set. A side is taken from the violations there alone.

@@ -11,11 +11,10 @@ ghost use Rattle.nk_cert.specs.Values.{held_row_value, row_values, certificate_v
 ghost use Rattle.nk_cert.specs.Later.{packets_at, IsRowBy, AreLaterPackets};
 
 use crate::certificate::Certificate;
-use indexmap::IndexMap;
 use nk_apply::empty;
 use nk_determ::{Levels, SetId, Sets};
 use nk_field::List;
-use nk_goal::{add_level, packets_of_set};
+use nk_goal::Entries;
 use nk_policy::{Pol, Pols};
 use nk_sets::set_pol;
 use nk_store::{Id, Store};
@@ -45,18 +44,18 @@ pub fn certificate_of(st: &mut Store, ss: &Sets, lv: &Levels) -> Result<Certific
 }
 
 /// All packets under sets of the levels after the first one.
-fn later_packets(st: &mut Store, lv: &Levels) -> Result<IndexMap<SetId, Id>, AllocError>
+fn later_packets(st: &mut Store, lv: &Levels) -> Result<Entries, AllocError>
     requires { (i : ℕ) → i < length lv.now.levels
         → HaveSets st.old (slice_index_or lv.now.levels i []) }
     ensures grows { Grows st.old st.new }
     ensures ok { IfOk result
         (λ visited. AreLaterPackets st.old lv.now.levels
-        (length lv.now.levels - 1) st.new visited.entries) }
+        (length lv.now.levels - 1) st.new visited) }
 {
-    let mut visited = IndexMap::new(st.alloc());
+    let mut visited = Entries::new(st.alloc());
     for i in 1..lv.levels.len() {
         let level = lv.levels.at(i);
-        add_level(st, &mut visited, level)?;
+        visited.add_level(st, level)?;
     }
     Ok(visited)
 }
@@ -65,15 +64,15 @@ fn later_packets(st: &mut Store, lv: &Levels) -> Result<IndexMap<SetId, Id>, All
 fn set_rows(
     st: &Store,
     ss: &Sets,
-    visited: &IndexMap<SetId, Id>,
+    visited: &Entries,
     none: Id,
     sets: &[SetId],
 ) -> Result<List<(List<u64>, Pol)>, AllocError>
     requires sets { All (λ s. s < length ss.now) sets.now }
-    requires packets { HaveSets st.now visited.now.entries }
+    requires packets { HaveSets st.now visited.now }
     requires none { IsSet st.now none }
     ensures { IfOk result (λ rs.
-        HaveRows (IsRowBy st.now ss.now visited.now.entries none) sets.now (row_values rs)) }
+        HaveRows (IsRowBy st.now ss.now visited.now none) sets.now (row_values rs)) }
 {
     let mut rows = List::new(st.alloc());
     for set in sets {
@@ -87,15 +86,15 @@ fn set_rows(
 fn set_row(
     st: &Store,
     ss: &Sets,
-    visited: &IndexMap<SetId, Id>,
+    visited: &Entries,
     none: Id,
     set: SetId,
 ) -> Result<(List<u64>, Pol), AllocError>
     requires set { set < length ss.now }
-    requires packets { HaveSets st.now visited.now.entries }
+    requires packets { HaveSets st.now visited.now }
     requires none { IsSet st.now none }
     ensures { IfOk result (λ r.
-        IsRowBy st.now ss.now visited.now.entries none set (held_row_value r)) }
+        IsRowBy st.now ss.now visited.now none set (held_row_value r)) }
 {
     let members = Vec::from_slice(st.alloc(), ss.members(set))?;
     let packets = packets_under(visited, none, set);
@@ -104,10 +103,10 @@ fn set_row(
 }
 
 /// The packets under a set.
-fn packets_under(visited: &IndexMap<SetId, Id>, none: Id, set: SetId) -> Id
-    ensures { result ≡ packets_at visited.now.entries none set }
+fn packets_under(visited: &Entries, none: Id, set: SetId) -> Id
+    ensures { result ≡ packets_at visited.now none set }
 {
-    match packets_of_set(visited, set) {
+    match visited.packets_of_set(set) {
         Some(packets) => packets,
         None => none,
     }

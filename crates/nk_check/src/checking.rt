@@ -16,11 +16,10 @@ ghost use Rattle.nk_check.specs.Judged.{IsJudge};
 
 use crate::entries::{row_entries, start_entry};
 use crate::judge::{Judge, judge_rows};
-use indexmap::IndexMap;
 use nk_cert::{Both, Certificate, Verdict, automaton_of_both, number_after};
 use nk_determ::Sets;
 use nk_field::Fields;
-use nk_goal::add_level;
+use nk_goal::Entries;
 use nk_policy::Pol;
 use nk_reach::OneSide;
 use nk_store::Store;
@@ -116,13 +115,13 @@ fn judge_of(
     ensures states { IfOk result (λ j. j.states ≡ both.states) }
     ensures ok { IfOk result
         (λ j. IsJudge st.new ss.new (length j.states)
-        (certificate_value certificate.now) j.start j.entries j.told.entries) }
+        (certificate_value certificate.now) j.start j.entries j.told) }
 {
     let Both { states, .. } = both;
     let start = start_entry(st, ss, &certificate.start, states.len())?;
     let entries = row_entries(st, ss, certificate.rows.as_slice(), states.len())?;
-    let mut told = IndexMap::new(st.alloc());
-    add_level(st, &mut told, &entries)?;
+    let mut told = Entries::new(st.alloc());
+    told.add_level(st, &entries)?;
     Ok(Judge {
         states,
         start,

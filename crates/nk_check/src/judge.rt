@@ -9,11 +9,10 @@ ghost use Rattle.nk_check.specs.Judged.{CanJudge, AreLabels, AreEntriesOf, IsSet
 
 use crate::entries::are_labels;
 use crate::packets::has_each;
-use indexmap::IndexMap;
 use nk_cert::{CertPart, Verdict};
 use nk_determ::{SetId, Sets};
 use nk_field::List;
-use nk_goal::any_violation;
+use nk_goal::{Entries, any_violation};
 use nk_policy::Pol;
 use nk_reach::{OneSide, next_level};
 use nk_store::{Id, Store};
@@ -28,7 +27,7 @@ pub(crate) struct Judge {
     /// The later rows' entries, in their order.
     pub(crate) entries: List<(SetId, Id)>,
     /// The packets of all later rows, by their sets.
-    pub(crate) told: IndexMap<SetId, Id>,
+    pub(crate) told: Entries,
 }
 
 impl Drop for Judge {
@@ -50,7 +49,7 @@ pub(crate) fn judge_rows(
     goal: &mut OneSide,
     later: &[(List<u64>, Pol)],
 ) -> Result<Verdict, AllocError>
-    requires can { CanJudge st.old ss.old judge.now.states judge.now.told.entries goal.old.ends
+    requires can { CanJudge st.old ss.old judge.now.states judge.now.told goal.old.ends
         goal.old.seen.entries }
     requires start { IsPair st.old ss.old (length judge.now.states) judge.now.start }
     requires entries { AreEntriesOf st.old ss.old (length judge.now.states)
@@ -58,7 +57,7 @@ pub(crate) fn judge_rows(
     ensures grows { Grows st.old st.new }
     ensures ok { IfOk result
         (λ v. IsJudged st.old ss.old judge.now.states
-        (λ set pk. alone (ends_of st.old goal.old.ends set pk)) judge.now.told.entries
+        (λ set pk. alone (ends_of st.old goal.old.ends set pk)) judge.now.told
         judge.now.start (row_values later.now) judge.now.entries v) }
 {
     let first = judge_start(st, ss, judge, goal)?;
@@ -84,20 +83,20 @@ fn judge_start(
     judge: &Judge,
     goal: &mut OneSide,
 ) -> Result<Option<CertPart>, AllocError>
-    requires can { CanJudge st.old ss.old judge.now.states judge.now.told.entries goal.old.ends
+    requires can { CanJudge st.old ss.old judge.now.states judge.now.told goal.old.ends
         goal.old.seen.entries }
     requires start { IsPair st.old ss.old (length judge.now.states) judge.now.start }
     ensures grows { Grows st.old st.new }
     ensures sets { SetsGrow ss.old ss.new }
     ensures can { OnOk result
-        (CanJudge st.new ss.new judge.now.states judge.now.told.entries goal.new.ends
+        (CanJudge st.new ss.new judge.now.states judge.now.told goal.new.ends
         goal.new.seen.entries) }
     ensures same { OnOk result
         ((st : StoreState) (set pk : Items ℕ)
         → alone (ends_of st goal.new.ends set pk) ≡ alone (ends_of st goal.old.ends set pk)) }
     ensures ok { IfOk result
         (λ o. IsStartJudged st.old ss.old judge.now.states
-        (λ set pk. alone (ends_of st.old goal.old.ends set pk)) judge.now.told.entries
+        (λ set pk. alone (ends_of st.old goal.old.ends set pk)) judge.now.told
         judge.now.start o) }
 {
     if !has_each(st, judge.start.1)? {
@@ -115,7 +114,7 @@ fn judge_row(
     later: &[(List<u64>, Pol)],
     i: usize,
 ) -> Result<Option<CertPart>, AllocError>
-    requires can { CanJudge st.old ss.old judge.now.states judge.now.told.entries goal.old.ends
+    requires can { CanJudge st.old ss.old judge.now.states judge.now.told goal.old.ends
         goal.old.seen.entries }
     requires entries { AreEntriesOf st.old ss.old (length judge.now.states)
         (row_values later.now) judge.now.entries }
@@ -123,14 +122,14 @@ fn judge_row(
     ensures grows { Grows st.old st.new }
     ensures sets { SetsGrow ss.old ss.new }
     ensures can { OnOk result
-        (CanJudge st.new ss.new judge.now.states judge.now.told.entries goal.new.ends
+        (CanJudge st.new ss.new judge.now.states judge.now.told goal.new.ends
         goal.new.seen.entries) }
     ensures same { OnOk result
         ((st : StoreState) (set pk : Items ℕ)
         → alone (ends_of st goal.new.ends set pk) ≡ alone (ends_of st goal.old.ends set pk)) }
     ensures ok { IfOk result
         (λ o. IsRowJudged st.old ss.old judge.now.states
-        (λ set pk. alone (ends_of st.old goal.old.ends set pk)) judge.now.told.entries
+        (λ set pk. alone (ends_of st.old goal.old.ends set pk)) judge.now.told
         (row_at (row_values later.now) i).positions (entry_at judge.now.entries i) o) }
 {
     if !has_labels(later, i, judge.states.len()) {
@@ -165,20 +164,20 @@ fn judge_set(
     goal: &mut OneSide,
     entry: (SetId, Id),
 ) -> Result<Option<CertPart>, AllocError>
-    requires can { CanJudge st.old ss.old judge.now.states judge.now.told.entries goal.old.ends
+    requires can { CanJudge st.old ss.old judge.now.states judge.now.told goal.old.ends
         goal.old.seen.entries }
     requires entry { IsPair st.old ss.old (length judge.now.states) entry }
     ensures grows { Grows st.old st.new }
     ensures sets { SetsGrow ss.old ss.new }
     ensures can { OnOk result
-        (CanJudge st.new ss.new judge.now.states judge.now.told.entries goal.new.ends
+        (CanJudge st.new ss.new judge.now.states judge.now.told goal.new.ends
         goal.new.seen.entries) }
     ensures same { OnOk result
         ((st : StoreState) (set pk : Items ℕ)
         → alone (ends_of st goal.new.ends set pk) ≡ alone (ends_of st goal.old.ends set pk)) }
     ensures ok { IfOk result
         (λ o. IsSetJudged st.old ss.old judge.now.states
-        (λ set pk. alone (ends_of st.old goal.old.ends set pk)) judge.now.told.entries entry o) }
+        (λ set pk. alone (ends_of st.old goal.old.ends set pk)) judge.now.told entry o) }
 {
     let level = level_of(st.alloc(), entry)?;
     if any_violation(st, ss, &level, goal)? {

@@ -2,7 +2,6 @@
 use Rattle.std.proofs.Common.{◌≡◌, ℕ, suc, zero, ◌<◌, ◌≤◌, ◌+◌, ◌⊎◌, Bool, true, false, inl, inr, refl, sym, ◌∙◌, ap, subst, arith, List, [], ◌∷◌, ◌++◌, length, get_or, take, Some, None, cond, eqb}
 use Rattle.std.specs.Prelude.{◌||◌, ◌&&◌, not}
 use Rattle.std.specs.Map.{lookup}
-use Rattle.indexmap.specs.IndexMap.{insert_entry}
 use Rattle.std.proofs.lemmas.Bool.Decides.{eqb_tells}
 use Rattle.nk_store.specs.StoreState.{StoreState, IsWhole, look, Grows, HasLeaves}
 use Rattle.nk_apply.specs.Leaves.{merged}
@@ -11,7 +10,7 @@ use Rattle.nk_sets.specs.PacketSets.{has_some_out, is_in, IsSet, IsPacketSetOf}
 use Rattle.nk_sets.proofs.SetLemmas.{set_grows, merged_out}
 use Rattle.nk_sets.proofs.Kept.{Has, packet_on, has_on, has_back}
 use Rattle.nk_determ.specs.Pairs.{Under, Named, Once, EachPair}
-use Rattle.nk_goal.specs.Entries.{HaveSets, IsJoined, IsMerged, IsAdded, IsRest}
+use Rattle.nk_goal.specs.Entries.{HaveSets, IsJoined, IsMerged, IsAdded, IsRest, with_packets}
 use Rattle.nk_goal.proofs.Growing.{under_on, under_back, under_named, each_weaker}
 
 -- a set that isn't found has no entry
@@ -198,17 +197,17 @@ once_apart (q ∷ ps) qs p o n = elim n [
 ]
 
 -- what stands under entries of which one was written stood there, or is new
-pub put_either : (st new : StoreState) (ps : List (ℕ × ℕ)) (t v i : ℕ) (x : List ℕ) → Grows st new → HaveSets st ps → Under new (insert_entry eqb ps t v) i x → Under st ps i x ⊎ ((i ≡ t) × Has new v x)
+pub put_either : (st new : StoreState) (ps : List (ℕ × ℕ)) (t v i : ℕ) (x : List ℕ) → Grows st new → HaveSets st ps → Under new (with_packets ps t v) i x → Under st ps i x ⊎ ((i ≡ t) × Has new v x)
 put_either st new [] t v i x g h u = elim u [ inl here ↦ inr (sym here.0, here.1) | inr z ↦ absurd z ]
 put_either st new (p ∷ ps) t v i x g h u = elim (eqb_tells t p.0) [
   | inl same ↦
-      let w : Under new ((p.0, v) ∷ ps) i x = subst (λ b. Under new (cond b ((p.0, v) ∷ ps) (p ∷ insert_entry eqb ps t v)) i x) same.0 u in
+      let w : Under new ((p.0, v) ∷ ps) i x = subst (λ b. Under new (cond b ((p.0, v) ∷ ps) (p ∷ with_packets ps t v)) i x) same.0 u in
       elim w [
         | inl here ↦ inr (sym here.0 ∙ sym same.1, here.1)
         | inr later ↦ inl (inr (under_back st new ps i x g h.1 later))
       ]
   | inr other ↦
-      let w : Under new (p ∷ insert_entry eqb ps t v) i x = subst (λ b. Under new (cond b ((p.0, v) ∷ ps) (p ∷ insert_entry eqb ps t v)) i x) other.0 u in
+      let w : Under new (p ∷ with_packets ps t v) i x = subst (λ b. Under new (cond b ((p.0, v) ∷ ps) (p ∷ with_packets ps t v)) i x) other.0 u in
       elim w [
         | inl here ↦ inl (inl (here.0, has_back st new p.1 x g h.0.id here.1))
         | inr later ↦ elim (put_either st new ps t v i x g h.1 later) [ inl a ↦ inl (inr a) | inr b ↦ inr b ]
@@ -216,36 +215,36 @@ put_either st new (p ∷ ps) t v i x g h u = elim (eqb_tells t p.0) [
 ]
 
 -- what stood under another set stands there
-pub put_other : (st new : StoreState) (ps : List (ℕ × ℕ)) (t v i : ℕ) (x : List ℕ) → Grows st new → HaveSets st ps → (i ≡ t → ⊥) → Under st ps i x → Under new (insert_entry eqb ps t v) i x
+pub put_other : (st new : StoreState) (ps : List (ℕ × ℕ)) (t v i : ℕ) (x : List ℕ) → Grows st new → HaveSets st ps → (i ≡ t → ⊥) → Under st ps i x → Under new (with_packets ps t v) i x
 put_other st new [] t v i x g h n u = absurd u
 put_other st new (p ∷ ps) t v i x g h n u = elim (eqb_tells t p.0) [
-  | inl same ↦ subst (λ b. Under new (cond b ((p.0, v) ∷ ps) (p ∷ insert_entry eqb ps t v)) i x) (sym same.0) (elim u [
+  | inl same ↦ subst (λ b. Under new (cond b ((p.0, v) ∷ ps) (p ∷ with_packets ps t v)) i x) (sym same.0) (elim u [
     | inl here ↦ absurd (n (sym here.0 ∙ sym same.1))
     | inr later ↦ inr (under_on st new ps i x g h.1 later)
   ])
-  | inr other ↦ subst (λ b. Under new (cond b ((p.0, v) ∷ ps) (p ∷ insert_entry eqb ps t v)) i x) (sym other.0) (elim u [
+  | inr other ↦ subst (λ b. Under new (cond b ((p.0, v) ∷ ps) (p ∷ with_packets ps t v)) i x) (sym other.0) (elim u [
     | inl here ↦ inl (here.0, has_on st new p.1 x g h.0.id here.1)
     | inr later ↦ inr (put_other st new ps t v i x g h.1 n later)
   ])
 ]
 
 -- the written packets stand under their set
-pub put_here : (new : StoreState) (ps : List (ℕ × ℕ)) (t v : ℕ) (x : List ℕ) → Has new v x → Under new (insert_entry eqb ps t v) t x
+pub put_here : (new : StoreState) (ps : List (ℕ × ℕ)) (t v : ℕ) (x : List ℕ) → Has new v x → Under new (with_packets ps t v) t x
 put_here new [] t v x h = inl (refl, h)
 put_here new (p ∷ ps) t v x h = elim (eqb_tells t p.0) [
-  | inl same ↦ subst (λ b. Under new (cond b ((p.0, v) ∷ ps) (p ∷ insert_entry eqb ps t v)) t x) (sym same.0) (inl (sym same.1, h))
-  | inr other ↦ subst (λ b. Under new (cond b ((p.0, v) ∷ ps) (p ∷ insert_entry eqb ps t v)) t x) (sym other.0) (inr (put_here new ps t v x h))
+  | inl same ↦ subst (λ b. Under new (cond b ((p.0, v) ∷ ps) (p ∷ with_packets ps t v)) t x) (sym same.0) (inl (sym same.1, h))
+  | inr other ↦ subst (λ b. Under new (cond b ((p.0, v) ∷ ps) (p ∷ with_packets ps t v)) t x) (sym other.0) (inr (put_here new ps t v x h))
 ]
 
 -- a written entry names its set alone besides
-pub put_named : (ps : List (ℕ × ℕ)) (t v i : ℕ) → Named (insert_entry eqb ps t v) i → Named ps i ⊎ (i ≡ t)
+pub put_named : (ps : List (ℕ × ℕ)) (t v i : ℕ) → Named (with_packets ps t v) i → Named ps i ⊎ (i ≡ t)
 put_named [] t v i n = elim n [ inl here ↦ inr (sym here) | inr z ↦ absurd z ]
 put_named (p ∷ ps) t v i n = elim (eqb_tells t p.0) [
   | inl same ↦
-      let w : Named ((p.0, v) ∷ ps) i = subst (λ b. Named (cond b ((p.0, v) ∷ ps) (p ∷ insert_entry eqb ps t v)) i) same.0 n in
+      let w : Named ((p.0, v) ∷ ps) i = subst (λ b. Named (cond b ((p.0, v) ∷ ps) (p ∷ with_packets ps t v)) i) same.0 n in
       elim w [ inl here ↦ inl (inl here) | inr later ↦ inl (inr later) ]
   | inr other ↦
-      let w : Named (p ∷ insert_entry eqb ps t v) i = subst (λ b. Named (cond b ((p.0, v) ∷ ps) (p ∷ insert_entry eqb ps t v)) i) other.0 n in
+      let w : Named (p ∷ with_packets ps t v) i = subst (λ b. Named (cond b ((p.0, v) ∷ ps) (p ∷ with_packets ps t v)) i) other.0 n in
       elim w [
         | inl here ↦ inl (inl here)
         | inr later ↦ elim (put_named ps t v i later) [ inl a ↦ inl (inr a) | inr b ↦ inr b ]
@@ -253,26 +252,26 @@ put_named (p ∷ ps) t v i n = elim (eqb_tells t p.0) [
 ]
 
 -- written entries have sets of packets
-pub put_sets : (st new : StoreState) (ps : List (ℕ × ℕ)) (t v : ℕ) → Grows st new → HaveSets st ps → IsSet new v → HaveSets new (insert_entry eqb ps t v)
+pub put_sets : (st new : StoreState) (ps : List (ℕ × ℕ)) (t v : ℕ) → Grows st new → HaveSets st ps → IsSet new v → HaveSets new (with_packets ps t v)
 put_sets st new [] t v g h s = (s, tt)
 put_sets st new (p ∷ ps) t v g h s = elim (eqb_tells t p.0) [
-  | inl same ↦ subst (λ b. HaveSets new (cond b ((p.0, v) ∷ ps) (p ∷ insert_entry eqb ps t v))) (sym same.0)
+  | inl same ↦ subst (λ b. HaveSets new (cond b ((p.0, v) ∷ ps) (p ∷ with_packets ps t v))) (sym same.0)
       (s, each_weaker (λ r. IsSet st r.1) (λ r. IsSet new r.1) ps (λ r w. set_grows st new r.1 g w) h.1)
-  | inr other ↦ subst (λ b. HaveSets new (cond b ((p.0, v) ∷ ps) (p ∷ insert_entry eqb ps t v))) (sym other.0)
+  | inr other ↦ subst (λ b. HaveSets new (cond b ((p.0, v) ∷ ps) (p ∷ with_packets ps t v))) (sym other.0)
       (set_grows st new p.1 g h.0, put_sets st new ps t v g h.1 s)
 ]
 
 -- written entries have each set once
-pub put_once : (ps : List (ℕ × ℕ)) (t v : ℕ) → Once ps → Once (insert_entry eqb ps t v)
+pub put_once : (ps : List (ℕ × ℕ)) (t v : ℕ) → Once ps → Once (with_packets ps t v)
 put_once [] t v o = (λ n. n, tt)
 put_once (p ∷ ps) t v o = elim (eqb_tells t p.0) [
-  | inl same ↦ subst (λ b. Once (cond b ((p.0, v) ∷ ps) (p ∷ insert_entry eqb ps t v))) (sym same.0) o
-  | inr other ↦ subst (λ b. Once (cond b ((p.0, v) ∷ ps) (p ∷ insert_entry eqb ps t v))) (sym other.0)
+  | inl same ↦ subst (λ b. Once (cond b ((p.0, v) ∷ ps) (p ∷ with_packets ps t v))) (sym same.0) o
+  | inr other ↦ subst (λ b. Once (cond b ((p.0, v) ∷ ps) (p ∷ with_packets ps t v))) (sym other.0)
       (λ n. elim (put_named ps t v p.0 n) [ inl a ↦ o.0 a | inr b ↦ other.1 (sym b) ], put_once ps t v o.1)
 ]
 
 -- the joined packets written under their set
-pub added_put : (st new : StoreState) (ps : List (ℕ × ℕ)) (t y v : ℕ) → Grows st new → HaveSets st ps → Once ps → IsJoined st ps t y new v → IsAdded st ps t y new (insert_entry eqb ps t v)
+pub added_put : (st new : StoreState) (ps : List (ℕ × ℕ)) (t y v : ℕ) → Grows st new → HaveSets st ps → Once ps → IsJoined st ps t y new v → IsAdded st ps t y new (with_packets ps t v)
 added_put st new ps t y v g h o j = record {
   either = λ i x w u. elim (put_either st new ps t v i x g h u) [
     | inl was ↦ inl was
@@ -282,7 +281,7 @@ added_put st new ps t y v g h o j = record {
     ]
   ];
   old = λ i x w u. elim (eqb_tells i t) [
-    | inl same ↦ subst (λ k. Under new (insert_entry eqb ps t v) k x) (sym same.1) (put_here new ps t v x (j.old x w (subst (λ k. Under st ps k x) same.1 u)))
+    | inl same ↦ subst (λ k. Under new (with_packets ps t v) k x) (sym same.1) (put_here new ps t v x (j.old x w (subst (λ k. Under st ps k x) same.1 u)))
     | inr other ↦ put_other st new ps t v i x g h other.1 u
   ];
   more = λ x w u. put_here new ps t v x (j.more x w u);

@@ -6,3 +6,4 @@ pub mod Growing
 pub mod Everything
 pub mod Going
 pub mod Adding
+pub mod Placing

@@ -1,5 +1,8 @@
 -- Sets of packets under sets of labels, and how they grow.
-use Rattle.std.specs.Prelude.{◌≡◌, ℕ, ◌⊎◌, true, List}
+use Rattle.std.specs.Prelude.{◌≡◌, ℕ, ◌⊎◌, true, cond, List, [], ◌∷◌}
+use Rattle.std.specs.Bool.{nat_eq}
+use Rattle.std.specs.List.{position_from}
+use Rattle.std.specs.Map.{lookup}
 use Rattle.nk_store.specs.StoreState.{StoreState, IsStorePacket}
 use Rattle.nk_sets.specs.PacketSets.{is_in, IsSet}
 use Rattle.nk_determ.specs.Pairs.{Under, Named, Once, EachPair}
@@ -39,3 +42,13 @@ pub record IsRest (st : StoreState) (ps : List (ℕ × ℕ)) (t y : ℕ) (new : 
   pub first : (x : List ℕ) → IsStorePacket st x → is_in new r x ≡ true → is_in st y x ≡ true
   pub second : (x : List ℕ) → IsStorePacket st x → is_in new r x ≡ true → Under st ps t x → ⊥
   pub both : (x : List ℕ) → IsStorePacket st x → is_in st y x ≡ true → (Under st ps t x → ⊥) → is_in new r x ≡ true
+
+-- the entries with v as the packets of a set t, which comes last where it has no entry
+abbrev pub with_packets : List (ℕ × ℕ) → ℕ → ℕ → List (ℕ × ℕ)
+with_packets [] t v = (t, v) ∷ []
+with_packets (p ∷ ps) t v = cond (nat_eq t p.0) ((p.0, v) ∷ ps) (p ∷ with_packets ps t v)
+
+-- a set has a place exactly where it has an entry, the place of that one
+pub record ArePlaced (places : List (ℕ × ℕ)) (ps : List (ℕ × ℕ)) : Type 0 where
+  pub once : Once ps
+  pub placed : (t : ℕ) → lookup (nat_eq t) places ≡ position_from (λ p. nat_eq t p.0) 0 ps

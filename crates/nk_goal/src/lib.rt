@@ -3,8 +3,6 @@
 
 mod entries;
 mod goal;
-mod standing;
 
-pub use entries::{add, add_level, packets_of_set, unvisited};
+pub use entries::Entries;
 pub use goal::{Goal, any_violation};
-pub use standing::Entries;

@@ -7,10 +7,9 @@ ghost use Rattle.nk_determ.specs.Pairs.{AreStates, AreLabelsBelow};
 ghost use Rattle.nk_determ.specs.Levels.{AreLevels};
 
 use crate::rounds::next_level;
-use indexmap::IndexMap;
 use nk_determ::{Levels, SetId, Sets};
 use nk_field::List;
-use nk_goal::{Goal, add_level, any_violation};
+use nk_goal::{Entries, Goal, any_violation};
 use nk_store::{Id, Store};
 use std::alloc::{AllocError, Global};
 
@@ -42,7 +41,7 @@ pub fn levels<G: Goal>(
         ((st : StoreState) (set pk : Items ℕ)
         → G.violations_of g.new st set pk ≡ G.violations_of g.old st set pk) }
 {
-    let mut visited = IndexMap::new(st.alloc());
+    let mut visited = Entries::new(st.alloc());
     let mut all = List::new(st.alloc());
     let broken = put_levels(st, ss, states, s, start, &mut visited, &mut all, g)?;
     Ok(Levels::new(all, broken))
@@ -56,7 +55,7 @@ fn put_levels<G: Goal>(
     states: &[Id],
     s: SetId,
     start: Id,
-    visited: &mut IndexMap<SetId, Id>,
+    visited: &mut Entries,
     all: &mut List<List<(SetId, Id)>>,
     g: &mut G,
 ) -> Result<bool, AllocError>
@@ -66,7 +65,7 @@ fn put_levels<G: Goal>(
     requires set { s < length ss.old }
     requires places { AreLabelsBelow (length states.now) (slice_index_or ss.old s []) }
     requires packets { IsSet st.old start }
-    requires none_visited { visited.old.entries ≡ [] }
+    requires none_visited { visited.old ≡ [] }
     requires no_level { all.old ≡ [] }
     ensures grows { Grows st.old st.new }
     ensures sets { SetsGrow ss.old ss.new }
@@ -90,7 +89,7 @@ fn put_levels<G: Goal>(
         if level.len() == 0 {
             return Ok(false);
         }
-        add_level(st, visited, &level)?;
+        visited.add_level(st, &level)?;
         all.push(level)?;
     }
 }

@@ -7,8 +7,8 @@ use Rattle.nk_backward.proofs.closure.close_all.Goals as goal
 
 pub returns-then-closed-clause-ok : goal.returns-then-closed-clause-ok
 returns-then-closed-clause-ok c =
-    swept_closed c.args.st.now c.sweep_some.new.st c.args.ts.now c.args.back.now.entries c.sweep_some.new.back.entries c.requires.suits_store
-    (subst (λ b. IsSwept c.args.st.now c.args.ts.now c.args.back.now.entries c.sweep_some.new.st c.sweep_some.new.back.entries b) c.if-closed.true c.in_ok-closed.ensures.ok)
+    swept_closed c.args.st.now c.sweep_some.new.st c.args.ts.now c.args.back.now c.sweep_some.new.back c.requires.suits_store
+    (subst (λ b. IsSwept c.args.st.now c.args.ts.now c.args.back.now c.sweep_some.new.st c.sweep_some.new.back b) c.if-closed.true c.in_ok-closed.ensures.ok)
 
 pub returns-then-closed-clause-pre : goal.returns-then-closed-clause-pre
 returns-then-closed-clause-pre c = known_on c.args.st.now c.sweep_some.new.st c.args.ts.now c.args.pre.now c.sweep_some.ensures.grows c.requires.suits_store c.requires.pre
@@ -27,5 +27,5 @@ close_rest-requires-clause-once c = c.in_ok-closed.ensures.ok.once
 
 pub returns-clause-ok : goal.returns-clause-ok
 returns-clause-ok c =
-    closure_swept c.args.st.now c.sweep_some.new.st c.close_rest.new.st c.args.ts.now c.args.back.now.entries c.sweep_some.new.back.entries c.close_rest.new.back.entries c.in_ok-closed.closed
+    closure_swept c.args.st.now c.sweep_some.new.st c.close_rest.new.st c.args.ts.now c.args.back.now c.sweep_some.new.back c.close_rest.new.back c.in_ok-closed.closed
     c.sweep_some.ensures.grows c.requires.suits_store c.in_ok-closed.ensures.ok c.in_ok-close_rest.ensures.ok

@@ -1,6 +1,5 @@
-use Rattle.std.proofs.Common.{sym, subst}
+use Rattle.std.proofs.Common.{subst}
 use Rattle.nk_goal.specs.Entries.{IsMerged}
-use Rattle.nk_backward.specs.Closures.{IsClosure}
 use Rattle.nk_backward.proofs.Tracing.{outs_suit_on}
 use Rattle.nk_backward.proofs.Preceding.{known_on}
 use Rattle.nk_backward.proofs.Taking.{closure_from}
@@ -14,6 +13,5 @@ close_all-requires-clause-pre c = known_on c.args.st.now c.add_level.new.st c.ar
 
 pub returns-clause-ok : goal.returns-clause-ok
 returns-clause-ok c =
-    subst (λ ps. IsClosure c.args.st.now c.args.ts.now c.args.goal c.close_all.new.st ps) (sym c.new.ensures)
-    (closure_from c.args.st.now c.add_level.new.st c.close_all.new.st c.args.ts.now c.args.goal c.add_level.new.visited.entries c.close_all.new.back.entries c.add_level.ensures.grows c.requires.suits_store
-    (subst (λ ps. IsMerged c.args.st.now ps c.args.goal c.add_level.new.st c.add_level.new.visited.entries) c.new-back.ensures.empty c.in_ok-add_level.ensures.ok) c.in_ok-close_all.ensures.ok)
+    closure_from c.args.st.now c.add_level.new.st c.close_all.new.st c.args.ts.now c.args.goal c.add_level.new.self c.close_all.new.back c.add_level.ensures.grows c.requires.suits_store
+    (subst (λ ps. IsMerged c.args.st.now ps c.args.goal c.add_level.new.st c.add_level.new.self) c.new-back.ensures c.in_ok-add_level.ensures.ok) c.in_ok-close_all.ensures.ok

@@ -14,8 +14,8 @@ pub loop-from-init : goal.loop-from-init
 loop-from-init c = record {
   grows = grows_same c.args.st.now;
   within = omega arith;
-  gained = subst (λ ps. IsGained c.args.st.now (StandsBetween c.args.st.now c.args.found.now 0 0) c.args.back.now.entries [] c.args.st.now c.args.back.now.entries ps) (sym c.new-next.ensures.empty)
-      (gained_none c.args.st.now c.args.st.now (StandsBetween c.args.st.now c.args.found.now 0 0) c.args.back.now.entries [] (grows_same c.args.st.now) c.requires.back c.requires.once tt tt (λ i z w m. absurd (let l = m.2 in omega (arith, l))));
+  gained = subst (λ ps. IsGained c.args.st.now (StandsBetween c.args.st.now c.args.found.now 0 0) c.args.back.now [] c.args.st.now c.args.back.now ps) (sym c.new-next.ensures)
+      (gained_none c.args.st.now c.args.st.now (StandsBetween c.args.st.now c.args.found.now 0 0) c.args.back.now [] (grows_same c.args.st.now) c.requires.back c.requires.once tt tt (λ i z w m. absurd (let l = m.2 in omega (arith, l))));
 }
 
 pub union_all-requires : goal.union_all-requires
@@ -30,16 +30,16 @@ put_new-requires-clause-packets c =
     (subst (λ ds. ((k : ℕ) → k < length ds → IsPredicate c.loop-from.st (get_or ds k 0)) → IsPredicate c.union_all.new.st c.in_ok-y.y) c.as_slice.ensures c.in_ok-y.ensures.predicate)
 
 pub put_new-requires-clause-back : goal.put_new-requires-clause-back
-put_new-requires-clause-back c = sets_on c.loop-from.st c.union_all.new.st c.loop-from.back.entries c.union_all.ensures.grows c.loop-from.invariant.gained.packets
+put_new-requires-clause-back c = sets_on c.loop-from.st c.union_all.new.st c.loop-from.back c.union_all.ensures.grows c.loop-from.invariant.gained.packets
 
 pub put_new-requires-clause-next : goal.put_new-requires-clause-next
-put_new-requires-clause-next c = sets_on c.loop-from.st c.union_all.new.st c.loop-from.next.entries c.union_all.ensures.grows c.loop-from.invariant.gained.next_packets
+put_new-requires-clause-next c = sets_on c.loop-from.st c.union_all.new.st c.loop-from.next c.union_all.ensures.grows c.loop-from.invariant.gained.next_packets
 
 pub loop-from-preserved : goal.loop-from-preserved
 loop-from-preserved c = record {
   grows = grows_on _ _ _ c.loop-from.invariant.grows (grows_on _ _ _ c.union_all.ensures.grows c.put_new.ensures.grows);
   within = c.in_ok-to.ensures.within;
-  gained = put_run c.args.st.now c.loop-from.st c.union_all.new.st c.put_new.new.st c.args.found.now c.loop-from.from c.in_ok-to.to c.set_at.result c.in_ok-y.y c.in_ok-to.run' c.args.back.now.entries [] c.loop-from.back.entries c.loop-from.next.entries c.put_new.new.back.entries c.put_new.new.next.entries
+  gained = put_run c.args.st.now c.loop-from.st c.union_all.new.st c.put_new.new.st c.args.found.now c.loop-from.from c.in_ok-to.to c.set_at.result c.in_ok-y.y c.in_ok-to.run' c.args.back.now [] c.loop-from.back c.loop-from.next c.put_new.new.back c.put_new.new.next
       c.loop-from.invariant.grows c.union_all.ensures.grows c.requires.found c.set_at.ensures c.in_ok-to.ensures
       (subst (λ ds. HasLeaves c.union_all.new.st c.in_ok-y.y (λ pk. unions c.loop-from.st ds 0 (length ds) pk)) c.as_slice.ensures c.in_ok-y.ensures.ok) c.loop-from.invariant.gained c.in_ok-put_new.ensures.ok;
 }
@@ -47,5 +47,5 @@ loop-from-preserved c = record {
 pub returns-clause-ok : goal.returns-clause-ok
 returns-clause-ok c =
     let e : c.loop-from.from ≡ length c.args.found.now = omega (arith, c.loop-from-test.false, c.loop-from.invariant.within) in
-    subst (λ ps. IsGained c.args.st.now (Under c.args.st.now c.args.found.now) c.args.back.now.entries [] c.loop-from.st c.loop-from.back.entries ps) (sym c.in_ok-all.ensures)
-    (put_whole c.args.st.now c.loop-from.st c.args.found.now c.loop-from.from c.args.back.now.entries [] c.loop-from.back.entries c.loop-from.next.entries e c.loop-from.invariant.gained)
+    subst (λ ps. IsGained c.args.st.now (Under c.args.st.now c.args.found.now) c.args.back.now [] c.loop-from.st c.loop-from.back ps) (sym c.into_list.ensures)
+    (put_whole c.args.st.now c.loop-from.st c.args.found.now c.loop-from.from c.args.back.now [] c.loop-from.back c.loop-from.next e c.loop-from.invariant.gained)

@@ -8,7 +8,7 @@ abbrev pub invariant-loop-from : goal.invariant-loop-from
 invariant-loop-from l = record {
   grows : Grows l.fn.st l.st;
   within : l.from ≤ length l.found;
-  gained : IsGained l.fn.st (StandsBetween l.fn.st l.found 0 l.from) l.fn.back.entries [] l.st l.back.entries l.next.entries;
+  gained : IsGained l.fn.st (StandsBetween l.fn.st l.found 0 l.from) l.fn.back [] l.st l.back l.next;
 }
 
 abbrev pub decreases-loop-from : goal.decreases-loop-from

@@ -10,9 +10,9 @@ pub put_all-requires-clause-found : goal.put_all-requires-clause-found
 put_all-requires-clause-found c = subst (HaveSets c.led_from.new.st) (sym c.as_slice.ensures) c.in_ok-found.ensures.ok.packets
 
 pub put_all-requires-clause-back : goal.put_all-requires-clause-back
-put_all-requires-clause-back c = sets_on c.args.st.now c.led_from.new.st c.args.back.now.entries c.led_from.ensures.grows c.requires.back
+put_all-requires-clause-back c = sets_on c.args.st.now c.led_from.new.st c.args.back.now c.led_from.ensures.grows c.requires.back
 
 pub returns-clause-ok : goal.returns-clause-ok
 returns-clause-ok c =
-    taken_back c.args.st.now c.led_from.new.st c.put_all.new.st c.args.t.now c.in_ok-found.found c.args.back.now.entries c.put_all.new.back.entries c.in_ok-none.none c.led_from.ensures.grows c.requires.back c.requires.once c.in_ok-found.ensures.ok
-    (subst (λ ps. IsWidened c.led_from.new.st (Under c.led_from.new.st ps) c.args.back.now.entries c.put_all.new.st c.put_all.new.back.entries c.in_ok-none.none) c.as_slice.ensures c.in_ok-none.ensures.ok)
+    taken_back c.args.st.now c.led_from.new.st c.put_all.new.st c.args.t.now c.in_ok-found.found c.args.back.now c.put_all.new.back c.in_ok-none.none c.led_from.ensures.grows c.requires.back c.requires.once c.in_ok-found.ensures.ok
+    (subst (λ ps. IsWidened c.led_from.new.st (Under c.led_from.new.st ps) c.args.back.now c.put_all.new.st c.put_all.new.back c.in_ok-none.none) c.as_slice.ensures c.in_ok-none.ensures.ok)

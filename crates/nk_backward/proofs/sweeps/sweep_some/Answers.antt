@@ -8,7 +8,7 @@ use Rattle.nk_backward.proofs.sweeps.sweep_some.Goals as goal
 pub sweeps-init : goal.sweeps-init
 sweeps-init c = record {
   grows = grows_same c.args.st.now;
-  made = swept_none c.args.st.now c.args.ts.now c.args.back.now.entries c.requires.back c.requires.once;
+  made = swept_none c.args.st.now c.args.ts.now c.args.back.now c.requires.back c.requires.once;
 }
 
 pub sweep-requires-clause-suits_store : goal.sweep-requires-clause-suits_store
@@ -16,12 +16,12 @@ sweep-requires-clause-suits_store c = outs_suit_on c.args.st.now c.sweeps.st c.a
 
 pub returns-then-closed-clause-ok : goal.returns-then-closed-clause-ok
 returns-then-closed-clause-ok c =
-    subst (λ b. IsSwept c.args.st.now c.args.ts.now c.args.back.now.entries c.sweep.new.st c.sweep.new.back.entries b) c.if-closed.true
-    (swept_again c.args.st.now c.sweeps.st c.sweep.new.st c.args.ts.now c.args.back.now.entries c.sweeps.back.entries c.sweep.new.back.entries false c.in_ok-closed.closed c.sweeps.invariant.grows c.requires.suits_store c.sweeps.invariant.made c.in_ok-closed.ensures.ok)
+    subst (λ b. IsSwept c.args.st.now c.args.ts.now c.args.back.now c.sweep.new.st c.sweep.new.back b) c.if-closed.true
+    (swept_again c.args.st.now c.sweeps.st c.sweep.new.st c.args.ts.now c.args.back.now c.sweeps.back c.sweep.new.back false c.in_ok-closed.closed c.sweeps.invariant.grows c.requires.suits_store c.sweeps.invariant.made c.in_ok-closed.ensures.ok)
 
 pub sweeps-preserved : goal.sweeps-preserved
 sweeps-preserved c = record {
   grows = grows_on _ _ _ c.sweeps.invariant.grows c.sweep.ensures.grows;
-  made = subst (λ b. IsSwept c.args.st.now c.args.ts.now c.args.back.now.entries c.sweep.new.st c.sweep.new.back.entries b) c.if-closed.false
-      (swept_again c.args.st.now c.sweeps.st c.sweep.new.st c.args.ts.now c.args.back.now.entries c.sweeps.back.entries c.sweep.new.back.entries false c.in_ok-closed.closed c.sweeps.invariant.grows c.requires.suits_store c.sweeps.invariant.made c.in_ok-closed.ensures.ok);
+  made = subst (λ b. IsSwept c.args.st.now c.args.ts.now c.args.back.now c.sweep.new.st c.sweep.new.back b) c.if-closed.false
+      (swept_again c.args.st.now c.sweeps.st c.sweep.new.st c.args.ts.now c.args.back.now c.sweeps.back c.sweep.new.back false c.in_ok-closed.closed c.sweeps.invariant.grows c.requires.suits_store c.sweeps.invariant.made c.in_ok-closed.ensures.ok);
 }

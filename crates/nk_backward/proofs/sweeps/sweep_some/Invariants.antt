@@ -6,5 +6,5 @@ use Rattle.nk_backward.proofs.sweeps.sweep_some.Given as goal
 abbrev pub invariant-sweeps : goal.invariant-sweeps
 invariant-sweeps l = record {
   grows : Grows l.fn.st l.st;
-  made : IsSwept l.fn.st l.ts l.fn.back.entries l.st l.back.entries false;
+  made : IsSwept l.fn.st l.ts l.fn.back l.st l.back false;
 }

@@ -18,7 +18,7 @@ side_violations-requires-clause-packets g c =
 
 pub add_some-requires-clause-back : goal.add_some-requires-clause-back
 add_some-requires-clause-back g c =
-    each_weaker (λ p. IsSet c.loop-k.st p.1) (λ p. IsSet c.side_violations.new.st p.1) c.loop-k.back.entries
+    each_weaker (λ p. IsSet c.loop-k.st p.1) (λ p. IsSet c.side_violations.new.st p.1) c.loop-k.back
     (λ p q. set_grows c.loop-k.st c.side_violations.new.st p.1 c.side_violations.ensures.grows q) c.loop-k.invariant.made.packets
 
 pub add_some-requires-clause-packets : goal.add_some-requires-clause-packets
@@ -39,9 +39,9 @@ loop-k-preserved g c =
       fits = g.met.G.Goal.fits_on c.side_violations.new.g c.side_violations.new.st c.add_some.new.st c.in_ok-bad.ensures.fits c.add_some.ensures.grows;
       labels = c.in_ok-bad.ensures.labels ∙ c.loop-k.invariant.labels;
       same = λ st s pk. c.in_ok-bad.ensures.same st s pk ∙ c.loop-k.invariant.same st s pk;
-      made = subst (λ q. AreViolationsSoFar c.args.st.now c.args.ss.now bad q c.add_some.new.st c.add_some.new.back.entries) (sym (take_more c.args.entries.now c.loop-k.k c.at.result.now l c.at.ensures))
+      made = subst (λ q. AreViolationsSoFar c.args.st.now c.args.ss.now bad q c.add_some.new.st c.add_some.new.back) (sym (take_more c.args.entries.now c.loop-k.k c.at.result.now l c.at.ensures))
           (restricted_push c.args.st.now c.loop-k.st c.side_violations.new.st c.add_some.new.st c.args.ss.now (g.G.Goal.labels c.args.g.now) bad (λ pk. of_side c.args.side (g.G.Goal.violations_of c.loop-k.g c.loop-k.st set pk))
-          (take c.loop-k.k c.args.entries.now) c.loop-k.back.entries c.add_some.new.back.entries c.at.result.now c.in_ok-bad.bad c.loop-k.invariant.made c.loop-k.invariant.grows c.side_violations.ensures.grows c.in_ok-bad.ensures.ok
+          (take c.loop-k.k c.args.entries.now) c.loop-k.back c.add_some.new.back c.at.result.now c.in_ok-bad.bad c.loop-k.invariant.made c.loop-k.invariant.grows c.side_violations.ensures.grows c.in_ok-bad.ensures.ok
           (λ pk. ap (of_side c.args.side) (c.loop-k.invariant.same c.loop-k.st set pk ∙ g.met.G.Goal.violations_grow c.args.g.now c.args.st.now c.loop-k.st set pk c.requires.fits c.loop-k.invariant.grows p.places))
           p c.in_ok-add_some.ensures.ok);
     }

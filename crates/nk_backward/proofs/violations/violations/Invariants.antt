@@ -10,5 +10,5 @@ invariant-loop-k g l = record {
   fits : g.G.Goal.fits l.g l.st;
   labels : g.G.Goal.labels l.g ≡ g.G.Goal.labels l.fn.g;
   same : (st : StoreState) (set pk : List ℕ) → g.G.Goal.violations_of l.g st set pk ≡ g.G.Goal.violations_of l.fn.g st set pk;
-  made : AreViolationsSoFar l.fn.st l.ss (λ set pk. of_side l.side (g.G.Goal.violations_of l.fn.g l.fn.st set pk)) (take l.k l.entries) l.st l.back.entries;
+  made : AreViolationsSoFar l.fn.st l.ss (λ set pk. of_side l.side (g.G.Goal.violations_of l.fn.g l.fn.st set pk)) (take l.k l.entries) l.st l.back;
 }

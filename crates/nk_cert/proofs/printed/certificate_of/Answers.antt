@@ -28,8 +28,8 @@ set_rows-requires-clause-none c =
 
 pub returns-clause-ok : goal.returns-clause-ok
 returns-clause-ok c =
-    certificate_made c.args.st.now c.later_packets.new.st c.args.ss.now c.args.lv.now.levels c.in_ok-visited.visited.entries c.in_ok-none.none
-    (later_of_old c.args.st.now c.empty.new.st c.later_packets.new.st c.args.lv.now.levels c.in_ok-visited.visited.entries c.empty.ensures.grows c.requires.packets c.in_ok-visited.ensures.ok)
+    certificate_made c.args.st.now c.later_packets.new.st c.args.ss.now c.args.lv.now.levels c.in_ok-visited.visited c.in_ok-none.none
+    (later_of_old c.args.st.now c.empty.new.st c.later_packets.new.st c.args.lv.now.levels c.in_ok-visited.visited c.empty.ensures.grows c.requires.packets c.in_ok-visited.ensures.ok)
     (none_on c.empty.new.st c.later_packets.new.st c.in_ok-none.none c.later_packets.ensures.grows c.in_ok-none.ensures.ok)
     c.in_ok-sets.sets (certificate_value (record { start = c.everything.result; rows = c.in_ok-rows.rows })) c.in_ok-sets.ensures c.everything.ensures
-    (subst (λ (l : List ℕ). HaveRows (IsRowBy c.later_packets.new.st c.args.ss.now c.in_ok-visited.visited.entries c.in_ok-none.none) l (row_values c.in_ok-rows.rows)) c.as_slice.ensures c.in_ok-rows.ensures)
+    (subst (λ (l : List ℕ). HaveRows (IsRowBy c.later_packets.new.st c.args.ss.now c.in_ok-visited.visited c.in_ok-none.none) l (row_values c.in_ok-rows.rows)) c.as_slice.ensures c.in_ok-rows.ensures)

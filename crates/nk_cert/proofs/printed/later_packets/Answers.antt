@@ -12,7 +12,7 @@ use Rattle.nk_cert.proofs.printed.later_packets.Goals as goal
 pub loop-i-init : goal.loop-i-init
 loop-i-init c = record {
   grows = grows_same c.args.st.now;
-  later = subst (λ m. AreLaterPackets c.args.st.now c.args.lv.now.levels 0 c.args.st.now m) (sym c.new-visited.ensures.empty) (none_later c.args.st.now c.args.lv.now.levels);
+  later = subst (λ m. AreLaterPackets c.args.st.now c.args.lv.now.levels 0 c.args.st.now m) (sym c.new-visited.ensures) (none_later c.args.st.now c.args.lv.now.levels);
 }
 
 pub add_level-requires-clause-level : goal.add_level-requires-clause-level
@@ -31,10 +31,10 @@ loop-i-preserved c =
     let next : (c.loop-i.i - 1) + 1 ≡ (c.loop-i.i + 1) - 1 = omega arith in
     record {
       grows = grows_on _ _ _ c.loop-i.invariant.grows c.add_level.ensures.grows;
-      later = subst (λ n. AreLaterPackets c.args.st.now c.args.lv.now.levels n c.add_level.new.st c.add_level.new.visited.entries) next
-          (later_more c.args.st.now c.loop-i.st c.add_level.new.st c.args.lv.now.levels (c.loop-i.i - 1) c.loop-i.visited.entries c.add_level.new.visited.entries c.at-level.result.now c.loop-i.invariant.grows c.loop-i.invariant.later
+      later = subst (λ n. AreLaterPackets c.args.st.now c.args.lv.now.levels n c.add_level.new.st c.add_level.new.self) next
+          (later_more c.args.st.now c.loop-i.st c.add_level.new.st c.args.lv.now.levels (c.loop-i.i - 1) c.loop-i.visited c.add_level.new.self c.at-level.result.now c.loop-i.invariant.grows c.loop-i.invariant.later
           (subst (HaveSets c.args.st.now) (sym is) (c.requires c.loop-i.i lt)) (is ∙ ap (λ i. get_or c.args.lv.now.levels i []) at) c.in_ok-add_level.ensures.ok);
     }
 
 pub returns-clause-ok : goal.returns-clause-ok
-returns-clause-ok c = later_done c.args.st.now c.args.lv.now.levels c.loop-i.i c.loop-i.st c.loop-i.visited.entries (omega (arith, c.loop-i-test.false, c.len-i-end.ensures)) c.loop-i.invariant.later
+returns-clause-ok c = later_done c.args.st.now c.args.lv.now.levels c.loop-i.i c.loop-i.st c.loop-i.visited (omega (arith, c.loop-i-test.false, c.len-i-end.ensures)) c.loop-i.invariant.later

@@ -7,5 +7,5 @@ use Rattle.nk_cert.proofs.printed.later_packets.Given as goal
 abbrev pub invariant-loop-i : goal.invariant-loop-i
 invariant-loop-i l = record {
   grows : Grows l.fn.st l.st;
-  later : AreLaterPackets l.fn.st l.lv.levels (l.i - 1) l.st l.visited.entries;
+  later : AreLaterPackets l.fn.st l.lv.levels (l.i - 1) l.st l.visited;
 }

@@ -8,7 +8,7 @@ use Rattle.nk_cert.proofs.printed.set_rows.Goals as goal
 
 pub loop-set-preserved : goal.loop-set-preserved
 loop-set-preserved c =
-    let P = IsRowBy c.args.st.now c.args.ss.now c.args.visited.now.entries c.args.none in
+    let P = IsRowBy c.args.st.now c.args.ss.now c.args.visited.now c.args.none in
     let set = get_or c.args.sets.now c.loop-set.set-index c.set-item.result in
     let row = subst (λ s. P s (held_row_value c.in_ok-row.row)) c.set-item.is c.in_ok-row.ensures in
     subst (λ l. HaveRows P l (row_values c.push.new.self)) (sym (take_more c.args.sets.now c.loop-set.set-index c.set-item.result c.loop-set-test.true))
@@ -17,5 +17,5 @@ loop-set-preserved c =
 
 pub returns : goal.returns
 returns c =
-    subst (λ l. HaveRows (IsRowBy c.args.st.now c.args.ss.now c.args.visited.now.entries c.args.none) l (row_values c.loop-set.rows))
+    subst (λ l. HaveRows (IsRowBy c.args.st.now c.args.ss.now c.args.visited.now c.args.none) l (row_values c.loop-set.rows))
     (take_all c.loop-set.set-index c.args.sets.now c.loop-set-test.false) c.loop-set.invariant

@@ -6,4 +6,4 @@ use Rattle.nk_cert.proofs.printed.set_rows.Given as goal
 
 -- the rows of the sets so far
 abbrev pub invariant-loop-set : goal.invariant-loop-set
-invariant-loop-set l = HaveRows (IsRowBy l.st l.ss l.visited.entries l.none) (take l.set-index l.sets) (row_values l.rows)
+invariant-loop-set l = HaveRows (IsRowBy l.st l.ss l.visited l.none) (take l.set-index l.sets) (row_values l.rows)

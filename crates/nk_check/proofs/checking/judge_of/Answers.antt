@@ -24,7 +24,7 @@ returns-clause-ok c =
           (grows_on _ _ _ c.row_entries.ensures.grows c.add_level.ensures.grows) c.row_entries.ensures.sets start;
       later = entries_on c.row_entries.new.st c.add_level.new.st c.row_entries.new.ss c.row_entries.new.ss (length c.args.both.states) (row_values c.args.certificate.now.rows) c.in_ok-entries.entries
           c.add_level.ensures.grows (sets_refl c.row_entries.new.ss) later;
-      all = told_by_all c.row_entries.new.st c.add_level.new.st c.row_entries.new.ss (length c.args.both.states) (row_values c.args.certificate.now.rows) c.in_ok-entries.entries c.add_level.new.visited.entries
+      all = told_by_all c.row_entries.new.st c.add_level.new.st c.row_entries.new.ss (length c.args.both.states) (row_values c.args.certificate.now.rows) c.in_ok-entries.entries c.add_level.new.self
           c.add_level.ensures.grows later
-          (subst (λ m. IsMerged c.row_entries.new.st m c.in_ok-entries.entries c.add_level.new.st c.add_level.new.visited.entries) c.new-told.ensures.empty c.in_ok-add_level.ensures.ok);
+          (subst (λ m. IsMerged c.row_entries.new.st m c.in_ok-entries.entries c.add_level.new.st c.add_level.new.self) c.new-told.ensures c.in_ok-add_level.ensures.ok);
     }

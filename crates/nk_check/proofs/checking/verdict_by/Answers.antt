@@ -38,10 +38,10 @@ pub judge_rows-requires-clause-can : goal.judge_rows-requires-clause-can
 judge_rows-requires-clause-can c =
     let a = c.requires.automaton.3 in
     let marked = subst (λ (r : List ℕ). AreSideFinals c.args.st.now r c.args.both.left c.args.both.right c.args.bound (length r) c.new.new.st c.in_ok-goal.goal.ends) c.as_slice.ensures c.in_ok-goal.ensures.marked in
-    subst (λ r. CanJudge c.judge_of.new.st c.judge_of.new.ss r c.in_ok-judge.judge.told.entries c.in_ok-goal.goal.ends c.in_ok-goal.goal.seen.entries) (sym c.in_ok-judge.ensures.states)
+    subst (λ r. CanJudge c.judge_of.new.st c.judge_of.new.ss r c.in_ok-judge.judge.told c.in_ok-goal.goal.ends c.in_ok-goal.goal.seen.entries) (sym c.in_ok-judge.ensures.states)
     (can_judge c.requires.automaton.0 c.args.st.now c.new.new.st c.judge_of.new.st c.args.both.states c.args.both.left c.args.both.right c.requires.automaton.1 c.requires.automaton.2
-    a c.args.bound c.requires.automaton.4 c.in_ok-goal.goal.ends c.new.ensures.grows c.judge_of.ensures.grows c.in_ok-goal.ensures.ids marked c.judge_of.new.ss c.in_ok-judge.judge.told.entries c.in_ok-goal.goal.seen.entries
-    (subst (λ (r : List ℕ). IsJudge c.judge_of.new.st c.judge_of.new.ss (length r) (certificate_value c.args.certificate.now) c.in_ok-judge.judge.start c.in_ok-judge.judge.entries c.in_ok-judge.judge.told.entries) c.in_ok-judge.ensures.states c.in_ok-judge.ensures.ok).all.pairs c.in_ok-goal.ensures.fits)
+    a c.args.bound c.requires.automaton.4 c.in_ok-goal.goal.ends c.new.ensures.grows c.judge_of.ensures.grows c.in_ok-goal.ensures.ids marked c.judge_of.new.ss c.in_ok-judge.judge.told c.in_ok-goal.goal.seen.entries
+    (subst (λ (r : List ℕ). IsJudge c.judge_of.new.st c.judge_of.new.ss (length r) (certificate_value c.args.certificate.now) c.in_ok-judge.judge.start c.in_ok-judge.judge.entries c.in_ok-judge.judge.told) c.in_ok-judge.ensures.states c.in_ok-judge.ensures.ok).all.pairs c.in_ok-goal.ensures.fits)
 
 pub judge_rows-requires-clause-start : goal.judge_rows-requires-clause-start
 judge_rows-requires-clause-start c = c.in_ok-judge.ensures.ok.start_is.pair
@@ -55,13 +55,13 @@ returns c =
     let marked = subst (λ (r : List ℕ). AreSideFinals c.args.st.now r c.args.both.left c.args.both.right c.args.bound (length r) c.new.new.st c.in_ok-goal.goal.ends) c.as_slice.ensures c.in_ok-goal.ensures.marked in
     let sided = subst (λ (r : List ℕ). (set pk : List ℕ) → AreLabelsBelow (length r) set → IsStorePacket c.args.st.now pk
     → AreOneSided c.args.st.now r c.args.both.left c.args.both.right c.args.bound set pk (alone (ends_of c.new.new.st c.in_ok-goal.goal.ends set pk))) c.as_slice.ensures c.in_ok-goal.ensures.alone in
-    let made = subst (λ (r : List ℕ). IsJudge c.judge_of.new.st c.judge_of.new.ss (length r) (certificate_value c.args.certificate.now) c.in_ok-judge.judge.start c.in_ok-judge.judge.entries c.in_ok-judge.judge.told.entries) c.in_ok-judge.ensures.states c.in_ok-judge.ensures.ok in
+    let made = subst (λ (r : List ℕ). IsJudge c.judge_of.new.st c.judge_of.new.ss (length r) (certificate_value c.args.certificate.now) c.in_ok-judge.judge.start c.in_ok-judge.judge.entries c.in_ok-judge.judge.told) c.in_ok-judge.ensures.states c.in_ok-judge.ensures.ok in
     let bad = λ (set pk : List ℕ). alone (ends_of c.judge_of.new.st c.in_ok-goal.goal.ends set pk) in
     IfOk-weaker c.judge_rows.result _ _
     (λ v judged fields p q a following.
     found_by fields c.args.st.now c.new.new.st c.judge_of.new.st c.args.both.states c.args.both.left c.args.both.right p q
     a c.args.bound following c.in_ok-goal.goal.ends c.new.ensures.grows c.judge_of.ensures.grows c.in_ok-goal.ensures.ids marked sided c.laws.ensures.tidy c.judge_of.new.ss c.differ.ensures.ascend
-    (certificate_value c.args.certificate.now) c.in_ok-judge.judge.start c.in_ok-judge.judge.entries c.in_ok-judge.judge.told.entries made v
-    (subst (λ r. IsJudged c.judge_of.new.st c.judge_of.new.ss r bad c.in_ok-judge.judge.told.entries c.in_ok-judge.judge.start (row_values c.args.certificate.now.rows) c.in_ok-judge.judge.entries v) c.in_ok-judge.ensures.states
-    (subst (λ rs. IsJudged c.judge_of.new.st c.judge_of.new.ss c.in_ok-judge.judge.states bad c.in_ok-judge.judge.told.entries c.in_ok-judge.judge.start (row_values rs) c.in_ok-judge.judge.entries v) c.as_slice-2.ensures judged)))
+    (certificate_value c.args.certificate.now) c.in_ok-judge.judge.start c.in_ok-judge.judge.entries c.in_ok-judge.judge.told made v
+    (subst (λ r. IsJudged c.judge_of.new.st c.judge_of.new.ss r bad c.in_ok-judge.judge.told c.in_ok-judge.judge.start (row_values c.args.certificate.now.rows) c.in_ok-judge.judge.entries v) c.in_ok-judge.ensures.states
+    (subst (λ rs. IsJudged c.judge_of.new.st c.judge_of.new.ss c.in_ok-judge.judge.states bad c.in_ok-judge.judge.told c.in_ok-judge.judge.start (row_values rs) c.in_ok-judge.judge.entries v) c.as_slice-2.ensures judged)))
     c.judge_rows.ensures.ok

@@ -24,8 +24,8 @@ returns-clause-ok c =
     let are = subst (λ n. AreLabels n positions) c.len.ensures (c.has_labels.ensures.yes c.if-not-has_labels.false) in
     IfOk-weaker c.judge_set.result _ _
     (λ o j.
-    row_by_set c.args.st.now c.args.ss.now c.args.judge.now.states bad c.args.judge.now.told.entries positions (entry_at c.args.judge.now.entries c.args.i) o are
-    (subst (λ e. IsSetJudged c.args.st.now c.args.ss.now c.args.judge.now.states bad c.args.judge.now.told.entries e o) c.entry_of-entry.ensures j))
+    row_by_set c.args.st.now c.args.ss.now c.args.judge.now.states bad c.args.judge.now.told positions (entry_at c.args.judge.now.entries c.args.i) o are
+    (subst (λ e. IsSetJudged c.args.st.now c.args.ss.now c.args.judge.now.states bad c.args.judge.now.told e o) c.entry_of-entry.ensures j))
     c.judge_set.ensures.ok
 
 pub returns-then-not-has_labels-clause-ok : goal.returns-then-not-has_labels-clause-ok

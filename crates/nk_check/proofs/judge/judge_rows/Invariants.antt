@@ -11,7 +11,7 @@ abbrev pub invariant-loop-i : goal.invariant-loop-i
 invariant-loop-i l = record {
   grows : Grows l.fn.st l.st;
   sets : SetsGrow l.fn.ss l.ss;
-  can : CanJudge l.st l.ss l.judge.states l.judge.told.entries l.goal.ends l.goal.seen.entries;
+  can : CanJudge l.st l.ss l.judge.states l.judge.told l.goal.ends l.goal.seen.entries;
   same : (st : StoreState) (set pk : List ℕ) → alone (ends_of st l.goal.ends set pk) ≡ alone (ends_of st l.fn.goal.ends set pk);
-  met : AreMet l.fn.st l.fn.ss l.judge.states (λ set pk. alone (ends_of l.fn.st l.fn.goal.ends set pk)) l.judge.told.entries (row_values l.later) l.judge.entries l.i;
+  met : AreMet l.fn.st l.fn.ss l.judge.states (λ set pk. alone (ends_of l.fn.st l.fn.goal.ends set pk)) l.judge.told (row_values l.later) l.judge.entries l.i;
 }

@@ -31,8 +31,8 @@ loop-k-preserved c =
     record {
       grows = grows_on _ _ _ c.loop-k.invariant.grows c.follow_pair.ensures.grows;
       sets = sets_on _ _ _ c.loop-k.invariant.sets c.follow_pair.ensures.sets;
-      made = subst (λ q. IsSoFar c.args.st.now c.args.ss.now c.args.states.now q c.follow_pair.new.st c.follow_pair.new.ss c.follow_pair.new.raw.entries) (sym (take_more c.args.last.now c.loop-k.k c.at.result.now l c.at.ensures))
-          (so_far_push c.args.st.now c.loop-k.st c.follow_pair.new.st c.args.ss.now c.loop-k.ss c.follow_pair.new.ss c.args.states.now (take c.loop-k.k c.args.last.now) c.loop-k.raw.entries c.follow_pair.new.raw.entries c.at.result.now
+      made = subst (λ q. IsSoFar c.args.st.now c.args.ss.now c.args.states.now q c.follow_pair.new.st c.follow_pair.new.ss c.follow_pair.new.raw) (sym (take_more c.args.last.now c.loop-k.k c.at.result.now l c.at.ensures))
+          (so_far_push c.args.st.now c.loop-k.st c.follow_pair.new.st c.args.ss.now c.loop-k.ss c.follow_pair.new.ss c.args.states.now (take c.loop-k.k c.args.last.now) c.loop-k.raw c.follow_pair.new.raw c.at.result.now
           c.requires.states c.loop-k.invariant.made c.loop-k.invariant.grows c.loop-k.invariant.sets c.follow_pair.ensures.sets
           (each_at (IsPair c.args.st.now c.args.ss.now (length c.args.states.now)) c.args.last.now c.loop-k.k c.at.result.now c.requires.last.each l c.at.ensures)
           c.in_ok-follow_pair.ensures.ok);
@@ -41,5 +41,5 @@ loop-k-preserved c =
 pub returns-clause-ok : goal.returns-clause-ok
 returns-clause-ok c =
     let whole : take c.loop-k.k c.args.last.now ≡ c.args.last.now = take_whole c.args.last.now c.loop-k.k (omega (arith, c.loop-k-test.false, c.len-k-end.ensures)) in
-    raw_of c.args.st.now c.loop-k.st c.args.ss.now c.loop-k.ss c.args.states.now c.args.last.now c.loop-k.raw.entries
-    (subst (λ q. IsSoFar c.args.st.now c.args.ss.now c.args.states.now q c.loop-k.st c.loop-k.ss c.loop-k.raw.entries) whole c.loop-k.invariant.made) c.differ.ensures.differ
+    raw_of c.args.st.now c.loop-k.st c.args.ss.now c.loop-k.ss c.args.states.now c.args.last.now c.loop-k.raw
+    (subst (λ q. IsSoFar c.args.st.now c.args.ss.now c.args.states.now q c.loop-k.st c.loop-k.ss c.loop-k.raw) whole c.loop-k.invariant.made) c.differ.ensures.differ

@@ -8,5 +8,5 @@ abbrev pub invariant-loop-k : goal.invariant-loop-k
 invariant-loop-k l = record {
   grows : Grows l.fn.st l.st;
   sets : SetsGrow l.fn.ss l.ss;
-  made : IsSoFar l.fn.st l.fn.ss l.states (take l.k l.last) l.st l.ss l.raw.entries;
+  made : IsSoFar l.fn.st l.fn.ss l.states (take l.k l.last) l.st l.ss l.raw;
 }

@@ -19,6 +19,6 @@ loop-i-preserved c =
     let l : c.loop-i.i < length c.args.outs.now = omega (arith, c.loop-i-test.true, c.len-i-end.ensures) in
     record {
       grows = grows_on _ _ _ c.loop-i.invariant.grows c.send.ensures.grows;
-      sent = all_sent_push c.args.st.now c.loop-i.st c.send.new.st c.args.outs.now c.loop-i.i c.at-q.result.now c.args.raw.now.entries c.loop-i.raw.entries c.send.new.raw.entries c.requires.packets l c.at-q.ensures
+      sent = all_sent_push c.args.st.now c.loop-i.st c.send.new.st c.args.outs.now c.loop-i.i c.at-q.result.now c.args.raw.now c.loop-i.raw c.send.new.raw c.requires.packets l c.at-q.ensures
           c.loop-i.invariant.sent c.loop-i.invariant.grows c.in_ok-send.ensures.ok;
     }

@@ -5,5 +5,5 @@ use Rattle.nk_reach.proofs.follow.send_all.Given as goal
 abbrev pub invariant-loop-i : goal.invariant-loop-i
 invariant-loop-i l = record {
   grows : Grows l.fn.st l.st;
-  sent : IsAllSent l.fn.st l.outs l.i l.fn.raw.entries l.st l.raw.entries;
+  sent : IsAllSent l.fn.st l.outs l.i l.fn.raw l.st l.raw;
 }

@@ -6,5 +6,5 @@ use Rattle.nk_reach.proofs.rounds.fresh.Given as goal
 abbrev pub invariant-loop-k : goal.invariant-loop-k
 invariant-loop-k l = record {
   grows : Grows l.fn.st l.st;
-  made : IsFresh l.fn.st l.visited.entries (take l.k l.raw) l.st l.level;
+  made : IsFresh l.fn.st l.visited (take l.k l.raw) l.st l.level;
 }

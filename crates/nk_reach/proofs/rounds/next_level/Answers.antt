@@ -10,19 +10,19 @@ use Rattle.nk_reach.proofs.rounds.next_level.Goals as goal
 
 pub fresh-requires-clause-visited : goal.fresh-requires-clause-visited
 fresh-requires-clause-visited c =
-    each_weaker (λ p. IsSet c.args.st.now p.1) (λ p. IsSet c.follow_level.new.st p.1) c.args.visited.now.entries (λ p q. set_grows c.args.st.now c.follow_level.new.st p.1 c.follow_level.ensures.grows q)
-    (packets_of c.args.st.now c.args.ss.now (length c.args.states.now) c.args.visited.now.entries c.requires.visited.each)
+    each_weaker (λ p. IsSet c.args.st.now p.1) (λ p. IsSet c.follow_level.new.st p.1) c.args.visited.now (λ p q. set_grows c.args.st.now c.follow_level.new.st p.1 c.follow_level.ensures.grows q)
+    (packets_of c.args.st.now c.args.ss.now (length c.args.states.now) c.args.visited.now c.requires.visited.each)
 
 pub fresh-requires-clause-raw : goal.fresh-requires-clause-raw
 fresh-requires-clause-raw c =
-    subst (HaveSets c.follow_level.new.st) (sym c.in_ok-raw.ensures)
-    (packets_of c.follow_level.new.st c.follow_level.new.ss (length c.args.states.now) c.in_ok-found.found.entries c.in_ok-found.ensures.ok.pairs.each)
+    subst (HaveSets c.follow_level.new.st) (sym c.into_list-raw.ensures)
+    (packets_of c.follow_level.new.st c.follow_level.new.ss (length c.args.states.now) c.in_ok-found.found c.in_ok-found.ensures.ok.pairs.each)
 
 pub fresh-requires-clause-apart : goal.fresh-requires-clause-apart
-fresh-requires-clause-apart c = subst Once (sym c.in_ok-raw.ensures) c.in_ok-found.ensures.ok.pairs.once
+fresh-requires-clause-apart c = subst Once (sym c.into_list-raw.ensures) c.in_ok-found.ensures.ok.pairs.once
 
 pub returns-clause-ok : goal.returns-clause-ok
 returns-clause-ok c =
-    next_of_raw c.args.st.now c.follow_level.new.st c.fresh.new.st c.args.ss.now c.follow_level.new.ss c.args.states.now c.args.visited.now.entries c.args.last.now c.in_ok-raw.raw c.in_ok-level.level
-    (subst (IsRaw c.args.st.now c.args.ss.now c.args.states.now c.args.last.now c.follow_level.new.st c.follow_level.new.ss) (sym c.in_ok-raw.ensures) c.in_ok-found.ensures.ok)
+    next_of_raw c.args.st.now c.follow_level.new.st c.fresh.new.st c.args.ss.now c.follow_level.new.ss c.args.states.now c.args.visited.now c.args.last.now c.into_list-raw.result c.in_ok-level.level
+    (subst (IsRaw c.args.st.now c.args.ss.now c.args.states.now c.args.last.now c.follow_level.new.st c.follow_level.new.ss) (sym c.into_list-raw.ensures) c.in_ok-found.ensures.ok)
     c.in_ok-level.ensures.ok c.follow_level.ensures.grows c.follow_level.ensures.sets c.requires.visited

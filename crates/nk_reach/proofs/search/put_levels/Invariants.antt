@@ -9,7 +9,7 @@ invariant-loop-st g l = record {
   fits : g.G.Goal.fits l.g l.st;
   labels : g.G.Goal.labels l.g ≡ g.G.Goal.labels l.fn.g;
   same : (st : StoreState) (set pk : List ℕ) → g.G.Goal.violations_of l.g st set pk ≡ g.G.Goal.violations_of l.fn.g st set pk;
-  going : (h : ℕ) × Going l.fn.st l.fn.ss l.st l.ss l.states l.fn.s l.fn.start (g.G.Goal.violations_of l.fn.g l.fn.st) l.visited.entries l.all h;
+  going : (h : ℕ) × Going l.fn.st l.fn.ss l.st l.ss l.states l.fn.s l.fn.start (g.G.Goal.violations_of l.fn.g l.fn.st) l.visited l.all h;
 }
 
 abbrev pub decreases-loop-st : goal.decreases-loop-st

@@ -32,7 +32,7 @@ at_packets-requires-clause-diagram g c =
 
 pub add-requires-clause-pairs : goal.add-requires-clause-pairs
 add-requires-clause-pairs g c =
-    each_weaker (λ p. IsSet c.loop-k.st p.1) (λ p. IsSet c.at_packets.new.st p.1) c.loop-k.back.entries
+    each_weaker (λ p. IsSet c.loop-k.st p.1) (λ p. IsSet c.at_packets.new.st p.1) c.loop-k.back
     (λ p q. set_grows c.loop-k.st c.at_packets.new.st p.1 (grows_on _ _ _ c.bad.ensures.grows c.at_packets.ensures.grows) q) c.loop-k.invariant.made.packets
 
 pub add-requires-clause-packets : goal.add-requires-clause-packets
@@ -52,9 +52,9 @@ loop-k-preserved g c =
       fits = g.met.G.Goal.fits_on c.bad.new.self c.bad.new.st c.add.new.st c.in_ok-finals.ensures.fits (grows_on _ _ _ c.at_packets.ensures.grows c.add.ensures.grows);
       labels = c.in_ok-finals.ensures.labels ∙ c.loop-k.invariant.labels;
       same = λ st set pk. c.in_ok-finals.ensures.same st set pk ∙ c.loop-k.invariant.same st set pk;
-      made = subst (λ q. AreViolationsSoFar c.args.st.now c.args.ss.now (g.G.Goal.violations_of c.args.g.now c.args.st.now) q c.add.new.st c.add.new.pairs.entries) (sym (take_more c.args.level.now c.loop-k.k c.at.result.now l c.at.ensures))
+      made = subst (λ q. AreViolationsSoFar c.args.st.now c.args.ss.now (g.G.Goal.violations_of c.args.g.now c.args.st.now) q c.add.new.st c.add.new.self) (sym (take_more c.args.level.now c.loop-k.k c.at.result.now l c.at.ensures))
           (violations_so_far_push c.args.st.now c.loop-k.st c.bad.new.st c.at_packets.new.st c.add.new.st c.args.ss.now (g.G.Goal.labels c.args.g.now) (g.G.Goal.violations_of c.args.g.now c.args.st.now) (g.G.Goal.violations_of c.loop-k.g c.loop-k.st set)
-          (take c.loop-k.k c.args.level.now) c.loop-k.back.entries c.add.new.pairs.entries c.at.result.now c.in_ok-finals.finals c.in_ok-bad.bad c.loop-k.invariant.made c.loop-k.invariant.grows c.bad.ensures.grows c.in_ok-finals.ensures.ok
+          (take c.loop-k.k c.args.level.now) c.loop-k.back c.add.new.self c.at.result.now c.in_ok-finals.finals c.in_ok-bad.bad c.loop-k.invariant.made c.loop-k.invariant.grows c.bad.ensures.grows c.in_ok-finals.ensures.ok
           (λ pk. c.loop-k.invariant.same c.loop-k.st set pk ∙ g.met.G.Goal.violations_grow c.args.g.now c.args.st.now c.loop-k.st set pk c.requires.fits c.loop-k.invariant.grows p.places)
           c.at_packets.ensures.grows c.in_ok-bad.ensures.ok p c.in_ok-add.ensures.ok);
     }
@@ -62,5 +62,4 @@ loop-k-preserved g c =
 pub returns-clause-ok : goal.returns-clause-ok
 returns-clause-ok g c =
     let whole : take c.loop-k.k c.args.level.now ≡ c.args.level.now = take_whole c.args.level.now c.loop-k.k (omega (arith, c.loop-k-test.false, c.len-k-end.ensures)) in
-    subst (λ b. AreViolationsSoFar c.args.st.now c.args.ss.now (g.G.Goal.violations_of c.args.g.now c.args.st.now) c.args.level.now c.loop-k.st b) (sym c.new-done.ensures)
-    (subst (λ q. AreViolationsSoFar c.args.st.now c.args.ss.now (g.G.Goal.violations_of c.args.g.now c.args.st.now) q c.loop-k.st c.loop-k.back.entries) whole c.loop-k.invariant.made)
+    subst (λ q. AreViolationsSoFar c.args.st.now c.args.ss.now (g.G.Goal.violations_of c.args.g.now c.args.st.now) q c.loop-k.st c.loop-k.back) whole c.loop-k.invariant.made

@@ -9,5 +9,5 @@ invariant-loop-k g l = record {
   fits : g.G.Goal.fits l.g l.st;
   labels : g.G.Goal.labels l.g ≡ g.G.Goal.labels l.fn.g;
   same : (st : StoreState) (set pk : List ℕ) → g.G.Goal.violations_of l.g st set pk ≡ g.G.Goal.violations_of l.fn.g st set pk;
-  made : AreViolationsSoFar l.fn.st l.ss (g.G.Goal.violations_of l.fn.g l.fn.st) (take l.k l.level) l.st l.back.entries;
+  made : AreViolationsSoFar l.fn.st l.ss (g.G.Goal.violations_of l.fn.g l.fn.st) (take l.k l.level) l.st l.back;
 }

@@ -37,7 +37,7 @@ preimage_in_pair-requires-clause-next c = pairs_on c.args.st.now c.loop-k.st c.a
 
 pub add-requires-clause-pairs : goal.add-requires-clause-pairs
 add-requires-clause-pairs c =
-    each_weaker (λ p. IsSet c.loop-k.st p.1) (λ p. IsSet c.preimage_in_pair.new.st p.1) c.loop-k.back.entries (λ p q. set_grows c.loop-k.st c.preimage_in_pair.new.st p.1 c.preimage_in_pair.ensures.grows q) c.loop-k.invariant.made.packets
+    each_weaker (λ p. IsSet c.loop-k.st p.1) (λ p. IsSet c.preimage_in_pair.new.st p.1) c.loop-k.back (λ p q. set_grows c.loop-k.st c.preimage_in_pair.new.st p.1 c.preimage_in_pair.ensures.grows q) c.loop-k.invariant.made.packets
 
 pub add-requires-clause-packets : goal.add-requires-clause-packets
 add-requires-clause-packets c = c.in_ok-led.ensures.ok.packets
@@ -48,8 +48,8 @@ loop-k-preserved c =
     record {
       grows = grows_on _ _ _ c.loop-k.invariant.grows (grows_on _ _ _ c.preimage_in_pair.ensures.grows c.add.ensures.grows);
       sets = sets_on _ _ _ c.loop-k.invariant.sets c.preimage_in_pair.ensures.sets;
-      made = subst (λ q. IsPreimageInEntries c.args.st.now c.args.ss.now c.args.states.now c.args.next.now q c.add.new.st c.add.new.pairs.entries) (sym (take_more c.args.level.now c.loop-k.k c.at.result.now l c.at.ensures))
-          (preimage_in_push c.args.st.now c.loop-k.st c.preimage_in_pair.new.st c.add.new.st c.args.ss.now c.loop-k.ss c.args.states.now c.args.next.now (take c.loop-k.k c.args.level.now) c.loop-k.back.entries c.add.new.pairs.entries c.at.result.now c.in_ok-led.led
+      made = subst (λ q. IsPreimageInEntries c.args.st.now c.args.ss.now c.args.states.now c.args.next.now q c.add.new.st c.add.new.self) (sym (take_more c.args.level.now c.loop-k.k c.at.result.now l c.at.ensures))
+          (preimage_in_push c.args.st.now c.loop-k.st c.preimage_in_pair.new.st c.add.new.st c.args.ss.now c.loop-k.ss c.args.states.now c.args.next.now (take c.loop-k.k c.args.level.now) c.loop-k.back c.add.new.self c.at.result.now c.in_ok-led.led
           c.requires.states c.loop-k.invariant.made c.loop-k.invariant.grows c.loop-k.invariant.sets c.preimage_in_pair.ensures.grows c.requires.next
           (each_at (IsPair c.args.st.now c.args.ss.now (length c.args.states.now)) c.args.level.now c.loop-k.k c.at.result.now c.requires.level.each l c.at.ensures)
           c.in_ok-led.ensures.ok c.in_ok-add.ensures.ok);
@@ -58,8 +58,7 @@ loop-k-preserved c =
 pub returns-clause-ok : goal.returns-clause-ok
 returns-clause-ok c =
     let whole : take c.loop-k.k c.args.level.now ≡ c.args.level.now = take_whole c.args.level.now c.loop-k.k (omega (arith, c.loop-k-test.false, c.len-k-end.ensures)) in
-    subst (λ b. IsPreimageInEntries c.args.st.now c.args.ss.now c.args.states.now c.args.next.now c.args.level.now c.loop-k.st b) (sym c.new-done.ensures)
-    (subst (λ q. IsPreimageInEntries c.args.st.now c.args.ss.now c.args.states.now c.args.next.now q c.loop-k.st c.loop-k.back.entries) whole c.loop-k.invariant.made)
+    subst (λ q. IsPreimageInEntries c.args.st.now c.args.ss.now c.args.states.now c.args.next.now q c.loop-k.st c.loop-k.back) whole c.loop-k.invariant.made
 
 pub returns-in_err-add-clause-sets : goal.returns-in_err-add-clause-sets
 returns-in_err-add-clause-sets c = sets_on c.args.ss.now c.loop-k.ss c.preimage_in_pair.new.ss c.loop-k.invariant.sets c.preimage_in_pair.ensures.sets

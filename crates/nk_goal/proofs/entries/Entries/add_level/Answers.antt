@@ -8,7 +8,7 @@ use Rattle.nk_goal.specs.Entries.{IsMerged}
 use Rattle.nk_goal.proofs.Places.{each_at}
 use Rattle.nk_sets.proofs.SetLemmas.{set_grows}
 use Rattle.nk_goal.proofs.Adding.{take_more, merged_push, merged_on}
-use Rattle.nk_goal.proofs.entries.add_level.Goals as goal
+use Rattle.nk_goal.proofs.entries.Entries.add_level.Goals as goal
 
 pub add-requires-clause-packets : goal.add-requires-clause-packets
 add-requires-clause-packets c =
@@ -20,8 +20,8 @@ loop-k-preserved c =
     let l : c.loop-k.k < length c.args.level.now = omega (arith, c.loop-k-test.true, c.len-k-end.ensures) in
     record {
       grows = grows_on _ _ _ c.loop-k.invariant.grows c.add.ensures.grows;
-      merged = subst (λ q. IsMerged c.args.st.now c.args.visited.now.entries q c.add.new.st c.add.new.pairs.entries) (sym (take_more c.args.level.now c.loop-k.k c.at.result.now l c.at.ensures))
-          (merged_push c.args.st.now c.loop-k.st c.add.new.st c.args.visited.now.entries _ c.loop-k.visited.entries c.add.new.pairs.entries c.at.result.now c.loop-k.invariant.merged c.loop-k.invariant.grows
+      merged = subst (λ q. IsMerged c.args.st.now c.args.self.now q c.add.new.st c.add.new.self) (sym (take_more c.args.level.now c.loop-k.k c.at.result.now l c.at.ensures))
+          (merged_push c.args.st.now c.loop-k.st c.add.new.st c.args.self.now _ c.loop-k.self c.add.new.self c.at.result.now c.loop-k.invariant.merged c.loop-k.invariant.grows
           (each_at (λ p. IsSet c.args.st.now p.1) c.args.level.now c.loop-k.k c.at.result.now c.requires.level l c.at.ensures) c.in_ok-add.ensures.ok);
     }
 
@@ -36,8 +36,8 @@ on_error (Err e) P h = h
 pub returns-in_err-add-clause-err : goal.returns-in_err-add-clause-err
 returns-in_err-add-clause-err c =
     let first = take c.loop-k.k c.args.level.now in
-    on_error c.from_residual.result ((k : ℕ) × IsMerged c.args.st.now c.args.visited.now.entries (take k c.args.level.now) c.add.new.st c.add.new.pairs.entries) (
+    on_error c.from_residual.result ((k : ℕ) × IsMerged c.args.st.now c.args.self.now (take k c.args.level.now) c.add.new.st c.add.new.self) (
       c.loop-k.k,
-      subst (IsMerged c.args.st.now c.args.visited.now.entries first c.add.new.st) (sym c.in_err-add.ensures.err)
-          (merged_on c.args.st.now c.loop-k.st c.add.new.st c.args.visited.now.entries first c.loop-k.visited.entries c.loop-k.invariant.merged c.add.ensures.grows),
+      subst (IsMerged c.args.st.now c.args.self.now first c.add.new.st) (sym c.in_err-add.ensures.err)
+          (merged_on c.args.st.now c.loop-k.st c.add.new.st c.args.self.now first c.loop-k.self c.loop-k.invariant.merged c.add.ensures.grows),
     )
