@@ -8,12 +8,12 @@ use std::alloc::{AllocError, Global};
 use std::collections::HashMap;
 use std::marker::Model;
 
-/// Up to how many diagrams are looked for one after the other. Most traversals visit fewer, and
-/// would pay more for the memory of a table of hashes than for all that they look up.
+/// How many entries are kept in a list before others go into a hash table. Most traversals visit
+/// fewer diagrams, and would pay more for the memory of a hash table than for all their lookups.
 const FEW: usize = 8;
 
-/// What a traversal has made of diagrams, by diagram. A contract sees it as the list of its
-/// entries: of several with one diagram the first counts.
+/// What a traversal has made of diagrams, by diagram. A contract sees it as a list of entries. If
+/// several entries have the same diagram, the first one counts.
 pub struct Memo<V> {
     few: List<(Id, V)>,
     more: HashMap<Id, V>,
@@ -72,7 +72,7 @@ impl<V: Drop> Memo<V> {
     }
 }
 
-/// What the table of hashes has for a diagram; it is asked only where it has something.
+/// What the hash table has for a diagram. An empty table isn't searched.
 fn hashed<V>(more: &HashMap<Id, V>, d: Id) -> Option<&V>
     ensures { option_copied result ≡ lookup (nat_eq d) more.now.entries }
 {
@@ -82,8 +82,8 @@ fn hashed<V>(more: &HashMap<Id, V>, d: Id) -> Option<&V>
     more.get(&d)
 }
 
-/// Whether the next entry with a diagram stands beside these: where they are few, or one of them is
-/// of the same diagram.
+/// Whether a new entry of a diagram goes into this list. It does if the list is short, or if the list
+/// has an entry of the diagram already.
 fn is_next_few<V>(few: &[(Id, V)], d: Id) -> bool
     ensures { result ≡ false → lookup (nat_eq d) (reverse few.now) ≡ None }
 {
@@ -93,7 +93,7 @@ fn is_next_few<V>(few: &[(Id, V)], d: Id) -> bool
     latest(few, d).is_some()
 }
 
-/// What the last of the entries with a diagram leads to.
+/// What the last entry of a diagram in the list says was made of it.
 fn latest<V>(entries: &[(Id, V)], d: Id) -> Option<&V>
     ensures { option_copied result ≡ lookup (nat_eq d) (reverse entries.now) }
 {

@@ -141,7 +141,7 @@ fn lay_under(
     Ok(all)
 }
 
-/// How many fields are assigned by one of both, where each ascends by field. An act of more than two assignments gets its room at once
+/// How many fields the first, the second or both assign, if both ascend by field. An act of more than two assignments gets its room at once
 /// by it: for seven bits, a fortieth of the instructions went into room that grew.
 fn count_of_both(a: &[(Fid, u64)], b: &[(Fid, u64)]) -> usize {
     let mut count = a.len().saturating_add(b.len());

@@ -171,7 +171,8 @@ impl TextParser {
     }
 
     /// Reads one more token inside a policy, and says whether it was taken; it completes nothing then. Else nothing changed, and `take`
-    /// reads the token. A fault of the grammar is taken and kept. The only error is that memory ran out, and then nothing changed.
+    /// reads the token. A fault of the grammar is taken and kept, and after it nothing changes. The only error is that memory ran out, and then
+    /// nothing changed.
     pub fn take_inside(&mut self, alloc: Global, token: &Token) -> Result<bool, AllocError>
         ensures taken { (ts : List Token) (ds : List Declaration) → IsTextRead ts ds self.old
             → IfOk result (λ taken. taken ≡ true

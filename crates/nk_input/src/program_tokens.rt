@@ -64,7 +64,7 @@ impl ProgramTokens {
         })
     }
 
-    /// One more token that no policy takes. It stands apart from what policies take, of which most of a text is made.
+    /// One more token that isn't inside a policy. This is a function of its own, since most tokens are inside a policy.
     #[inline(never)]
     fn take_other(&mut self, alloc: Global, token: &Token) -> Result<(), AllocError>
         ensures { (ts : List Token) → AreTaken ts self.old

@@ -42,7 +42,7 @@ abbrev pub joined_after : Result (List Token) LexError → (lines places : ℕ) 
 joined_after (Ok ts) lines places r = after_tokens ts lines places r
 joined_after (Err e) lines places r = Err e
 
--- the second text begins on the line after the first one's last line, and one byte after its last byte
+-- the second text begins on the line after the first one's last line; one byte, the line feed, stands between them
 abbrev pub JoinsTexts : Type 0
 JoinsTexts = (a b : List ℕ)
     → tokens_of (joined a b) ≡ joined_after (tokens_of a) (line_feeds a + 1) (length a + 1) (tokens_of b)

@@ -103,7 +103,7 @@ fn text_of(name: &[u8]) -> &str
 /// The largest number of tokens that room is made for at once.
 const MOST: usize = 2048;
 
-/// How many tokens room is made for where so many bytes follow.
+/// For how many tokens room is made before this many bytes.
 pub fn room_for(bytes: usize) -> usize {
     (bytes / 2).min(MOST)
 }

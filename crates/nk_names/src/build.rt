@@ -62,7 +62,7 @@ fn built(alloc: Global, fields: &Fields, lets: &Lets, ast: &Ast) -> Result<Body,
     }
 }
 
-/// The body of a part. Most parts are tests, ranges and assignments, which are told here without a call.
+/// The body of a part. Most parts are tests, ranges and assignments, which are built here without a call.
 #[cycle(build)]
 #[inline(always)]
 fn part_built(alloc: Global, fields: &Fields, lets: &Lets, part: &Ast) -> Result<Body, AllocError>

@@ -92,7 +92,8 @@ pub(crate) fn first_unknown(fields: &Fields, lets: &Lets, ast: &Ast) -> Option<N
     }
 }
 
-/// The first of these in a part. Most parts are tests, ranges and assignments, which are told here without a call.
+/// The first name of no policy, name of no field or number out of range in a part. Most parts are tests, ranges and
+/// assignments, which are checked here without a call.
 #[cycle(unknown)]
 #[inline(always)]
 fn first_unknown_part(fields: &Fields, lets: &Lets, part: &Ast) -> Option<NamesError>

@@ -37,7 +37,7 @@ pub(crate) fn refuse(fault: Option<NamesError>) -> Result<(), NamesError>
     }
 }
 
-/// What is known of a policy that may have the name, which none of those taken has, and whose tree may be written out.
+/// The depth and the size of the policy, if no taken name is its name and its tree may be written out; else the first fault.
 fn check_named(
     names: &Names,
     taken: &Lets,

@@ -36,7 +36,7 @@ pub fn packets_by_out(st: &mut Store, d: Id) -> Result<List<OutPackets>, AllocEr
     outs_new(st, &mut seen, d)
 }
 
-/// Puts which packets have which out into the table, where that isn't known yet.
+/// Keeps which packets of a diagram have which out, if that isn't kept yet.
 #[cycle(outs)]
 fn visit(st: &mut Store, seen: &mut Memo<List<OutPackets>>, d: Id) -> Result<(), AllocError>
     requires id { IsId st.old d }
@@ -53,7 +53,7 @@ fn visit(st: &mut Store, seen: &mut Memo<List<OutPackets>>, d: Id) -> Result<(),
     Ok(())
 }
 
-/// Whether the table has a diagram.
+/// Whether something is kept of a diagram.
 fn is_known(seen: &Memo<List<OutPackets>>, d: Id) -> bool
     ensures { result ≡ true → IsSome (lookup (nat_eq d) seen.now) }
 {
@@ -232,7 +232,7 @@ fn put_each(
     Ok(())
 }
 
-/// Puts what the table has for a diagram after others, for the values of an interval.
+/// Appends what is kept of a diagram, for the values of an interval; nothing, if nothing is kept.
 fn put_known(
     seen: &Memo<List<OutPackets>>,
     d: Id,
