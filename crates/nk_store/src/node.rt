@@ -8,7 +8,7 @@ use std::marker::Model;
 /// The number of a node of a store.
 #[derive(Clone, Copy, PartialEq, Eq, PartialOrd, Ord, Hash)]
 pub struct Id {
-    place: usize,
+    place: u32,
 }
 
 impl Model for Id {
@@ -20,18 +20,22 @@ impl Model for Id {
 }
 
 impl Id {
-    /// The number of the node at this index.
-    pub(crate) fn new(place: usize) -> Id
-        ensures { result ≡ place }
+    /// The number of the node at this index. It has 32 bits, so that answers and parts take little memory: more nodes than that
+    /// count as more than memory holds.
+    pub(crate) fn new(place: usize) -> Result<Id, AllocError>
+        ensures { IfOk result (λ d. d ≡ place) }
     {
-        Id { place }
+        match u32::try_from(place) {
+            Ok(place) => Ok(Id { place }),
+            Err(_) => Err(AllocError),
+        }
     }
 
     /// The index of the node with this number.
     pub(crate) fn place(self) -> usize
         ensures { result ≡ self }
     {
-        self.place
+        self.place as usize
     }
 }
 

@@ -236,7 +236,7 @@ impl NodeTable {
         ensures ok { IfOk result (λ d. IsId self.new d × (node_of self.new d ≡ node)) }
     {
         let place = self.nodes.intern(node)?;
-        Ok(Id::new(place))
+        Id::new(place)
     }
 }
 

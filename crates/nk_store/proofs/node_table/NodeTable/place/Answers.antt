@@ -1,4 +1,5 @@
-use Rattle.std.proofs.Common.{subst, sym}
+use Rattle.std.proofs.Common.{◌≡◌, subst, sym}
+use Rattle.std.proofs.lemmas.Result.{IfOk-weaker}
 use Rattle.nk_store.specs.StoreState.{StoreState}
 use Rattle.nk_store.specs.Nodes.{Fits}
 use Rattle.nk_store.proofs.Stores.{bare}
@@ -18,4 +19,6 @@ returns-clause-grows c = put_grows c.args.self.now (bare c.self.inside.maxes c.s
 pub returns-clause-ok : goal.returns-clause-ok
 returns-clause-ok c =
     let s = c.in_ok-place.ensures.stored in
-    rw c.new.ensures (placed (bare c.self.inside.maxes c.self.inside.width c.self.inside.tag c.self.inside.answers) c.intern.new.self c.in_ok-place.place s.0 c.args.node s.1 s.2)
+    IfOk-weaker c.new.result (λ d. d ≡ c.in_ok-place.place) _
+    (λ d is. rw is (placed (bare c.self.inside.maxes c.self.inside.width c.self.inside.tag c.self.inside.answers) c.intern.new.self c.in_ok-place.place s.0 c.args.node s.1 s.2))
+    c.new.ensures
