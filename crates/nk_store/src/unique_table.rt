@@ -23,8 +23,8 @@ pub trait Digest: Eq {
     ghost respects_eq: { (x y : Self) → IsTrue (Self.eq x y) → number x ≡ number y };
 }
 
-/// For each digest the index plus one of the last entry that has it.
-type Latest = HashMap<u64, usize, BuildHasherDefault<IdentityHasher>>;
+/// For each digest the index plus one of the last entry that has it, in 32 bits, since there is one for nearly every entry.
+type Latest = HashMap<u64, u32, BuildHasherDefault<IdentityHasher>>;
 
 /// An item, and the index plus one of the last entry before it whose item has the same digest, 0 where none has.
 struct Entry<T> {
@@ -139,7 +139,7 @@ fn last_with(latest: &Latest, digest: u64) -> usize
     ensures { result ≡ unwrap_or (lookup (eqb digest) latest.now.entries) 0 }
 {
     match latest.get(&digest) {
-        Some(last) => *last,
+        Some(last) => *last as usize,
         None => 0,
     }
 }
@@ -164,7 +164,8 @@ fn find<T: Digest>(entries: &[Entry<T>], last: usize, item: &T) -> Option<usize>
     None
 }
 
-/// Puts an entry at the end and keeps it as the last one of its digest; where memory runs out all stays as it was.
+/// Puts an entry at the end and keeps it as the last one of its digest; where memory runs out all stays as it was. More entries than
+/// 32 bits count are more than memory holds.
 #[inline]
 fn push_entry<T: Drop>(
     entries: &mut Vec<Entry<T>>,
@@ -179,8 +180,11 @@ fn push_entry<T: Drop>(
     ensures unchanged { OnErr result (entries.new.items ≡ entries.old.items) }
     ensures kept { OnErr result (latest.new.entries ≡ latest.old.entries) }
 {
+    let Ok(last) = u32::try_from(entries.len() + 1) else {
+        return Err(AllocError);
+    };
     entries.push(entry)?;
-    match latest.insert(digest, entries.len()) {
+    match latest.insert(digest, last) {
         Ok(_) => Ok(()),
         Err(_) => {
             entries.pop();
