@@ -2,9 +2,7 @@
 #![tactic(auto)]
 
 mod generating;
-mod program;
 mod top;
 
 pub use nk_reply::{CommandAnswer, Reply, Status};
-pub use program::run_on_host;
 pub use top::run;
